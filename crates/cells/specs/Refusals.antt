@@ -1,0 +1,38 @@
+-- Document 01, "Refusal numbers": each refusal's number, and what it says with it: which end, which axis, which of the four parts of a
+-- placement. Assumes nothing.
+use Prim.Native.Nat.{ℕ}
+use mathlib.Core.Option.{Option, none, some}
+use Rattle.cells.specs.declared.Axis.{Axis}
+use Rattle.cells.specs.declared.End.{End}
+use Rattle.cells.specs.declared.Part.{Part}
+use Rattle.cells.specs.declared.Refusal.{Refusal}
+use Rattle.cells.specs.declared.Refusal.the-variants.{Limit, Count, Bytes, Layer, OffGrid, Room, Placement, NotFinite, OffSurvey, Record, Version}
+
+-- a refusal as document 01 has it: the number, and the details that it says
+pub record Told : Type 0 where
+  pub number : ℕ
+  pub end : Option End
+  pub axis : Option Axis
+  pub part : Option Part
+
+-- the number alone
+abbrev pub alone : ℕ → Told
+alone n = record { number = n; end = none; axis = none; part = none }
+
+-- "says which end and which axis"
+abbrev pub at-end : ℕ → End → Axis → Told
+at-end n e a = record { number = n; end = some e; axis = some a; part = none }
+
+-- the table of refusal numbers
+abbrev pub told : Refusal → Told
+told (Limit e a) = at-end 1 e a
+told (Count a) = record { number = 2; end = none; axis = some a; part = none }
+told Bytes = alone 3
+told Layer = alone 4
+told (OffGrid e a) = at-end 5 e a
+told Room = alone 6
+told (Placement p) = record { number = 7; end = none; axis = none; part = some p }
+told (NotFinite e a) = at-end 8 e a
+told (OffSurvey e a) = at-end 9 e a
+told Record = alone 10
+told Version = alone 11

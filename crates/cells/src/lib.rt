@@ -1,0 +1,83 @@
+// The shared words: axes, ends, cells, counts, the four parts of a placement, and the refusals.
+ghost use mathlib.Core.Path.{_≡_};
+ghost use Rattle.cells.specs.Refusals.{told};
+
+// The three axes.
+pub enum Axis {
+    X,
+    Y,
+    Z,
+}
+
+// The two ends of a line: it runs from P to Q.
+pub enum End {
+    P,
+    Q,
+}
+
+// A cell of the integer lattice.
+pub struct Cell {
+    pub x: i32,
+    pub y: i32,
+    pub z: i32,
+}
+
+// How many cells a grid has along each axis.
+pub struct Counts {
+    pub nx: u32,
+    pub ny: u32,
+    pub nz: u32,
+}
+
+// The four parts of a placement: its origin's three values and the cell edge.
+pub enum Part {
+    OriginX,
+    OriginY,
+    OriginZ,
+    Edge,
+}
+
+// Why a call refuses, a case for each refusal number; the number is in the definition `told`.
+pub enum Refusal {
+    // 1: a line end outside the coordinate limit
+    Limit(End, Axis),
+    // 2: a count outside 1 to 1,024
+    Count(Axis),
+    // 3: cell bytes not nx·ny·nz
+    Bytes,
+    // 4: layer z below 0 or not below nz
+    Layer,
+    // 5: an end outside the grid
+    OffGrid(End, Axis),
+    // 6: too little room
+    Room,
+    // 7: an origin value or edge not finite, or edge not above 0
+    Placement(Part),
+    // 8: a surveyed value not finite
+    NotFinite(End, Axis),
+    // 9: a surveyed value outside
+    OffSurvey(End, Axis),
+    // 10: a record cut short or of the wrong length
+    Record,
+    // 11: version byte not 1
+    Version,
+}
+
+// The number of a refusal.
+pub fn number(r: Refusal) -> u32
+    ensures { λ n. ⌜ n ≡ told r .number ⌝ }
+{
+    match r {
+        Refusal::Limit(_, _) => 1,
+        Refusal::Count(_) => 2,
+        Refusal::Bytes => 3,
+        Refusal::Layer => 4,
+        Refusal::OffGrid(_, _) => 5,
+        Refusal::Room => 6,
+        Refusal::Placement(_) => 7,
+        Refusal::NotFinite(_, _) => 8,
+        Refusal::OffSurvey(_, _) => 9,
+        Refusal::Record => 10,
+        Refusal::Version => 11,
+    }
+}

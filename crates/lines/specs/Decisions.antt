@@ -1,0 +1,30 @@
+-- Document 01: the three decision values of figure 6, "with i, j, k steps taken", the tests of their signs and the sums that move them.
+-- Assumes nothing.
+use Prim.Native.Nat.{ℕ, _+_, _*_}
+use mathlib.Core.Bool.{cond}
+use lib.IntN.{ℤ, pos, _+ℤ_, _-ℤ_}
+use lib.Signed.{ltZ}
+use Rattle.lines.specs.Steps.{Axis, X, Y, Z, Steps}
+
+-- e_xy = B(2i+1)-A(2j+1)
+abbrev pub e-xy : Steps → Steps → ℤ
+e-xy D t = pos (D Y * (2 * t X + 1)) -ℤ pos (D X * (2 * t Y + 1))
+
+-- e_xz = C(2i+1)-A(2k+1)
+abbrev pub e-xz : Steps → Steps → ℤ
+e-xz D t = pos (D Z * (2 * t X + 1)) -ℤ pos (D X * (2 * t Z + 1))
+
+-- e_zy = B(2k+1)-C(2j+1)
+abbrev pub e-zy : Steps → Steps → ℤ
+e-zy D t = pos (D Y * (2 * t Z + 1)) -ℤ pos (D Z * (2 * t Y + 1))
+
+-- figure 6: the next axis by the signs of e_xy, e_xz, e_zy
+abbrev pub by-signs : ℤ → ℤ → ℤ → Axis
+by-signs xy xz zy =
+    cond (ltZ xy (pos 0))
+    (cond (ltZ xz (pos 0)) X Z)
+    (cond (ltZ zy (pos 0)) Z Y)
+
+-- the decision value of any two axes: e_xy is that of x and y, e_xz that of x and z, e_zy that of z and y
+abbrev pub decision : Steps → Steps → Axis → Axis → ℤ
+decision D t a b = pos (D b * (2 * t a + 1)) -ℤ pos (D a * (2 * t b + 1))

@@ -1,0 +1,7 @@
+pub mod Steps
+pub mod Crossings
+pub mod Preference
+pub mod Towards
+pub mod Lines
+pub mod Segment
+pub mod Decisions

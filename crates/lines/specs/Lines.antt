@@ -1,0 +1,58 @@
+-- Document 01, "The lines": the 6-line and the 26-line between the centres of two cells. Assumes nothing.
+use Prim.Native.Nat.{ℕ, zero, suc, _+_, _*_, _/_, max}
+use mathlib.Core.List.{List, [], _∷_, _++_}
+use Rattle.cells.specs.declared.Cell.{Cell}
+use Rattle.cells.specs.Touching.{on, apart}
+use Rattle.lines.specs.Steps.{Axis, X, Y, Z, Steps, total}
+use Rattle.lines.specs.Crossings.{Course, place}
+use Rattle.lines.specs.Preference.{Preference}
+use Rattle.lines.specs.Towards.{towards}
+
+-- "A, B, C are the absolute differences in x, y, z"
+abbrev pub differences : Cell → Cell → Steps
+differences p q a = apart (on p a) (on q a)
+
+-- "on each axis the line moves towards Q": the cell of a place
+abbrev pub cell-of : Cell → Cell → Steps → Cell
+cell-of p q t = record { x = towards (p .x) (q .x) (t X); y = towards (p .y) (q .y) (t Y); z = towards (p .z) (q .z) (t Z) }
+
+-- "Face i of x (i from 1 to A) is crossed at the fraction (2i-1)/(2A); likewise y with B, z with C." Crossing i counts from 0: it is face i + 1.
+abbrev pub centres : Preference → Steps → Course
+centres r D = record { count = D; first = λ a. 1; step = 2; length = λ a. 2 * D a; rank = r .rank }
+
+-- the cells f 0 to f (n - 1)
+abbrev pub cells : (ℕ → Cell) → ℕ → List Cell
+cells f zero = []
+cells f (suc n) = cells f n ++ f n ∷ []
+
+-- "Start at P; cross the A+B+C faces in order of their fractions, one cell each": cell number n
+unfoldable pub six-cell : Preference → Cell → Cell → ℕ → Cell
+unfolding place
+six-cell r p q n = cell-of p q (place (centres r (differences p q)) n)
+
+unfoldable pub six-line : Preference → Cell → Cell → List Cell
+unfolding six-cell
+six-line r p q = cells (six-cell r p q) (total (differences p q) + 1)
+
+-- "M is the largest of A, B, C"
+abbrev pub longest : Steps → ℕ
+longest D = max (max (D X) (D Y)) (D Z)
+
+-- cell number m has moved, on an axis with difference D, floor((2mD+M)/(2M)) cells; "for M = 0 it is P alone"
+unfoldable pub moved-26 : ℕ → ℕ → ℕ → ℕ
+moved-26 zero D m = 0
+moved-26 (suc n) D m =
+    let M : ℕ = suc n in
+    (2 * m * D + M) / (2 * M)
+
+-- the place of cell number m
+abbrev pub place-26 : Steps → ℕ → Steps
+place-26 D m a = moved-26 (longest D) (D a) m
+
+unfoldable pub cell-26 : Cell → Cell → ℕ → Cell
+unfolding moved-26
+cell-26 p q m = cell-of p q (place-26 (differences p q) m)
+
+unfoldable pub line-26 : Cell → Cell → List Cell
+unfolding cell-26
+line-26 p q = cells (cell-26 p q) (longest (differences p q) + 1)
