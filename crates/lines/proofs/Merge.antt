@@ -124,7 +124,7 @@ module _ (N : Steps) (B : Axis → ℕ → Axis → ℕ → Type 0) (laws : Laws
       let (on, wi) = walk-on next rule n (omega arith) in
       on b (next t) (t b - 1) (t (next t)) (omega arith) (omega arith) (rule t wi (omega (arith, walk-total next n)) .0)
 
-  leads-trans : (t : Steps) {a b c : Axis} → Leads N B t a b → Leads N B t b c → Leads N B t a c
+  pub leads-trans : (t : Steps) {a b c : Axis} → Leads N B t a b → Leads N B t b c → Leads N B t a c
   leads-trans t p (done h) = done h
   leads-trans t p itself = p
   leads-trans t itself (wins g h w) = wins g h w

@@ -18,12 +18,27 @@ e-xz D t = pos (D Z * (2 * t X + 1)) -ℤ pos (D X * (2 * t Z + 1))
 abbrev pub e-zy : Steps → Steps → ℤ
 e-zy D t = pos (D Y * (2 * t Z + 1)) -ℤ pos (D Z * (2 * t Y + 1))
 
--- figure 6: the next axis by the signs of e_xy, e_xz, e_zy
-abbrev pub by-signs : ℤ → ℤ → ℤ → Axis
-by-signs xy xz zy =
-    cond (ltZ xy (pos 0))
-    (cond (ltZ xz (pos 0)) X Z)
-    (cond (ltZ zy (pos 0)) Z Y)
+-- the three together
+pub record Values : Type 0 where
+  pub xy : ℤ
+  pub xz : ℤ
+  pub zy : ℤ
+
+abbrev pub values : Steps → Steps → Values
+values D t = record { xy = e-xy D t; xz = e-xz D t; zy = e-zy D t }
+
+-- figure 6: the next axis by their signs
+abbrev pub by-signs : Values → Axis
+by-signs v =
+    cond (ltZ (v .xy) (pos 0))
+    (cond (ltZ (v .xz) (pos 0)) X Z)
+    (cond (ltZ (v .zy) (pos 0)) Z Y)
+
+-- figure 6: the sums by which a step along an axis moves them, with A2, B2, C2 twice the differences
+abbrev pub moved-values : Steps → Axis → Values → Values
+moved-values D X v = record { xy = v .xy +ℤ pos (2 * D Y); xz = v .xz +ℤ pos (2 * D Z); zy = v .zy }
+moved-values D Y v = record { xy = v .xy -ℤ pos (2 * D X); xz = v .xz; zy = v .zy -ℤ pos (2 * D Z) }
+moved-values D Z v = record { xy = v .xy; xz = v .xz -ℤ pos (2 * D X); zy = v .zy +ℤ pos (2 * D Y) }
 
 -- the decision value of any two axes: e_xy is that of x and y, e_xz that of x and z, e_zy that of z and y
 abbrev pub decision : Steps → Steps → Axis → Axis → ℤ
