@@ -1,17 +1,17 @@
 -- The lines of document 01 in step space: crossings at (1 + 2i) / (2D), any order of preference; the 26-line by the floor formula. Assumes nothing.
-use mathlib.Core.Path.{_≡_, refl, sym, ap, _∙_}
+use mathlib.Core.Path.{_≡_, refl, sym, ap, _∙_, fun-ext}
 use mathlib.Core.Logic.{_⊎_, inl, inr, ⊎-elim, _↔_}
 use Prim.Native.Nat.{ℕ, zero, suc, _+_, _-_, _*_, _/_, _≤_, _<_, max}
 use native.Mathlib.Omega.{arith, by-contra, both-ways}
 use native.Mathlib.Nat.{div-eq-of-lt-le, mul-le-mul-right}
 use native.Mathlib.Decide.{decLe}
 use Rattle.lines.specs.Steps.{Axis, X, Y, Z, Steps, total, same, walk}
-use Rattle.lines.specs.Crossings.{Course, upper, place}
+use Rattle.lines.specs.Crossings.{Course, upper, place, MadeUpto}
 use Rattle.lines.specs.Preference.{Preference, rule-1}
 use Rattle.lines.specs.Lines.{centres, longest, moved-26, place-26}
 use Rattle.lines.proofs.Steps.{lt-or-ge, walk-start, walk-total, total-lt}
 use Rattle.lines.proofs.Merge.{Within, OnLine, fewer-is-below}
-use Rattle.lines.proofs.Fractions.{Before, Good, Upto, after, laws, place-on, place-start, place-total, on-is-place, after-iff, after-within, after-upto, upto-on}
+use Rattle.lines.proofs.Fractions.{Before, Good, after, laws, place-on, place-start, place-total, on-is-place, after-iff, after-within, after-upto, upto-on}
 
 pub centres-good : (r : Preference) (D : Steps) → Good (centres r D)
 centres-good r D =
@@ -99,8 +99,8 @@ module _ (D : Steps) where
           rw z (omega (arith, moved-start M (D a)))
 
   -- it has made just the crossings at fractions up to and including m over M
-  pub upto-26 : (r : Preference) (m : ℕ) → 0 < M → Upto (centres r D) m M (place-26 D m)
-  upto-26 r m some = record { upto = λ a i real. moved-iff M (D a) m i some }
+  pub upto-26 : (r : Preference) (m : ℕ) → 0 < M → m ≤ M → MadeUpto (centres r D) m M (place-26 D m)
+  upto-26 r m some le = rw (fun-ext (λ a. moved-after r D M m a some)) (after-upto (centres r D) (centres-good r D) m M some le)
 
   module _ (r : Preference) where
     abbrev C : Course
@@ -114,7 +114,7 @@ module _ (D : Steps) where
     on-26 m le = go (lt-or-ge 0 M)
       where
         go : (0 < M) ⊎ (M ≤ 0) → OnLine D (Before C) (place-26 D m)
-        go (inl some) = upto-on C G m M (place-26 D m) some (within-26 m le) (upto-26 r m some)
+        go (inl some) = upto-on C G m M (place-26 D m) some (upto-26 r m some le)
         go (inr none) = λ a b i j p q real. absurd (omega (arith, longest-most D b))
 
     -- 26-line cell m is a place of the 6-line

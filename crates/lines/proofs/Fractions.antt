@@ -10,9 +10,9 @@ use native.Mathlib.Nat.{add-zero, mul-le-mul, mul-le-mul-left, mul-le-mul-right,
 use lib.Dec.{ltb, eqb}
 use borrow.Author.Tests.{ltb-true, ltb-false, lt-ltb, le-ltb, eqb-true, eq-eqb, ne-eqb}
 use Rattle.lines.specs.Steps.{Axis, X, Y, Z, Steps, total, same, walk}
-use Rattle.lines.specs.Crossings.{Course, upper, before, left, sooner, next, place}
+use Rattle.lines.specs.Crossings.{Course, upper, before, left, sooner, next, place, InOrder, LastMade, MadeUpto}
 use Rattle.lines.proofs.Steps.{Cmp, here, other, cmp, same-self, lt-or-ge, bump, walk-start, walk-suc, walk-total}
-use Rattle.lines.proofs.Merge.{Laws, Within, OnLine, Next, Rule, Leads, done, itself, wins, reached, walk-on, walk-end, step-on, choice-rule}
+use Rattle.lines.proofs.Merge.{Laws, Within, OnLine, Next, Rule, Leads, done, itself, wins, reached, walk-on, walk-end, step-on, choice-rule, Last, enters-by-last, last-unique}
 
 -- 1 where rank r goes ahead of rank s in a tie, else 0
 abbrev pub ahead : ℕ → ℕ → ℕ
@@ -85,10 +85,6 @@ chain x y z D E F r s u d e f p q =
     (lt-or-ge s u))
     (λ l. omega (arith, chain-lt-le x y z D E F f (omega arith) (omega arith)))
     (lt-or-ge r s)
-
--- t has taken just the crossings at fractions up to and including n over d
-pub record Upto (c : Course) (n d : ℕ) (t : Steps) : Type 0 where
-  pub upto : (a : Axis) (i : ℕ) → i < c .count a → (i < t a) ↔ (upper c a i * d ≤ n * c .length a)
 
 -- how many crossings of a lie at fractions up to and including n over d
 unfoldable pub after : Course → ℕ → ℕ → Steps
@@ -192,13 +188,19 @@ module _ (c : Course) (good : Good c) where
   unfolding place
   on-is-place = reached (c .count) (Before c) laws (next c) next-rule
 
-  pub upto-on : (n d : ℕ) (t : Steps) → 0 < d → Within (c .count) t → Upto c n d t → OnLine (c .count) (Before c) t
+  pub place-end : (a : Axis) → place c (total (c .count)) a ≡ c .count a
+  unfolding place
+  place-end = walk-end (c .count) (Before c) laws (next c) next-rule
+
+  pub upto-on : (n d : ℕ) (t : Steps) → 0 < d → MadeUpto c n d t → OnLine (c .count) (Before c) t
   unfolding OnLine Before
-  upto-on n d t some wi up a b i j p q r =
-      let real : i < c .count a = omega (arith, wi a) in
-      let h : upper c a i * d ≤ n * c .length a = up .upto a i real .0 p in
-      let k : n * c .length b < upper c b j * d = by-contra (suc (n * c .length b)) (upper c b j * d) (λ m. omega (arith, up .upto b j r .1 (omega arith))) in
-      omega (arith, chain-le-lt (upper c a i) n (upper c b j) (c .length a) d (c .length b) (some-length a real) h k)
+  upto-on n d t some up a b i j p q r =
+      let (real, h) = up .made a i p in
+      omega (arith, chain-le-lt (upper c a i) n (upper c b j) (c .length a) d (c .length b) (some-length a real) h (up .rest b j r q))
+
+  -- a place that has made just the crossings up to n over d is on the line, whatever the order of preference
+  pub upto-is-place : (n d : ℕ) (t : Steps) → 0 < d → Within (c .count) t → MadeUpto c n d t → (a : Axis) → t a ≡ place c (total t) a
+  upto-is-place n d t some wi up = on-is-place t wi (upto-on n d t some up)
 
   -- the threshold law
   pub after-iff : (n d : ℕ) (a : Axis) (i : ℕ) → 0 < d → (i < after c n d a) ↔ (upper c a i * d ≤ n * c .length a)
@@ -217,24 +219,16 @@ module _ (c : Course) (good : Good c) where
       by-contra (after c n d a) (c .count a) (λ p.
       omega (arith, after-iff n d a (c .count a) some .0 p, mul-le-mul-right (c .length a) le, mul-le-mul-right d (good .ends a)))
 
-  pub after-upto : (n d : ℕ) → 0 < d → Upto c n d (after c n d)
-  after-upto n d some = record { upto = λ a i p. after-iff n d a i some }
+  pub after-upto : (n d : ℕ) → 0 < d → n ≤ d → MadeUpto c n d (after c n d)
+  after-upto n d some le =
+      record {
+        made = λ a i p. (omega (arith, after-within n d some le a), after-iff n d a i some .0 p);
+        rest = λ a i real p. by-contra (suc (n * c .length a)) (upper c a i * d) (λ k. omega (arith, after-iff n d a i some .1 (omega arith)));
+      }
 
   -- the crossings up to n over d lead to a place of the line
   pub after-is-place : (n d : ℕ) → 0 < d → n ≤ d → (a : Axis) → after c n d a ≡ place c (total (after c n d)) a
-  after-is-place n d some le =
-      let wi = after-within n d some le in
-      on-is-place (after c n d) wi (upto-on n d (after c n d) some wi (after-upto n d some))
-
-  inside-upto : (n d : ℕ) (t : Steps) → InOpenSteps c n d t → Upto c n d t
-  inside-upto n d t h = record { upto = λ a i real. (λ p. taken a i p, λ q. by-contra (suc i) (t a) (λ k. left-over a i q (omega arith))) }
-    where
-      -- a crossing that the cell is past lies behind the point
-      taken : (a : Axis) (i : ℕ) → i < t a → upper c a i * d ≤ n * c .length a
-      taken a i p = omega (arith, h .from a, mul-le-mul-right d (mul-le-mul-left (c .step) p))
-
-      left-over : (a : Axis) (i : ℕ) → upper c a i * d ≤ n * c .length a → t a ≤ i → ⊥
-      left-over a i q k = omega (arith, h .upto a, mul-le-mul-right d (mul-le-mul-left (c .step) k))
+  after-is-place n d some le = upto-is-place n d (after c n d) some (after-within n d some le) (after-upto n d some le)
 
   -- no cell beyond Q has the point in its inside
   inside-within : (n d : ℕ) (t : Steps) → n ≤ d → InOpenSteps c n d t → Within (c .count) t
@@ -243,11 +237,17 @@ module _ (c : Course) (good : Good c) where
       let beyond : (c .length a) * d ≤ upper c a (c .count a) * d = mul-le-mul-right d (omega (arith, good .ends a)) in
       omega (arith, h .from a, mul-le-mul-right d (mul-le-mul-left (c .step) p), mul-le-mul-left (c .length a) le))
 
+  -- a cell whose inside has the point is past just the crossings up to it
+  inside-upto : (n d : ℕ) (t : Steps) → n ≤ d → InOpenSteps c n d t → MadeUpto c n d t
+  inside-upto n d t le h =
+      record {
+        made = λ a i p. (omega (arith, inside-within n d t le h a), omega (arith, h .from a, mul-le-mul-right d (mul-le-mul-left (c .step) p)));
+        rest = λ a i real p. omega (arith, h .upto a, mul-le-mul-right d (mul-le-mul-left (c .step) p));
+      }
+
   -- no cell whose inside has a point of the segment is left out
   pub none-left-out : (n d : ℕ) (t : Steps) → 0 < d → n ≤ d → InOpenSteps c n d t → Within (c .count) t × ((a : Axis) → t a ≡ place c (total t) a)
-  none-left-out n d t some le h =
-      let wi = inside-within n d t le h in
-      (wi, on-is-place t wi (upto-on n d t some wi (inside-upto n d t h)))
+  none-left-out n d t some le h = (inside-within n d t le h, upto-is-place n d t some (inside-within n d t le h) (inside-upto n d t le h))
 
   -- P is touched at 0
   pub start-touched : (d : ℕ) (t : Steps) → ((a : Axis) → t a ≡ 0) → InClosedSteps c 0 d t
@@ -278,3 +278,29 @@ module _ (c : Course) (good : Good c) where
           let real : upper c m (t m) ≤ c .length m = omega (arith, good .inside m (nx .0)) in
           mul-le-mul beyond real)
           (lt-or-ge (bump t m a) (c .count a))
+
+  -- ---- the same, as `before` says it
+
+  pub place-in-order : (n : ℕ) → n ≤ total (c .count) → InOrder c (place c n)
+  unfolding OnLine
+  place-in-order n le =
+      let (on, wi) = place-on n le in
+      record { fits = wi; order = λ a b i j p q r. true-before c a b i j (on a b i j p q r) }
+
+  -- a place in order is place number i + j + k: one place for each number of crossings
+  pub in-order-is-place : (t : Steps) → InOrder c t → (a : Axis) → t a ≡ place c (total t) a
+  unfolding OnLine
+  in-order-is-place t h = on-is-place t (h .fits) (λ a b i j p q r. before-true c a b i j (h .order a b i j p q r))
+
+  pub entered-by-last : (n : ℕ) → n < total (c .count) → LastMade c (place c (suc n)) (next c (place c n))
+  unfolding place Last
+  entered-by-last n lt =
+      let (some, last) = enters-by-last (c .count) (Before c) laws (next c) next-rule n lt in
+      record { some = some; last = λ b e p. true-before c b _ _ _ (last b e p) }
+
+  pub last-made-one : (t : Steps) (m n : Axis) → LastMade c t m → LastMade c t n → m ≡ n
+  unfolding Last
+  last-made-one t m n p q = last-unique (c .count) (Before c) laws t m n (as-last p) (as-last q)
+    where
+      as-last : {a : Axis} → LastMade c t a → Last (Before c) t a
+      as-last {a} h = (h .some, λ b e k. before-true c b a (t b - 1) (t a - 1) (h .last b e k))

@@ -30,6 +30,10 @@ Next N B t n = (t n < N n) × ((b : Axis) → same n b ≡ 0 → t b < N b → B
 unfoldable pub Rule : Steps → (Axis → ℕ → Axis → ℕ → Type 0) → (Steps → Axis) → Type 0
 Rule N B next = (t : Steps) → Within N t → total t < total N → Next N B t (next t)
 
+-- n has a crossing behind it, and its last-taken one comes after the last-taken one of every other axis
+unfoldable pub Last : (Axis → ℕ → Axis → ℕ → Type 0) → Steps → Axis → Type 0
+Last B t n = (0 < t n) × ((b : Axis) → same n b ≡ 0 → 0 < t b → B b (t b - 1) n (t n - 1))
+
 -- axis n's next crossing comes no later than b's
 pub data Leads (N : Steps) (B : Axis → ℕ → Axis → ℕ → Type 0) (t : Steps) (n : Axis) : Axis → Type 0 where
   done : {b : Axis} → N b ≤ t b → Leads N B t n b
@@ -113,16 +117,31 @@ module _ (N : Steps) (B : Axis → ℕ → Axis → ℕ → Type 0) (laws : Laws
       go q here = refl
       go {n} q (other e f) = absurd (laws .asym (p .1 n e (q .0)) (q .1 m f (p .0)))
 
-  -- the crossing by which the walk enters a place comes after the last-taken crossing of every other axis
-  pub enters-last :
-      (next : Steps → Axis) → Rule N B next → (n : ℕ) → n < total N →
+  -- the crossing by which the walk enters a place is the last of the last-taken ones
+  pub enters-by-last : (next : Steps → Axis) → Rule N B next → (n : ℕ) → n < total N → Last B (walk next (suc n)) (next (walk next n))
+  unfolding OnLine Rule Next Last
+  enters-by-last next rule n lt =
       let t : Steps = walk next n in
-      (b : Axis) → same (next t) b ≡ 0 → 0 < t b → B b (t b - 1) (next t) (t (next t))
-  unfolding OnLine Rule Next
-  enters-last next rule n lt b e h =
-      let t : Steps = walk next n in
+      let m : Axis = next t in
       let (on, wi) = walk-on next rule n (omega arith) in
-      on b (next t) (t b - 1) (t (next t)) (omega arith) (omega arith) (rule t wi (omega (arith, walk-total next n)) .0)
+      let real = rule t wi (omega (arith, walk-total next n)) .0 in
+      let e = same-self m in
+      rw (walk-suc next n)
+      (omega arith, λ b f h. rw (here-at (same m m) (t m) e, other-at (same m b) (t b) f) (on b m (t b - 1) (t m) (omega arith) (omega arith) real))
+    where
+      here-at : (s k : ℕ) → s ≡ 1 → k + s - 1 ≡ k
+      here-at s k e = omega arith
+
+      other-at : (s k : ℕ) → s ≡ 0 → k + s - 1 ≡ k - 1
+      other-at s k e = omega arith
+
+  pub last-unique : (t : Steps) (m n : Axis) → Last B t m → Last B t n → m ≡ n
+  unfolding Last
+  last-unique t m n p q = go q (cmp m n)
+    where
+      go : {n : Axis} → Last B t n → Cmp m n → m ≡ n
+      go q here = refl
+      go {n} q (other e f) = absurd (laws .asym (q .1 m f (p .0)) (p .1 n e (q .0)))
 
   pub leads-trans : (t : Steps) {a b c : Axis} → Leads N B t a b → Leads N B t b c → Leads N B t a c
   leads-trans t p (done h) = done h

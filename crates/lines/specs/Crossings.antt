@@ -1,8 +1,9 @@
 -- Crossings of faces, each at a fraction of the way, and the order in which a line makes them. Assumes nothing.
-use Prim.Native.Nat.{ℕ, _+_, _*_}
-use mathlib.Core.Bool.{Bool, cond, not, _&&_, _||_}
+use Prim.Native.Nat.{ℕ, _+_, _-_, _*_, _≤_, _<_}
+use mathlib.Core.Path.{_≡_}
+use mathlib.Core.Bool.{Bool, true, cond, not, _&&_, _||_}
 use lib.Dec.{ltb, eqb}
-use Rattle.lines.specs.Steps.{Axis, X, Y, Z, Steps, walk}
+use Rattle.lines.specs.Steps.{Axis, X, Y, Z, Steps, same, walk}
 
 -- On each axis: how many faces are crossed, and at which fractions of the way. Crossing i of an axis, i from 0 to count - 1, lies at
 -- (first + step·i) / length. Of equal fractions the axis of the smaller rank goes first.
@@ -42,3 +43,20 @@ next c t = sooner c t X (sooner c t Y Z)
 unfoldable pub place : Course → ℕ → Steps
 unfolding next walk
 place c n = walk (next c) n
+
+-- ---- what is said of places
+
+-- each crossing made comes before each one not made
+pub record InOrder (c : Course) (t : Steps) : Type 0 where
+  pub fits : (a : Axis) → t a ≤ c .count a
+  pub order : (a b : Axis) (i j : ℕ) → i < t a → t b ≤ j → j < c .count b → before c a i b j ≡ true
+
+-- of the crossings last made on each axis, that of n is the last
+pub record LastMade (c : Course) (t : Steps) (n : Axis) : Type 0 where
+  pub some : 0 < t n
+  pub last : (b : Axis) → same n b ≡ 0 → 0 < t b → before c b (t b - 1) n (t n - 1) ≡ true
+
+-- just the crossings at fractions up to and including n over d are made
+pub record MadeUpto (c : Course) (n d : ℕ) (t : Steps) : Type 0 where
+  pub made : (a : Axis) (i : ℕ) → i < t a → (i < c .count a) × (upper c a i * d ≤ n * c .length a)
+  pub rest : (a : Axis) (i : ℕ) → i < c .count a → t a ≤ i → n * c .length a < upper c a i * d

@@ -1,6 +1,10 @@
 -- Document 01, "The lines": the 6-line and the 26-line between the centres of two cells. Assumes nothing.
 use Prim.Native.Nat.{ℕ, zero, suc, _+_, _*_, _/_, max}
+use mathlib.Core.Path.{_≡_}
+use mathlib.Core.Bool.{Bool, true, _&&_}
 use mathlib.Core.List.{List, [], _∷_, _++_}
+use lib.IntN.{ℤ, pos, negsuc}
+use lib.Signed.{leZ}
 use Rattle.cells.specs.declared.Cell.{Cell}
 use Rattle.cells.specs.Touching.{on, apart}
 use Rattle.lines.specs.Steps.{Axis, X, Y, Z, Steps, total}
@@ -56,3 +60,10 @@ cell-26 p q m = cell-of p q (place-26 (differences p q) m)
 unfoldable pub line-26 : Cell → Cell → List Cell
 unfolding cell-26
 line-26 p q = cells (cell-26 p q) (longest (differences p q) + 1)
+
+-- the coordinate limit, -8,192 to 8,191
+abbrev pub in-limit : ℤ → Bool
+in-limit z = leZ (negsuc 8191) z && leZ z (pos 8191)
+
+pub record InLimit (c : Cell) : Type 0 where
+  pub limit : (a : Axis) → in-limit (on c a) ≡ true
