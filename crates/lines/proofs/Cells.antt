@@ -8,7 +8,8 @@ use native.Mathlib.Omega.{arith, by-contra}
 use native.Mathlib.Numerals.{add-one}
 use lib.IntN.{ℤ, pos, negsuc, _-ℤ_}
 use lib.Signed.{leZ}
-use lib.ListN.{length, length-append}
+use lib.ListN.{length, getD, length-append, List·getD-append}
+use lib.Seq.{getD-append-add}
 use Rattle.cells.specs.declared.Cell.{Cell}
 use Rattle.cells.specs.Touching.{on, apart, differ, axes-apart, Touches}
 use Rattle.cells.proofs.Signed.{up, dn, one-sided, diff-is, abs-is, leZ-true}
@@ -18,7 +19,7 @@ use Rattle.lines.specs.Preference.{Preference, rule-1}
 use Rattle.lines.specs.Towards.{towards}
 use Rattle.lines.specs.Lines.{differences, cell-of, centres, cells, six-cell, six-line, longest, place-26, cell-26, line-26, in-limit, InLimit}
 use Rattle.lines.specs.Segment.{Share, InClosed, InOpen}
-use Rattle.lines.proofs.Steps.{bump, total-bump, same-self, Cmp, here, other, cmp}
+use Rattle.lines.proofs.Steps.{lt-or-ge, bump, total-bump, same-self, Cmp, here, other, cmp}
 use Rattle.lines.proofs.Merge.{Within, OnLine, Next, Rule, walk-end}
 use Rattle.lines.proofs.Fractions.{Before, Good, InClosedSteps, InOpenSteps, laws, next-rule, place-start, place-total, place-suc, place-on, on-is-place, place-end, start-touched, entered-touched, none-left-out}
 use Rattle.lines.proofs.Centres.{centres-good, longest-most, longest-axis, within-26, is-place-26, skipped-26, grows-26, moved-start, moved-end, moved-longest, moved-grows, moved-by-one}
@@ -69,6 +70,17 @@ pub cells-length : (f : ℕ → Cell) (n : ℕ) → length (cells f n) ≡ n
 cells-length f zero = refl
 cells-length f (suc n) = omega (arith, length-append (cells f n) (f n ∷ []), cells-length f n)
 
+pub cells-at : (f : ℕ → Cell) (n i : ℕ) (d : Cell) → i < n → getD (cells f n) i d ≡ f i
+cells-at f zero i d lt = absurd (omega arith)
+cells-at f (suc n) i d lt =
+    ⊎-elim
+    (λ h. List·getD-append (cells f n) (f n ∷ []) d i (omega (arith, cells-length f n)) ∙ cells-at f n i d h)
+    (λ h.
+    let e : i ≡ n = omega arith in
+    let k : i ≡ length (cells f n) + 0 = omega (arith, cells-length f n) in
+    ap (λ m. getD (cells f n ++ f n ∷ []) m d) k ∙ getD-append-add (cells f n) (f n ∷ []) 0 d ∙ ap f (sym e))
+    (lt-or-ge i n)
+
 module _ (r : Preference) (p q : Cell) where
   abbrev D : Steps
   D = differences p q
@@ -95,6 +107,10 @@ module _ (r : Preference) (p q : Cell) where
   pub six-length : length (six-line r p q) ≡ total D + 1
   unfolding six-line
   six-length = cells-length (six-cell r p q) (total D + 1)
+
+  pub six-numbered : (n : ℕ) → n ≤ total D → getD (six-line r p q) n p ≡ six-cell r p q n
+  unfolding six-line
+  six-numbered n le = cells-at (six-cell r p q) (total D + 1) n p (omega arith)
 
   pub six-different : (m n : ℕ) → six-cell r p q m ≡ six-cell r p q n → m ≡ n
   six-different m n e =
@@ -129,9 +145,12 @@ module _ (r : Preference) (p q : Cell) where
       let t = place C n in
       let a = next C t in
       let (on-line, wi) = place-on C G n (omega arith) in
-      let nx : Next D (Before C) t a = next-rule C G t wi (omega (arith, place-total C n)) in
-      (upper C a (t a), 2 * D a, record { some = omega (arith, nx .0); most = omega (arith, nx .0) },
-      rw (six-is (suc n), place-suc C n) (closed-cell (upper C a (t a)) (2 * D a) (bump t a) (entered-touched C G t a wi on-line nx)))
+      let nx : Next D (Before C) t a = next-rule C G t wi (omega (arith, place-total C n)) in (
+        upper C a (t a),
+        2 * D a,
+        record { some = omega (arith, nx .0); most = omega (arith, nx .0) },
+        rw (six-is (suc n), place-suc C n) (closed-cell (upper C a (t a)) (2 * D a) (bump t a) (entered-touched C G t a wi on-line nx)),
+      )
 
   -- ---- law 3
 
@@ -185,6 +204,10 @@ module _ (p q : Cell) where
   pub length-26 : length (line-26 p q) ≡ longest D′ + 1
   unfolding line-26
   length-26 = cells-length (cell-26 p q) (longest D′ + 1)
+
+  pub numbered-26 : (m : ℕ) → m ≤ longest D′ → getD (line-26 p q) m p ≡ cell-26 p q m
+  unfolding line-26
+  numbered-26 m le = cells-at (cell-26 p q) (longest D′ + 1) m p (omega arith)
 
   -- from m to m + 1
   moves-26 : (m : ℕ) (a : Axis) → apart (on (cell-26 p q m) a) (on (cell-26 p q (m + 1)) a) ≡ (place-26 D′ m a - place-26 D′ (m + 1) a) + (place-26 D′ (m + 1) a - place-26 D′ m a)

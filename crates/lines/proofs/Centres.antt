@@ -34,8 +34,8 @@ longest-most D Z = omega arith
 pub longest-axis : (D : Steps) → (a : Axis) × (D a ≡ longest D)
 longest-axis D =
     elim (decLe (max (D X) (D Y)) (D Z)) [
-      yes h ↦ (Z, omega arith)
-    | no h ↦ elim (decLe (D X) (D Y)) [ yes k ↦ (Y, omega arith) | no k ↦ (X, omega arith) ]
+      | yes h ↦ (Z, omega arith)
+      | no h ↦ elim (decLe (D X) (D Y)) [ yes k ↦ (Y, omega arith) | no k ↦ (X, omega arith) ]
     ]
 
 -- ---- the floor formula on one axis

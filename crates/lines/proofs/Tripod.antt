@@ -47,35 +47,42 @@ sign-tells r D t a b =
 
 -- ---- figure 6
 
-abbrev c : Steps → Course
-c = centres rule-1
+-- under rule 1 x never goes first in a tie, and z not before y: the three values are tested against 0
+xy-tells : (D t : Steps) → before (centres rule-1 D) X (t X) Y (t Y) ≡ ltZ (e-xy D t) (pos 0)
+xy-tells D t = sign-tells rule-1 D t X Y
+
+xz-tells : (D t : Steps) → before (centres rule-1 D) X (t X) Z (t Z) ≡ ltZ (e-xz D t) (pos 0)
+xz-tells D t = sign-tells rule-1 D t X Z
+
+zy-tells : (D t : Steps) → before (centres rule-1 D) Z (t Z) Y (t Y) ≡ ltZ (e-zy D t) (pos 0)
+zy-tells D t = sign-tells rule-1 D t Z Y
 
 -- the tests of figure 6 pick the next crossing of rule 1, at every place that is not the end
 pub signs-pick : (D t : Steps) → total t < total D → Next D (Before (centres rule-1 D)) t (by-signs (values D t))
 signs-pick D t lt =
     go (ltZ (e-xy D t) (pos 0)) (ltZ (e-xz D t) (pos 0)) (ltZ (e-zy D t) (pos 0))
-    (sign-tells rule-1 D t X Y) (sign-tells rule-1 D t X Z) (sign-tells rule-1 D t Z Y)
+    (xy-tells D t) (xz-tells D t) (zy-tells D t)
   where
-    first : (n : Axis) → Leads D (Before (c D)) t n X → Leads D (Before (c D)) t n Y → Leads D (Before (c D)) t n Z → Next D (Before (c D)) t n
-    first n x y z = leader-is-next D (Before (c D)) (laws (c D) (centres-good rule-1 D)) t n (open-axis t D lt .0) all (open-axis t D lt .1)
+    first : (n : Axis) → Leads D (Before (centres rule-1 D)) t n X → Leads D (Before (centres rule-1 D)) t n Y → Leads D (Before (centres rule-1 D)) t n Z → Next D (Before (centres rule-1 D)) t n
+    first n x y z = leader-is-next D (Before (centres rule-1 D)) (laws (centres rule-1 D) (centres-good rule-1 D)) t n (open-axis t D lt .0) all (open-axis t D lt .1)
       where
-        all : (b : Axis) → Leads D (Before (c D)) t n b
+        all : (b : Axis) → Leads D (Before (centres rule-1 D)) t n b
         all X = x
         all Y = y
         all Z = z
 
-    then : {a b d : Axis} → Leads D (Before (c D)) t a b → Leads D (Before (c D)) t b d → Leads D (Before (c D)) t a d
-    then = leads-trans D (Before (c D)) (laws (c D) (centres-good rule-1 D)) t
+    then : {a b d : Axis} → Leads D (Before (centres rule-1 D)) t a b → Leads D (Before (centres rule-1 D)) t b d → Leads D (Before (centres rule-1 D)) t a d
+    then = leads-trans D (Before (centres rule-1 D)) (laws (centres rule-1 D) (centres-good rule-1 D)) t
 
-    wins : (a b : Axis) → before (c D) a (t a) b (t b) ≡ true → Leads D (Before (c D)) t a b
-    wins = before-leads (c D) (centres-good rule-1 D) t
+    wins : (a b : Axis) → before (centres rule-1 D) a (t a) b (t b) ≡ true → Leads D (Before (centres rule-1 D)) t a b
+    wins = before-leads (centres rule-1 D) (centres-good rule-1 D) t
 
-    loses : (a b : Axis) → same a b ≡ 0 → before (c D) a (t a) b (t b) ≡ false → Leads D (Before (c D)) t b a
-    loses = other-leads (c D) (centres-good rule-1 D) t
+    loses : (a b : Axis) → same a b ≡ 0 → before (centres rule-1 D) a (t a) b (t b) ≡ false → Leads D (Before (centres rule-1 D)) t b a
+    loses = other-leads (centres rule-1 D) (centres-good rule-1 D) t
 
     go :
-        (p q s : Bool) → before (c D) X (t X) Y (t Y) ≡ p → before (c D) X (t X) Z (t Z) ≡ q → before (c D) Z (t Z) Y (t Y) ≡ s →
-        Next D (Before (c D)) t (cond p (cond q X Z) (cond s Z Y))
+        (p q s : Bool) → before (centres rule-1 D) X (t X) Y (t Y) ≡ p → before (centres rule-1 D) X (t X) Z (t Z) ≡ q → before (centres rule-1 D) Z (t Z) Y (t Y) ≡ s →
+        Next D (Before (centres rule-1 D)) t (cond p (cond q X Z) (cond s Z Y))
     go true true s p q _ = first X itself (wins X Y p) (wins X Z q)
     go true false s p q _ = first Z (loses X Z refl q) (then (loses X Z refl q) (wins X Y p)) itself
     go false q true p _ s = first Z (then (wins Z Y s) (loses X Y refl p)) (wins Z Y s) itself
