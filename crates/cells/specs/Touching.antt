@@ -1,6 +1,8 @@
 -- Cells by axis, and when two of them touch (document 01, "The grid"): "two cells touch by face, edge or corner when they differ, and by at
 -- most 1 on every axis". How near is a number k: 1 by face, 2 by face or edge, 3 by face, edge or corner. Assumes nothing.
 use Prim.Native.Nat.{ℕ, _+_, _≤_, min}
+use mathlib.Core.Bool.{Bool, _&&_}
+use lib.Dec.{leb}
 use lib.IntN.{ℤ, natAbs, _-ℤ_}
 use Rattle.cells.specs.declared.Axis.{Axis}
 use Rattle.cells.specs.declared.Axis.the-variants.{X, Y, Z}
@@ -29,3 +31,9 @@ pub record Touches (k : ℕ) (c d : Cell) : Type 0 where
   pub by-one : (a : Axis) → apart (on c a) (on d a) ≤ 1
   pub differing : 1 ≤ axes-apart c d
   pub within : axes-apart c d ≤ k
+
+-- the same as a test
+abbrev pub touching : ℕ → Cell → Cell → Bool
+touching k c d =
+    (leb (apart (c .x) (d .x)) 1 && leb (apart (c .y) (d .y)) 1 && leb (apart (c .z) (d .z)) 1) &&
+    (leb 1 (axes-apart c d) && leb (axes-apart c d) k)

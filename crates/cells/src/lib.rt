@@ -63,6 +63,12 @@ pub enum Refusal {
     Version,
 }
 
+// What the tests of a call's inputs come to.
+pub enum Verdict {
+    Fine,
+    Refused(Refusal),
+}
+
 // The number of a refusal.
 pub fn number(r: Refusal) -> u32
     ensures { λ n. ⌜ n ≡ told r .number ⌝ }

@@ -1,7 +1,7 @@
 -- The 6-line and the 26-line as cells: step space carried over to the lattice, for every two ends and any order of preference. Assumes nothing.
 use mathlib.Core.Path.{_≡_, refl, sym, ap, ap₂, _∙_, fun-ext}
 use mathlib.Core.Logic.{_⊎_, inl, inr, ⊎-elim, _↔_}
-use mathlib.Core.Bool.{Bool, true, false, _&&_}
+use mathlib.Core.Bool.{true}
 use mathlib.Core.List.{List, [], _∷_, _++_}
 use Prim.Native.Nat.{ℕ, zero, suc, _+_, _-_, _*_, _≤_, _<_, min}
 use native.Mathlib.Omega.{arith, by-contra}
@@ -12,6 +12,7 @@ use lib.ListN.{length, getD, length-append, List·getD-append}
 use lib.Seq.{getD-append-add}
 use Rattle.cells.specs.declared.Cell.{Cell}
 use Rattle.cells.specs.Touching.{on, apart, differ, axes-apart, Touches}
+use Rattle.cells.proofs.Touching.{and-both}
 use Rattle.cells.proofs.Signed.{up, dn, one-sided, diff-is, abs-is, leZ-true}
 use Rattle.lines.specs.Steps.{Axis, X, Y, Z, Steps, total, same}
 use Rattle.lines.specs.Crossings.{Course, upper, before, next, place}
@@ -231,12 +232,7 @@ limited-difference p q hp hq a =
     let (u′, v′) = limited (on q a) (hq .limit a) in
     omega (arith, abs-is (on q a -ℤ on p a), diff-is (on q a) (on p a), one-sided (on q a -ℤ on p a))
   where
-    both : (s t : Bool) → (s && t) ≡ true → (s ≡ true) × (t ≡ true)
-    both true true h = (refl, refl)
-    both true false h = (refl, h)
-    both false t h = (h, absurd (let z : _≡_ {A = ℕ} 0 1 = cc in omega arith))
-
     limited : (z : ℤ) → in-limit z ≡ true → (dn z ≤ 8192 + up z) × (up z ≤ 8191 + dn z)
     limited z h =
-        let (lo, hi) = both (leZ (negsuc 8191) z) (leZ z (pos 8191)) h in
+        let (lo, hi) = and-both (leZ (negsuc 8191) z) (leZ z (pos 8191)) h in
         (omega (arith, leZ-true (negsuc 8191) z lo), omega (arith, leZ-true z (pos 8191) hi))

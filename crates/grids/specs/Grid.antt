@@ -1,0 +1,89 @@
+-- Document 01, "The grid": counts, one byte a cell, x fastest, then y, then z; and a layer of it. Assumes nothing.
+use Prim.Native.Nat.{ℕ, _+_, _*_, _/_, _%_}
+use mathlib.Core.Bool.{Bool, not, _||_}
+use mathlib.Core.List.{List, []}
+use lib.Dec.{ltb, eqb}
+use lib.IntN.{ℤ, pos, negsuc, natAbs}
+use lib.Signed.{ltZ, leZ}
+use lib.ListN.{length, getD, take, drop}
+use Rattle.cells.specs.declared.Axis.the-variants.{X, Y, Z}
+use Rattle.cells.specs.declared.Cell.{Cell}
+use Rattle.cells.specs.declared.Counts.{Counts}
+use Rattle.cells.specs.declared.Refusal.the-variants.{Count, Bytes, Layer}
+use Rattle.cells.specs.declared.Verdict.{Verdict}
+use Rattle.cells.specs.declared.Verdict.the-variants.{Fine, Refused}
+use Rattle.cells.specs.Checks.{refuse-when, _then_}
+use Rattle.grids.specs.declared.LayerPart.{LayerPart}
+use Rattle.grids.specs.declared.LayerPart.the-variants.{Part, Refused as NoPart}
+
+-- "Counts nx, ny, nz, each 1 to 1,024"
+abbrev pub bad-count : ℕ → Bool
+bad-count n = eqb n 0 || ltb 1024 n
+
+-- nx·ny·nz
+abbrev pub size : Counts → ℕ
+size n = n .nx * n .ny * n .nz
+
+-- refusal 2 (x, y, z), then 3
+unfoldable pub shape : Counts → ℕ → Verdict
+shape n bytes =
+    refuse-when (bad-count (n .nx)) (Count X) then
+    refuse-when (bad-count (n .ny)) (Count Y) then
+    refuse-when (bad-count (n .nz)) (Count Z) then
+    refuse-when (not (eqb bytes (size n))) Bytes
+
+-- ---- cells and bytes
+
+-- the place of the cell (x, y, z) among the bytes: x fastest, then y, then z
+abbrev pub index : Counts → ℕ → ℕ → ℕ → ℕ
+index n x y z = x + n .nx * (y + n .ny * z)
+
+-- the cell of the byte at i
+abbrev pub cell-at : Counts → ℕ → Cell
+cell-at n i = record { x = pos (i % n .nx); y = pos (i / n .nx % n .ny); z = pos (i / (n .nx * n .ny)) }
+
+-- the byte of a cell of the grid
+abbrev pub byte-of : Counts → List ℕ → Cell → ℕ
+byte-of n l c = getD l (index n (natAbs (c .x)) (natAbs (c .y)) (natAbs (c .z))) 0
+
+-- "Byte 0 is clear, 1 is near, 2 to 255 solid"
+abbrev pub clear : ℕ → Bool
+clear b = eqb b 0
+
+abbrev pub solid : ℕ → Bool
+solid b = ltb 1 b
+
+-- ---- a layer
+
+-- "layer z below 0 or not below nz"
+abbrev pub bad-layer : Counts → ℤ → Bool
+bad-layer n z = ltZ z (pos 0) || leZ (pos (n .nz)) z
+
+-- refusals 2, 3, then 4
+unfoldable pub layer-check : Counts → ℕ → ℤ → Verdict
+unfolding shape
+layer-check n bytes z = shape n bytes then refuse-when (bad-layer n z) Layer
+
+abbrev pub layer-length : Counts → ℕ
+layer-length n = n .nx * n .ny
+
+abbrev pub layer-start : Counts → ℤ → ℕ
+layer-start n z = natAbs z * layer-length n
+
+-- the partner's answer: the part's offset and length, or the refusal
+abbrev pub part-by : Verdict → Counts → ℤ → LayerPart
+part-by Fine n z = Part (layer-start n z) (layer-length n)
+part-by (Refused r) n z = NoPart r
+
+unfoldable pub layer-part : Counts → ℕ → ℤ → LayerPart
+unfolding layer-check
+layer-part n bytes z = part-by (layer-check n bytes z) n z
+
+-- the layer itself: the caller's own nx·ny bytes from z·nx·ny on, or the empty part
+abbrev pub bytes-of : LayerPart → List ℕ → List ℕ
+bytes-of (Part start long) l = take long (drop start l)
+bytes-of (NoPart r) l = []
+
+unfoldable pub layer : Counts → List ℕ → ℤ → List ℕ
+unfolding layer-part
+layer n l z = bytes-of (layer-part n (length l) z) l

@@ -1,0 +1,68 @@
+-- Document 01, "The grid": near marks and their completeness, by coordinates, for every two cells of the grid. Touching is over the number k:
+-- 3 by face, edge or corner. Assumes nothing.
+use Prim.Native.Nat.{ℕ, zero, suc}
+use mathlib.Core.Bool.{Bool, true, false, cond, not, _&&_, _||_}
+use mathlib.Core.Path.{_≡_}
+use mathlib.Core.List.{List, [], _∷_, _++_}
+use lib.ListN.{length, getD}
+use Rattle.cells.specs.declared.Cell.{Cell}
+use Rattle.cells.specs.declared.Counts.{Counts}
+use Rattle.cells.specs.declared.Verdict.{Verdict}
+use Rattle.cells.specs.declared.Verdict.the-variants.{Fine, Refused}
+use Rattle.cells.specs.Touching.{touching}
+use Rattle.grids.specs.declared.Completeness.{Completeness}
+use Rattle.grids.specs.declared.Completeness.the-variants.{Yes, No, Refused as NotAsked}
+use Rattle.grids.specs.Grid.{shape, cell-at, clear, solid}
+
+-- some number below n passes
+unfoldable pub any : (ℕ → Bool) → ℕ → Bool
+any p zero = false
+any p (suc n) = any p n || p n
+
+-- f 0, f 1, up to f (n - 1)
+unfoldable pub tab : (ℕ → ℕ) → ℕ → List ℕ
+tab f zero = []
+tab f (suc n) = tab f n ++ f n ∷ []
+
+-- the cell c touches a solid one inside the grid
+unfoldable pub touches-solid : ℕ → Counts → List ℕ → Cell → Bool
+unfolding any
+touches-solid k n l c = any (λ j. solid (getD l j 0) && touching k c (cell-at n j)) (length l)
+
+-- "Marking leaves each solid byte as found. Any other byte becomes 1 if its cell touches a solid one inside the grid, else 0."
+unfoldable pub marked-byte : ℕ → Counts → List ℕ → ℕ → ℕ
+unfolding touches-solid
+marked-byte k n l i = cond (solid (getD l i 0)) (getD l i 0) (cond (touches-solid k n l (cell-at n i)) 1 0)
+
+unfoldable pub marked : ℕ → Counts → List ℕ → List ℕ
+unfolding marked-byte tab
+marked k n l = tab (marked-byte k n l) (length l)
+
+-- what the marking call leaves: refused, the bytes as they were
+abbrev pub after-marking : Verdict → Counts → List ℕ → List ℕ
+after-marking Fine n l = marked 3 n l
+after-marking (Refused r) n l = l
+
+-- "The marks are complete exactly when no clear cell touches a solid one"
+unfoldable pub complete : ℕ → Counts → List ℕ → Bool
+unfolding any touches-solid
+complete k n l = not (any (λ i. clear (getD l i 0) && touches-solid k n l (cell-at n i)) (length l))
+
+-- the answer of the completeness call
+abbrev pub yes-or-no : Bool → Completeness
+yes-or-no true = Yes
+yes-or-no false = No
+
+abbrev pub completeness-by : Verdict → Counts → List ℕ → Completeness
+completeness-by Fine n l = yes-or-no (complete 3 n l)
+completeness-by (Refused r) n l = NotAsked r
+
+unfoldable pub completeness : Counts → List ℕ → Completeness
+unfolding shape
+completeness n l = completeness-by (shape n (length l)) n l
+
+-- ---- the contract of the marking call: one answer, one final memory
+
+pub record Marks (n : Counts) (entry : List ℕ) (r : Verdict) (exit : List ℕ) : Type 0 where
+  pub says : r ≡ shape n (length entry)
+  pub holds : exit ≡ after-marking (shape n (length entry)) n entry
