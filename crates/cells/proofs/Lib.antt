@@ -1,3 +1,4 @@
 pub mod Refusals
 pub mod Signed
 pub mod Touching
+pub mod Machine

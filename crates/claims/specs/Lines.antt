@@ -12,7 +12,7 @@ use Rattle.lines.specs.Crossings.{next, place, before, InOrder, LastMade, MadeU
 use Rattle.lines.specs.Preference.{Preference, rule-1}
 use Rattle.lines.specs.Lines.{differences, cell-of, centres, six-cell, six-line, longest, place-26, cell-26, line-26, InLimit}
 use Rattle.lines.specs.Segment.{Share, InClosed, InOpen}
-use Rattle.lines.specs.Decisions.{decision, e-xy, e-xz, e-zy, values, by-signs, moved-values}
+use Rattle.lines.specs.Decisions.{decision, e-xy, e-xz, e-zy, values, by-signs, doubled, moved-values}
 
 -- 1. For each number of crossings there is one place such that every crossing made comes before every one not made: the 6-line's.
 pub record OnePlace (r : Preference) (D : Steps) : Type 0 where
@@ -61,7 +61,7 @@ pub record Signs (D : Steps) : Type 0 where
   pub tell-with-tie : (r : Preference) (t : Steps) (a b : Axis) → r .rank a < r .rank b → before (centres r D) a (t a) b (t b) ≡ ltZ (decision D t a b) (pos 1)
   pub tell : (r : Preference) (t : Steps) (a b : Axis) → r .rank b < r .rank a → before (centres r D) a (t a) b (t b) ≡ ltZ (decision D t a b) (pos 0)
   pub pick : (t : Steps) → ((a : Axis) → t a ≤ D a) → total t < total D → by-signs (values D t) ≡ next (centres rule-1 D) t
-  pub move : (t : Steps) (n : Axis) → values D (stepped t n) ≡ moved-values D n (values D t)
+  pub move : (t : Steps) (n : Axis) → values D (stepped t n) ≡ moved-values (doubled D) n (values D t)
 
 pub record SmallValues (p q : Cell) : Type 0 where
   pub small : InLimit p → InLimit q → (t : Steps) → ((a : Axis) → t a ≤ differences p q a) → (a b : Axis) →

@@ -2,6 +2,6 @@ pub mod Steps
 pub mod Merge
 pub mod Fractions
 pub mod Centres
-pub mod Tripod
+pub mod Signs
 pub mod Towards
 pub mod Cells

@@ -4,6 +4,8 @@ use Prim.Native.Nat.{ℕ, _+_, _*_}
 use mathlib.Core.Bool.{cond}
 use lib.IntN.{ℤ, pos, _+ℤ_, _-ℤ_}
 use lib.Signed.{ltZ}
+use Rattle.lines.specs.declared.Tripod.{Tripod}
+use Rattle.lines.specs.declared.Doubled.{Doubled}
 use Rattle.lines.specs.Steps.{Axis, X, Y, Z, Steps}
 
 -- e_xy = B(2i+1)-A(2j+1)
@@ -19,26 +21,25 @@ abbrev pub e-zy : Steps → Steps → ℤ
 e-zy D t = pos (D Y * (2 * t Z + 1)) -ℤ pos (D Z * (2 * t Y + 1))
 
 -- the three together
-pub record Values : Type 0 where
-  pub xy : ℤ
-  pub xz : ℤ
-  pub zy : ℤ
-
-abbrev pub values : Steps → Steps → Values
+abbrev pub values : Steps → Steps → Tripod
 values D t = record { xy = e-xy D t; xz = e-xz D t; zy = e-zy D t }
 
 -- figure 6: the next axis by their signs
-abbrev pub by-signs : Values → Axis
+abbrev pub by-signs : Tripod → Axis
 by-signs v =
     cond (ltZ (v .xy) (pos 0))
     (cond (ltZ (v .xz) (pos 0)) X Z)
     (cond (ltZ (v .zy) (pos 0)) Z Y)
 
--- figure 6: the sums by which a step along an axis moves them, with A2, B2, C2 twice the differences
-abbrev pub moved-values : Steps → Axis → Values → Values
-moved-values D X v = record { xy = v .xy +ℤ pos (2 * D Y); xz = v .xz +ℤ pos (2 * D Z); zy = v .zy }
-moved-values D Y v = record { xy = v .xy -ℤ pos (2 * D X); xz = v .xz; zy = v .zy -ℤ pos (2 * D Z) }
-moved-values D Z v = record { xy = v .xy; xz = v .xz -ℤ pos (2 * D X); zy = v .zy +ℤ pos (2 * D Y) }
+-- figure 6: "A2 = 2A; B2 = 2B; C2 = 2C"
+abbrev pub doubled : Steps → Doubled
+doubled D = record { a2 = pos (2 * D X); b2 = pos (2 * D Y); c2 = pos (2 * D Z) }
+
+-- figure 6: the sums by which a step along an axis moves them
+abbrev pub moved-values : Doubled → Axis → Tripod → Tripod
+moved-values d X v = record { xy = v .xy +ℤ d .b2; xz = v .xz +ℤ d .c2; zy = v .zy }
+moved-values d Y v = record { xy = v .xy -ℤ d .a2; xz = v .xz; zy = v .zy -ℤ d .c2 }
+moved-values d Z v = record { xy = v .xy; xz = v .xz -ℤ d .a2; zy = v .zy +ℤ d .b2 }
 
 -- the decision value of any two axes: e_xy is that of x and y, e_xz that of x and z, e_zy that of z and y
 abbrev pub decision : Steps → Steps → Axis → Axis → ℤ

@@ -1,1 +1,16 @@
-// Theory only: what a 6-line and a 26-line are stands in specs/, the laws about them in proofs/.
+// Theory only: what a 6-line and a 26-line are stands in specs/, the laws about them in proofs/. The two structs are what the code keeps of a
+// line on its way, as the definitions name it.
+
+// The three decision values of figure 6.
+pub struct Tripod {
+    pub xy: i32,
+    pub xz: i32,
+    pub zy: i32,
+}
+
+// Twice the differences: figure 6's A2, B2, C2.
+pub struct Doubled {
+    pub a2: i32,
+    pub b2: i32,
+    pub c2: i32,
+}

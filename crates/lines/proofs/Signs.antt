@@ -11,11 +11,12 @@ use lib.IntN.{ℤ, pos, negsuc, _+ℤ_, _-ℤ_}
 use lib.Signed.{ltZ, _≤ℤ_}
 use borrow.Author.Tests.{lt-ltb, le-ltb}
 use Rattle.cells.proofs.Signed.{up, dn, same-number, one-sided, sum-is, diff-is, lt-ltZ, le-ltZ, ≤ℤ-is}
+use Rattle.lines.specs.declared.Tripod.{Tripod}
 use Rattle.lines.specs.Steps.{Axis, X, Y, Z, Steps, total, same}
 use Rattle.lines.specs.Crossings.{Course, upper, before, next}
 use Rattle.lines.specs.Preference.{Preference, rule-1}
 use Rattle.lines.specs.Lines.{centres, longest, place-26, moved-26}
-use Rattle.lines.specs.Decisions.{Values, decision, e-xy, e-xz, e-zy, values, by-signs, moved-values}
+use Rattle.lines.specs.Decisions.{decision, e-xy, e-xz, e-zy, values, by-signs, doubled, moved-values}
 use Rattle.lines.proofs.Steps.{Cmp, here, other, cmp, same-self, lt-or-ge, bump, open-axis}
 use Rattle.lines.proofs.Merge.{Within, Next, Rule, Leads, itself, leads-trans, leader-is-next, next-unique}
 use Rattle.lines.proofs.Fractions.{Before, ahead, before-test, laws, next-rule, before-leads, other-leads}
@@ -125,11 +126,11 @@ module _ (D t : Steps) (a b : Axis) where
   pub third-keeps : (n : Axis) → same n a ≡ 0 → same n b ≡ 0 → decision D (bump t n) a b ≡ decision D t a b
   third-keeps n e f = ap₂ less (kept (D b) (t a) _ e) (kept (D a) (t b) _ f)
 
-same-values : {v w : Values} → v .xy ≡ w .xy → v .xz ≡ w .xz → v .zy ≡ w .zy → v ≡ w
+pub same-values : {v w : Tripod} → v .xy ≡ w .xy → v .xz ≡ w .xz → v .zy ≡ w .zy → v ≡ w
 same-values p q s = λ i. record { xy = p i; xz = q i; zy = s i }
 
 -- a step moves the values by the sums of figure 6
-pub step-moves : (D t : Steps) (n : Axis) → values D (bump t n) ≡ moved-values D n (values D t)
+pub step-moves : (D t : Steps) (n : Axis) → values D (bump t n) ≡ moved-values (doubled D) n (values D t)
 step-moves D t X = same-values (first-adds D t X Y refl) (first-adds D t X Z refl) (third-keeps D t Z Y X refl refl)
 step-moves D t Y = same-values (second-takes D t X Y refl) (third-keeps D t X Z Y refl refl) (second-takes D t Z Y refl)
 step-moves D t Z = same-values (third-keeps D t X Y Z refl refl) (second-takes D t X Z refl) (first-adds D t Z Y refl)

@@ -1,0 +1,164 @@
+// The tripod: three decision values, moved by sums and tested by sign. One leaf picks the next face, one the long step; lists and walks use these.
+ghost use mathlib.Core.Path.{_≡_};
+ghost use Prim.Native.Nat.{_≤_};
+ghost use Rattle.cells.specs.Touching.{apart};
+ghost use Rattle.lines.specs.Steps.{at};
+ghost use Rattle.lines.specs.Lines.{differences, longest, in-limit, InLimit};
+ghost use Rattle.lines.specs.Decisions.{values, doubled, moved-values};
+ghost use Rattle.tripod.specs.Tripod.{steps, Short, Calm, Even, NextFace, LongMoves};
+ghost use mathlib.Core.Bool.{true};
+
+use cells::{Axis, Cell};
+use lines::{Doubled, Tripod};
+
+// The differences of a line's ends.
+pub struct Diffs {
+    pub a: u32,
+    pub b: u32,
+    pub c: u32,
+}
+
+// The axes that a long step moves along.
+pub struct Moves {
+    pub x: bool,
+    pub y: bool,
+    pub z: bool,
+}
+
+// How far apart two coordinates are.
+pub fn difference(p: i32, q: i32) -> u32
+    requires { ⌜ (in-limit p ≡ true) × (in-limit q ≡ true) ⌝ }
+    ensures { λ r. ⌜ r ≡ apart p q ⌝ }
+{
+    if p < q {
+        (q - p) as u32
+    } else {
+        (p - q) as u32
+    }
+}
+
+// The differences of two ends within the coordinate limit.
+pub fn measured(p: Cell, q: Cell) -> Diffs
+    requires { ⌜ InLimit p × InLimit q ⌝ }
+    ensures { λ r. ⌜ (steps r ≡ differences p q) × Short r ⌝ }
+{
+    let a = difference(p.x, q.x);
+    let b = difference(p.y, q.y);
+    let c = difference(p.z, q.z);
+    Diffs { a: a, b: b, c: c }
+}
+
+// The decision values at P.
+pub fn first_values(d: Diffs) -> Tripod
+    requires { ⌜ Short d ⌝ }
+    ensures { λ r. ⌜ r ≡ values (steps d) (at 0 0 0) ⌝ }
+{
+    let a = d.a as i32;
+    let b = d.b as i32;
+    let c = d.c as i32;
+    Tripod {
+        xy: b - a,
+        xz: c - a,
+        zy: b - c,
+    }
+}
+
+// Twice the differences.
+pub fn twice(d: Diffs) -> Doubled
+    requires { ⌜ Short d ⌝ }
+    ensures { λ r. ⌜ r ≡ doubled (steps d) ⌝ }
+{
+    let a2 = (2 * d.a) as i32;
+    let b2 = (2 * d.b) as i32;
+    let c2 = (2 * d.c) as i32;
+    Doubled {
+        a2: a2,
+        b2: b2,
+        c2: c2,
+    }
+}
+
+// The axis of the next face: at a place that is not the end, the crossing that comes first.
+pub fn next_face(e: Tripod) -> Axis
+    ensures { λ r. ⌜ NextFace e r ⌝ }
+{
+    if e.xy < 0 {
+        if e.xz < 0 {
+            return Axis::X;
+        }
+        return Axis::Z;
+    }
+    if e.zy < 0 {
+        return Axis::Z;
+    }
+    Axis::Y
+}
+
+// The decision values after a step along n.
+pub fn moved(e: Tripod, d: Doubled, n: Axis) -> Tripod
+    requires { ⌜ Calm e × Even d ⌝ }
+    ensures { λ r. ⌜ r ≡ moved-values d n e ⌝ }
+{
+    let xy = e.xy;
+    let xz = e.xz;
+    let zy = e.zy;
+    match n {
+        Axis::X => Tripod {
+            xy: xy + d.b2,
+            xz: xz + d.c2,
+            zy: zy,
+        },
+        Axis::Y => Tripod {
+            xy: xy - d.a2,
+            xz: xz,
+            zy: zy - d.c2,
+        },
+        Axis::Z => Tripod {
+            xy: xy,
+            xz: xz - d.a2,
+            zy: zy + d.b2,
+        },
+    }
+}
+
+// The axis with the longest difference.
+pub fn longest_axis(d: Diffs) -> Axis
+    ensures { λ r. ⌜ steps d r ≡ longest (steps d) ⌝ }
+{
+    if d.a < d.b {
+        if d.b < d.c { Axis::Z } else { Axis::Y }
+    } else {
+        if d.a < d.c { Axis::Z } else { Axis::X }
+    }
+}
+
+// The moves of the long step from a 26-line cell that is not the last. `long` is an axis with the longest difference: it moves, and each other one
+// moves by the sign of its decision value with that axis.
+pub fn long_moves(e: Tripod, d: Diffs, long: Axis) -> Moves
+    requires { ⌜ Calm e × Short d × (steps d long ≡ longest (steps d)) ⌝ }
+    ensures { λ r. ⌜ LongMoves (steps d) e r ⌝ }
+{
+    let a = d.a as i32;
+    let b = d.b as i32;
+    let c = d.c as i32;
+    let xy = e.xy;
+    let xz = e.xz;
+    let zy = e.zy;
+    match long {
+        Axis::X => Moves {
+            x: true,
+            y: 0 <= xy + b,
+            z: 0 <= xz + c,
+        },
+        Axis::Y => Moves {
+            x: xy <= a,
+            y: true,
+            z: zy <= c,
+        },
+        Axis::Z => Moves {
+            x: xz <= a,
+            y: 0 <= zy + b,
+            z: true,
+        },
+    }
+}
