@@ -1,0 +1,69 @@
+-- The front of the lent slice: cells stored one after another, and what each way out of a list call answers and leaves. Assumes nothing.
+use mathlib.Core.Path.{_≡_, refl, sym, ap, ap₂, _∙_, subst}
+use mathlib.Core.Bool.{true, false}
+use mathlib.Core.List.{List, [], _∷_, _++_}
+use Prim.Native.Nat.{ℕ, zero, suc, _+_, _*_, _≤_, _<_}
+use native.Mathlib.Omega.{arith}
+use native.Mathlib.Numerals.{add-one, add-two}
+use lib.IntN.{ℤ}
+use lib.Dec.{ltb}
+use lib.ListN.{length, set, take, drop, length-append, length-drop}
+use lib.Seq.{sets-eq, take-at, drop-append-add, drop-drop}
+use borrow.Author.Tests.{lt-ltb, le-ltb}
+use Rattle.cells.specs.declared.Cell.{Cell}
+use Rattle.cells.specs.declared.Refusal.{Refusal}
+use Rattle.cells.specs.declared.Refusal.the-variants.{Room}
+use Rattle.cells.specs.declared.Verdict.{Verdict}
+use Rattle.cells.specs.declared.Verdict.the-variants.{Fine, Refused}
+use Rattle.lines.specs.Lines.{cells}
+use Rattle.lines.proofs.Cells.{cells-length}
+use Rattle.lists.specs.declared.Listed.the-variants.{Cells, Refused as NotListed}
+use Rattle.lists.specs.Lists.{ends-check, list-check, listed, numbers, filled, after-listing, Lists}
+use Rattle.lists.specs.Way.{put3}
+
+-- ---- numbers
+
+pub numbers-length : (l : List Cell) → length (numbers l) ≡ 3 * length l
+numbers-length [] = refl
+numbers-length (c ∷ l) = omega (arith, numbers-length l)
+
+numbers-append : (l k : List Cell) → numbers (l ++ k) ≡ numbers l ++ numbers k
+numbers-append [] k = refl
+numbers-append (c ∷ l) k = ap (λ m. c .x ∷ c .y ∷ c .z ∷ m) (numbers-append l k)
+
+-- the first m cells at the front
+abbrev pub front : (ℕ → Cell) → ℕ → List ℤ → List ℤ
+front f m entry = numbers (cells f m) ++ drop (3 * m) entry
+
+-- a cell stored where the front ends lengthens the front
+put-after : (F d : List ℤ) (n : ℕ) (c : Cell) → length F ≡ n → n + 3 ≤ length d → put3 (F ++ drop n d) n c ≡ (F ++ numbers (c ∷ [])) ++ drop (n + 3) d
+put-after F d n c e h =
+    rw (add-one n, add-two n)
+    (sets-eq (numbers (c ∷ [])) (F ++ drop n d) n (omega (arith, length-append F (drop n d), length-drop n d))
+    ∙ ap₂ (λ a b. (a ++ numbers (c ∷ [])) ++ b) (take-at F (drop n d) n e) past)
+  where
+    past : drop (n + 3) (F ++ drop n d) ≡ drop (n + 3) d
+    past = subst (λ k. drop (k + 3) (F ++ drop k d) ≡ drop (k + 3) d) e (drop-append-add F (drop (length F) d) 3 ∙ drop-drop 3 (length F) d)
+
+pub put-next : (f : ℕ → Cell) (entry : List ℤ) (m : ℕ) → 3 * (m + 1) ≤ length entry → put3 (front f m entry) (3 * m) (f m) ≡ front f (m + 1) entry
+put-next f entry m h =
+    let e : 3 * m + 3 ≡ 3 * (m + 1) = omega arith in
+    put-after (numbers (cells f m)) entry (3 * m) (f m) (numbers-length (cells f m) ∙ ap (λ k. 3 * k) (cells-length f m)) (omega arith)
+    ∙ ap₂ (λ a k. a ++ drop k entry) (sym (numbers-append (cells f m) (f m ∷ [])) ∙ ap (λ k. numbers (cells f k)) (sym (add-one m))) e
+
+-- all its cells at the front: the line is filled in
+pub front-filled : (f : ℕ → Cell) (n : ℕ) (entry : List ℤ) → front f n entry ≡ filled (cells f n) entry
+front-filled f n entry = ap (λ k. numbers (cells f n) ++ drop (3 * k) entry) (sym (cells-length f n))
+
+-- ---- the ways out
+
+module _ (line : List Cell) (p q : Cell) (entry : List ℤ) where
+  pub refused-ends : (r : Refusal) → ends-check p q ≡ Refused r → Lists line p q entry (NotListed r) entry
+  refused-ends r h = record { says = sym (simp h); holds = sym (simp h) }
+
+  pub refused-room : ends-check p q ≡ Fine → length entry < 3 * length line → Lists line p q entry (NotListed Room) entry
+  refused-room h short = record { says = sym (simp (h, lt-ltb (length entry) (3 * length line) short)); holds = sym (simp (h, lt-ltb (length entry) (3 * length line) short)) }
+
+  pub listed-all : (exit : List ℤ) → ends-check p q ≡ Fine → 3 * length line ≤ length entry → exit ≡ filled line entry → Lists line p q entry (Cells (length line)) exit
+  listed-all exit h room e =
+      record { says = sym (simp (h, le-ltb (length entry) (3 * length line) room)); holds = e ∙ sym (simp (h, le-ltb (length entry) (3 * length line) room)) }

@@ -1,0 +1,147 @@
+-- The spot of a place: a step along an axis leads to the spot of the next place, and every sum on the way fits. Assumes nothing.
+use mathlib.Core.Path.{_≡_, refl, sym, ap, ap₂, _∙_, subst}
+use mathlib.Core.Bool.{Bool, true, false, cond}
+use Prim.Native.Nat.{ℕ, suc, _+_, _*_, _≤_, _<_}
+use native.Mathlib.Omega.{arith}
+use native.Mathlib.Nat.{add-zero}
+use lib.IntN.{ℤ, pos, negsuc, _+ℤ_, _-ℤ_}
+use lib.Signed.{leZ}
+use Rattle.cells.specs.declared.Cell.{Cell}
+use Rattle.cells.specs.Touching.{on, apart}
+use Rattle.cells.specs.Small.{Small}
+use Rattle.cells.proofs.Signed.{up, dn, same-number, one-sided, sum-is, diff-is}
+use Rattle.cells.proofs.Machine.{parts-small}
+use Rattle.lines.specs.Steps.{Axis, X, Y, Z, Steps, same}
+use Rattle.lines.specs.Towards.{towards}
+use Rattle.lines.specs.Lines.{differences, cell-of, InLimit}
+use Rattle.lines.specs.Decisions.{values, doubled, moved-values}
+use Rattle.lines.proofs.Steps.{bump}
+use Rattle.lines.proofs.Cells.{limited-difference, same-cell, cell-on}
+use Rattle.lines.proofs.Signs.{step-moves}
+use Rattle.lines.proofs.Towards.{Along, along, either-way}
+use Rattle.tripod.specs.Tripod.{Calm, Even, bit, moves-on}
+use Rattle.tripod.specs.declared.Moves.{Moves}
+use Rattle.tripod.proofs.Laws.{limit-parts, place-calm, doubled-even}
+use Rattle.lists.specs.declared.Heading.{Heading}
+use Rattle.lists.specs.declared.Way.{Way}
+use Rattle.lists.specs.declared.Spot.{Spot}
+use Rattle.lists.specs.Way.{unit, heading, stepped-cell, CanStep, WayOf, SpotAt, crossed-spot, crossed-where, leapt-spot, CanCross, CanLeap}
+
+-- ---- one axis
+
+-- one step more
+towards-next : (p q : ℤ) (i : ℕ) → towards p q i +ℤ unit p q ≡ towards p q (i + 1)
+towards-next p q i = go (leZ p q)
+  where
+    go : (t : Bool) → cond t (p +ℤ pos i) (p -ℤ pos i) +ℤ cond t (pos 1) (negsuc 0) ≡ cond t (p +ℤ pos (i + 1)) (p -ℤ pos (i + 1))
+    go true = same-number _ _ (omega (arith, sum-is (p +ℤ pos i) (pos 1), sum-is p (pos i), sum-is p (pos (i + 1))))
+    go false = same-number _ _ (omega (arith, sum-is (p -ℤ pos i) (negsuc 0), diff-is p (pos i), diff-is p (pos (i + 1))))
+
+towards-kept : (p q : ℤ) (i : ℕ) → towards p q i ≡ towards p q (i + 0)
+towards-kept p q i = ap (towards p q) (sym (add-zero i))
+
+-- a coordinate of the way from p may be added to
+towards-small : (p q : ℤ) (i : ℕ) → dn p ≤ 8192 + up p → up p ≤ 8191 + dn p → i ≤ 16383 → Small (towards p q i)
+towards-small p q i lo hi h = go (leZ p q)
+  where
+    go : (t : Bool) → Small (cond t (p +ℤ pos i) (p -ℤ pos i))
+    go true =
+        let s = sum-is p (pos i) in
+        let o = one-sided (p +ℤ pos i) in
+        parts-small (p +ℤ pos i) (omega arith) (omega arith)
+    go false =
+        let s = diff-is p (pos i) in
+        let o = one-sided (p -ℤ pos i) in
+        parts-small (p -ℤ pos i) (omega arith) (omega arith)
+
+unit-small : (p q : ℤ) → Small (unit p q)
+unit-small p q = go (leZ p q)
+  where
+    go : (t : Bool) → Small (cond t (pos 1) (negsuc 0))
+    go true = record { small = omega arith }
+    go false = record { small = omega arith }
+
+-- ---- a step
+
+stepped-on : (p q : Cell) (t : Steps) (n : Axis) → stepped-cell (heading p q) n (cell-of p q t) ≡ cell-of p q (bump t n)
+stepped-on p q t X = λ i. record { x = towards-next (p .x) (q .x) (t X) i; y = towards-kept (p .y) (q .y) (t Y) i; z = towards-kept (p .z) (q .z) (t Z) i }
+stepped-on p q t Y = λ i. record { x = towards-kept (p .x) (q .x) (t X) i; y = towards-next (p .y) (q .y) (t Y) i; z = towards-kept (p .z) (q .z) (t Z) i }
+stepped-on p q t Z = λ i. record { x = towards-kept (p .x) (q .x) (t X) i; y = towards-kept (p .y) (q .y) (t Y) i; z = towards-next (p .z) (q .z) (t Z) i }
+
+module _ (p q : Cell) (w : Way) (way : WayOf p q w) where
+  -- across a face along n lies the spot of the place one step further
+  pub spot-crossed : (t : Steps) (s : Spot) (n : Axis) → SpotAt p q t s → SpotAt p q (bump t n) (crossed-spot w n s)
+  spot-crossed t s n h =
+      record {
+        cell = ap₂ (λ d c. stepped-cell d n c) (way .towards) (h .cell) ∙ stepped-on p q t n;
+        value = ap₂ (λ d e. moved-values d n e) (way .twice) (h .value) ∙ sym (step-moves (differences p q) t n);
+      }
+
+  -- at a place of a line within the limit every sum of a step fits
+  pub can-cross : InLimit p → InLimit q → (t : Steps) (s : Spot) → ((a : Axis) → t a ≤ differences p q a) → SpotAt p q t s → CanCross s w
+  can-cross hp hq t s le h =
+      record {
+        cells = rw (h .cell, way .towards) (record { x = coordinate X; y = coordinate Y; z = coordinate Z; hx = unit-small (p .x) (q .x); hy = unit-small (p .y) (q .y); hz = unit-small (p .z) (q .z) });
+        values = rw (h .value) (place-calm (differences p q) t (limited-difference p q hp hq) le);
+        twice = rw (way .twice) (doubled-even (differences p q) (limited-difference p q hp hq));
+      }
+    where
+      coordinate : (a : Axis) → Small (towards (on p a) (on q a) (t a))
+      coordinate a =
+          let (lo, hi) = limit-parts (on p a) (hp .limit a) in
+          towards-small (on p a) (on q a) (t a) lo hi (omega (arith, le a, limited-difference p q hp hq a))
+
+-- ---- a long step
+
+-- the place after a step that is made where `go` says so
+abbrev pub where-to : Bool → Axis → Steps → Steps
+where-to go n t = cond go (bump t n) t
+
+pub where-at : (go : Bool) (n : Axis) (t : Steps) (a : Axis) → where-to go n t a ≡ t a + bit go * same n a
+where-at true n t a = omega arith
+where-at false n t a = omega arith
+
+pub spot-where : (p q : Cell) (w : Way) → WayOf p q w → (go : Bool) (t : Steps) (s : Spot) (n : Axis) → SpotAt p q t s → SpotAt p q (where-to go n t) (crossed-where go w n s)
+spot-where p q w way true t s n h = spot-crossed p q w way t s n h
+spot-where p q w way false t s n h = h
+
+-- the three steps of a long one
+abbrev pub leap-to : Moves → Steps → Steps
+leap-to m t = where-to (m .z) Z (where-to (m .y) Y (where-to (m .x) X t))
+
+pub leap-at : (m : Moves) (t : Steps) (a : Axis) → leap-to m t a ≡ t a + moves-on m a
+leap-at m t a = parts ∙ sums a
+  where
+    parts : leap-to m t a ≡ t a + bit (m .x) * same X a + bit (m .y) * same Y a + bit (m .z) * same Z a
+    parts = omega (arith, where-at (m .x) X t a, where-at (m .y) Y (where-to (m .x) X t) a, where-at (m .z) Z (where-to (m .y) Y (where-to (m .x) X t)) a)
+
+    sums : (a : Axis) → t a + bit (m .x) * same X a + bit (m .y) * same Y a + bit (m .z) * same Z a ≡ t a + moves-on m a
+    sums X = omega arith
+    sums Y = omega arith
+    sums Z = omega arith
+
+pub spot-leapt : (p q : Cell) (w : Way) → WayOf p q w → (m : Moves) (t : Steps) (s : Spot) → SpotAt p q t s → SpotAt p q (leap-to m t) (leapt-spot w m s)
+spot-leapt p q w way m t s h =
+    let x = spot-where p q w way (m .x) t s X h in
+    let y = spot-where p q w way (m .y) _ _ Y x in
+    spot-where p q w way (m .z) _ _ Z y
+
+-- each of its steps stays within the differences
+module _ (s : Spot) (w : Way) (m : Moves) (c : CanLeap s w m) where
+  below : (a : Axis) → leap-to m (c .t) a ≤ differences (c .p) (c .q) a
+  below a = omega (arith, leap-at m (c .t) a, c .fits a)
+
+  pub leap-first : CanCross s w
+  leap-first = can-cross (c .p) (c .q) w (c .way) (c .p-in) (c .q-in) (c .t) s (λ a. omega (arith, c .fits a)) (c .spot)
+
+  pub leap-second : CanCross (crossed-where (m .x) w X s) w
+  leap-second =
+      can-cross (c .p) (c .q) w (c .way) (c .p-in) (c .q-in) (where-to (m .x) X (c .t)) _
+      (λ a. omega (arith, below a, where-at (m .y) Y (where-to (m .x) X (c .t)) a, where-at (m .z) Z (where-to (m .y) Y (where-to (m .x) X (c .t))) a))
+      (spot-where (c .p) (c .q) w (c .way) (m .x) (c .t) s X (c .spot))
+
+  pub leap-third : CanCross (crossed-where (m .y) w Y (crossed-where (m .x) w X s)) w
+  leap-third =
+      can-cross (c .p) (c .q) w (c .way) (c .p-in) (c .q-in) (where-to (m .y) Y (where-to (m .x) X (c .t))) _
+      (λ a. omega (arith, below a, where-at (m .z) Z (where-to (m .y) Y (where-to (m .x) X (c .t))) a))
+      (spot-where (c .p) (c .q) w (c .way) (m .y) _ _ Y (spot-where (c .p) (c .q) w (c .way) (m .x) (c .t) s X (c .spot)))

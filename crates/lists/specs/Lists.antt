@@ -1,0 +1,73 @@
+-- Document 01: the line lists. "A line list writes three numbers a cell, in line order, at the front of the lent slice, and answers the number of
+-- cells; the rest stays." Refusals: 1 (P before Q; x, y, z), then 6. Assumes nothing.
+use Prim.Native.Nat.{ℕ, _*_}
+use mathlib.Core.Path.{_≡_}
+use mathlib.Core.Bool.{not}
+use mathlib.Core.List.{List, [], _∷_, _++_}
+use mathlib.Core.Logic.{_⊎_, inl, inr}
+use lib.Dec.{ltb}
+use lib.IntN.{ℤ}
+use lib.ListN.{length, drop}
+use Rattle.cells.specs.declared.Axis.the-variants.{X, Y, Z}
+use Rattle.cells.specs.declared.End.{End}
+use Rattle.cells.specs.declared.End.the-variants.{P, Q}
+use Rattle.cells.specs.declared.Cell.{Cell}
+use Rattle.cells.specs.declared.Refusal.the-variants.{Limit, Room}
+use Rattle.cells.specs.declared.Verdict.{Verdict}
+use Rattle.cells.specs.declared.Verdict.the-variants.{Fine, Refused}
+use Rattle.cells.specs.Checks.{refuse-when, _then_}
+use Rattle.cells.specs.Refusals.{Told, told}
+use Rattle.lines.specs.Preference.{rule-1}
+use Rattle.lines.specs.Lines.{six-line, line-26, in-limit}
+use Rattle.lists.specs.declared.Listed.{Listed}
+use Rattle.lists.specs.declared.Listed.the-variants.{Cells, Refused as NotListed}
+
+-- "a line end outside -8,192 to 8,191; says which end and which axis"
+abbrev pub end-check : End → Cell → Verdict
+end-check e c =
+    refuse-when (not (in-limit (c .x))) (Limit e X) then
+    refuse-when (not (in-limit (c .y))) (Limit e Y) then
+    refuse-when (not (in-limit (c .z))) (Limit e Z)
+
+abbrev pub ends-check : Cell → Cell → Verdict
+ends-check p q = end-check P p then end-check Q q
+
+-- "Room is too small exactly when the slice holds fewer than three times the cells"
+abbrev pub list-check : Cell → Cell → ℕ → ℕ → Verdict
+list-check p q cells room = ends-check p q then refuse-when (ltb room (3 * cells)) Room
+
+-- three numbers a cell
+abbrev pub numbers : List Cell → List ℤ
+numbers [] = []
+numbers (c ∷ l) = c .x ∷ c .y ∷ c .z ∷ numbers l
+
+-- the answer, by the verdict on the inputs
+abbrev pub listed : Verdict → ℕ → Listed
+listed Fine cells = Cells cells
+listed (Refused r) cells = NotListed r
+
+-- the line at the front, the rest as it was
+abbrev pub filled : List Cell → List ℤ → List ℤ
+filled line entry = numbers line ++ drop (3 * length line) entry
+
+-- the memory then: refused, as it was
+abbrev pub after-listing : Verdict → List Cell → List ℤ → List ℤ
+after-listing Fine line entry = filled line entry
+after-listing (Refused r) line entry = entry
+
+-- a call that lists a line: its answer and the memory at exit, from its inputs
+pub record Lists (line : List Cell) (p q : Cell) (entry : List ℤ) (r : Listed) (exit : List ℤ) : Type 0 where
+  pub says : r ≡ listed (list-check p q (length line) (length entry)) (length line)
+  pub holds : exit ≡ after-listing (list-check p q (length line) (length entry)) line entry
+
+-- the contracts of the two calls
+abbrev pub Line6 : Cell → Cell → List ℤ → Listed → List ℤ → Type 0
+Line6 p q = Lists (six-line rule-1 p q) p q
+
+abbrev pub Line26 : Cell → Cell → List ℤ → Listed → List ℤ → Type 0
+Line26 p q = Lists (line-26 p q) p q
+
+-- each case of the answer: what is said of a refusal, or the number of cells
+abbrev pub told-listed : Listed → Told ⊎ ℕ
+told-listed (NotListed r) = inl (told r)
+told-listed (Cells n) = inr n
