@@ -97,6 +97,10 @@ module _ (r : Preference) (p q : Cell) where
   unfolding six-cell
   six-is n = refl
 
+  pub six-line-is : six-line r p q ≡ cells (six-cell r p q) (total D + 1)
+  unfolding six-line
+  six-line-is = refl
+
   -- ---- law 1
 
   pub six-start : six-cell r p q 0 ≡ p
@@ -106,8 +110,7 @@ module _ (r : Preference) (p q : Cell) where
   six-end = six-is (total D) ∙ cell-end p q (place C (total D)) (place-end C G)
 
   pub six-length : length (six-line r p q) ≡ total D + 1
-  unfolding six-line
-  six-length = cells-length (six-cell r p q) (total D + 1)
+  six-length = ap length six-line-is ∙ cells-length (six-cell r p q) (total D + 1)
 
   pub six-numbered : (n : ℕ) → n ≤ total D → getD (six-line r p q) n p ≡ six-cell r p q n
   unfolding six-line
@@ -202,9 +205,12 @@ module _ (p q : Cell) where
   pub end-26 : cell-26 p q (longest D′) ≡ q
   end-26 = is-26 rule-1 p q (longest D′) ∙ cell-end p q (place-26 D′ (longest D′)) (λ a. moved-end (longest D′) (D′ a) (longest-most D′ a))
 
-  pub length-26 : length (line-26 p q) ≡ longest D′ + 1
+  pub line-26-is : line-26 p q ≡ cells (cell-26 p q) (longest D′ + 1)
   unfolding line-26
-  length-26 = cells-length (cell-26 p q) (longest D′ + 1)
+  line-26-is = refl
+
+  pub length-26 : length (line-26 p q) ≡ longest D′ + 1
+  length-26 = ap length line-26-is ∙ cells-length (cell-26 p q) (longest D′ + 1)
 
   pub numbered-26 : (m : ℕ) → m ≤ longest D′ → getD (line-26 p q) m p ≡ cell-26 p q m
   unfolding line-26

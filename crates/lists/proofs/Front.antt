@@ -1,6 +1,6 @@
 -- The front of the lent slice: cells stored one after another, and what each way out of a list call answers and leaves. Assumes nothing.
 use mathlib.Core.Path.{_≡_, refl, sym, ap, ap₂, _∙_, subst}
-use mathlib.Core.Bool.{true, false}
+use mathlib.Core.Bool.{Bool, true, false, not}
 use mathlib.Core.List.{List, [], _∷_, _++_}
 use Prim.Native.Nat.{ℕ, zero, suc, _+_, _*_, _≤_, _<_}
 use native.Mathlib.Omega.{arith}
@@ -12,13 +12,19 @@ use lib.Seq.{sets-eq, take-at, drop-append-add, drop-drop}
 use borrow.Author.Tests.{lt-ltb, le-ltb}
 use Rattle.cells.specs.declared.Cell.{Cell}
 use Rattle.cells.specs.declared.Refusal.{Refusal}
-use Rattle.cells.specs.declared.Refusal.the-variants.{Room}
+use Rattle.cells.specs.declared.Refusal.the-variants.{Limit, Room}
+use Rattle.cells.specs.declared.Axis.{Axis}
+use Rattle.cells.specs.declared.Axis.the-variants.{X, Y, Z}
+use Rattle.cells.specs.declared.End.{End}
+use Rattle.cells.specs.declared.End.the-variants.{P, Q}
+use Rattle.cells.specs.Checks.{refuse-when, _then_}
+use Rattle.cells.specs.Touching.{on}
 use Rattle.cells.specs.declared.Verdict.{Verdict}
 use Rattle.cells.specs.declared.Verdict.the-variants.{Fine, Refused}
-use Rattle.lines.specs.Lines.{cells}
+use Rattle.lines.specs.Lines.{cells, in-limit, InLimit}
 use Rattle.lines.proofs.Cells.{cells-length}
 use Rattle.lists.specs.declared.Listed.the-variants.{Cells, Refused as NotListed}
-use Rattle.lists.specs.Lists.{ends-check, list-check, listed, numbers, filled, after-listing, Lists}
+use Rattle.lists.specs.Lists.{end-check, ends-check, list-check, listed, numbers, filled, after-listing, Lists}
 use Rattle.lists.specs.Way.{put3}
 
 -- ---- numbers
@@ -67,3 +73,29 @@ module _ (line : List Cell) (p q : Cell) (entry : List ℤ) where
   pub listed-all : (exit : List ℤ) → ends-check p q ≡ Fine → 3 * length line ≤ length entry → exit ≡ filled line entry → Lists line p q entry (Cells (length line)) exit
   listed-all exit h room e =
       record { says = sym (simp (h, le-ltb (length entry) (3 * length line) room)); holds = e ∙ sym (simp (h, le-ltb (length entry) (3 * length line) room)) }
+
+-- ---- ends that passed
+
+end-fine : (e : End) (c : Cell) → end-check e c ≡ Fine → InLimit c
+end-fine e c h = record { limit = limits (go (in-limit (c .x)) (in-limit (c .y)) (in-limit (c .z)) h) }
+  where
+    refused-not-fine : {r : Refusal} → Refused r ≡ Fine → ⊥
+    refused-not-fine h = let z : _≡_ {A = ℕ} 0 1 = cc in omega arith
+
+    go : (s t u : Bool) → refuse-when (not s) (Limit e X) then refuse-when (not t) (Limit e Y) then refuse-when (not u) (Limit e Z) ≡ Fine → (s ≡ true) × (t ≡ true) × (u ≡ true)
+    go true true true h = (refl, refl, refl)
+    go true true false h = absurd (refused-not-fine h)
+    go true false u h = absurd (refused-not-fine h)
+    go false t u h = absurd (refused-not-fine h)
+
+    limits : (in-limit (c .x) ≡ true) × (in-limit (c .y) ≡ true) × (in-limit (c .z) ≡ true) → (a : Axis) → in-limit (on c a) ≡ true
+    limits h X = h .0
+    limits h Y = h .1
+    limits h Z = h .2
+
+pub ends-fine : (p q : Cell) → ends-check p q ≡ Fine → InLimit p × InLimit q
+ends-fine p q h = let (hp, hq) = both (end-check P p) (end-check Q q) h in (end-fine P p hp, end-fine Q q hq)
+  where
+    both : (u v : Verdict) → u then v ≡ Fine → (u ≡ Fine) × (v ≡ Fine)
+    both Fine v h = (refl, h)
+    both (Refused r) v h = absurd (let z : _≡_ {A = ℕ} 0 1 = cc in omega arith)

@@ -54,7 +54,7 @@ towards-small p q i lo hi h = go (leZ p q)
         let o = one-sided (p -ℤ pos i) in
         parts-small (p -ℤ pos i) (omega arith) (omega arith)
 
-unit-small : (p q : ℤ) → Small (unit p q)
+pub unit-small : (p q : ℤ) → Small (unit p q)
 unit-small p q = go (leZ p q)
   where
     go : (t : Bool) → Small (cond t (pos 1) (negsuc 0))

@@ -10,10 +10,15 @@ ghost use Rattle.lines.specs.Steps.{total};
 ghost use Rattle.tripod.specs.Tripod.{steps, Short};
 ghost use Rattle.lists.specs.Lists.{end-check, ends-check, filled, Line6, Line26};
 ghost use Rattle.lists.specs.Way.{unit, stepped-cell, crossed-spot, crossed-where, leapt-spot, put3, CanStep, CanCross, CanLeap, WayOf, Measured};
-
-use cells::{Axis, Cell, End, Refusal, Verdict};
-use lines::{Doubled, Tripod};
-use tripod::{Diffs, Moves};
+use cells::Axis;
+use cells::Cell;
+use cells::End;
+use cells::Refusal;
+use cells::Verdict;
+use lines::Doubled;
+use lines::Tripod;
+use tripod::Diffs;
+use tripod::Moves;
 
 // The number of cells listed, or why none are.
 pub enum Listed {
@@ -185,7 +190,7 @@ fn fill6(out: &mut [i32], p: Cell, q: Cell, d: Diffs)
         at += 3;
         m += 1;
     }
-    put(out, at, s.at);
+    put(out, at, q);
 }
 
 // The cells of the 26-line, at the front of the slice.
@@ -204,7 +209,7 @@ fn fill26(out: &mut [i32], p: Cell, q: Cell, d: Diffs, long: Axis, last: u32)
         at += 3;
         m += 1;
     }
-    put(out, at, s.at);
+    put(out, at, q);
 }
 
 // The difference along an axis.

@@ -7,9 +7,10 @@ ghost use Rattle.lines.specs.Lines.{differences, longest, in-limit, InLimit};
 ghost use Rattle.lines.specs.Decisions.{values, doubled, moved-values};
 ghost use Rattle.tripod.specs.Tripod.{steps, Short, Calm, Even, NextFace, LongMoves};
 ghost use mathlib.Core.Bool.{true};
-
-use cells::{Axis, Cell};
-use lines::{Doubled, Tripod};
+use cells::Axis;
+use cells::Cell;
+use lines::Doubled;
+use lines::Tripod;
 
 // The differences of a line's ends.
 pub struct Diffs {

@@ -1,33 +1,33 @@
+-- `lists::check_ends` meets its contract: P's refusal is the answer, else Q's verdict. Assumes nothing.
+use mathlib.Core.Path.{sym, ap, _∙_}
 use borrow.Author.Needs.{needs}
+use Rattle.cells.specs.declared.End.the-variants.{Q}
+use Rattle.cells.specs.Checks.{_then_}
+use Rattle.lists.specs.Lists.{end-check}
 use Rattle.lists.proofs.check_ends.Statement.{statement}
 use Rattle.lists.proofs.check_ends.Tie as tie
-use Rattle.lists.proofs.check_ends.Reads as reads
-use Rattle.lists.proofs.check_ends.Lts as lts
-use Rattle.lists.proofs.check_end.Reads as check-end-reads
 
--- src/lib.rt:70:11
 check-end-requires : tie.Need-check-end-requires
 check-end-requires c κs = search needs
 
--- src/lib.rt:71:26
 enum-known-r : tie.Need-enum-known-r
 enum-known-r c = search needs
 
--- src/lib.rt:72:36
 enum-told : tie.Need-enum-told
 enum-told c = search needs
 
--- src/lib.rt:72:26
 check-end-requires-2 : tie.Need-check-end-requires-2
 check-end-requires-2 c κs = search needs
 
--- src/lib.rt:67:1
 returns : tie.Need-returns
-returns c = ?
+returns c =
+    let q = c .before .before .before .before .args .q in
+    ap (λ v. v then end-check Q q) (sym (c .before .r .given .1) ∙ c .before .before .before .check-end .ensures)
 
--- src/lib.rt:67:1
 returns-2 : tie.Need-returns-2
-returns-2 c = ?
+returns-2 c =
+    let q = c .before .before .before .before .args .q in
+    c .check-end2 .ensures ∙ ap (λ v. v then end-check Q q) (sym (c .before .enum-told .given .1) ∙ c .before .before .before .check-end .ensures)
 
 pub check-ends-spec : {M : Type 1} → statement M
 check-ends-spec =

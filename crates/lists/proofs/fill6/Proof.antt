@@ -1,78 +1,109 @@
+-- `lists::fill6` meets its contract. The invariant: m cells are stored, and s is the spot of place m; a turn stores one more and crosses the face that
+-- comes next. The measure is how many crossings are left. Assumes nothing.
+use mathlib.Core.Path.{_≡_, refl, sym, ap, _∙_, subst}
+use Prim.Native.Nat.{_+_, _*_, _-_, _≤_, _<_}
+use native.Mathlib.Omega.{arith}
+use lib.ListN.{length}
+use borrow.Author.Needs.{needs}
+use Rattle.lines.specs.Steps.{at, total}
+use Rattle.lines.specs.Preference.{rule-1}
+use Rattle.lines.specs.Lines.{differences, cells, six-cell}
+use Rattle.lines.specs.Crossings.{place}
+use Rattle.lines.specs.Decisions.{values}
+use Rattle.lines.proofs.Cells.{six-is, six-line-is, six-end}
+use Rattle.lines.proofs.Fractions.{place-on, place-start}
+use Rattle.lines.proofs.Centres.{centres-good}
+use Rattle.lists.specs.Lists.{filled}
+use Rattle.lists.specs.Way.{SpotAt}
+use Rattle.lists.proofs.Line.{can-cross}
+use Rattle.lists.proofs.Filling.{Filling, C, filled-one, filled-last, spot-start, six-turn}
 use Rattle.lists.proofs.fill6.Statement.{statement}
 use Rattle.lists.proofs.fill6.Tie as tie
-use Rattle.lists.proofs.fill6.Reads as reads
-use Rattle.lists.proofs.fill6.Lts as lts
-use Rattle.lists.proofs.crossed.Reads as crossed-reads
-use Rattle.lists.proofs.put.Reads as put-reads
-use Rattle.lists.proofs.way_of.Reads as way-of-reads
-use Rattle.tripod.proofs.first_values.Reads as first-values-reads
-use Rattle.tripod.proofs.next_face.Reads as next-face-reads
 
 abbrev Inv-loop : tie.InvT-loop
-Inv-loop out₀ w s₀ crossings m₀ at₀ out s m at = ?
+Inv-loop out₀ q w s₀ crossings m₀ at₀ out s m at = Filling (six-cell rule-1 (s₀ .at) q) (place (C (s₀ .at) q)) (s₀ .at) q crossings out₀ out s m at
 
 abbrev μ-loop : tie.MeasureT-loop
-μ-loop out₀ w s₀ crossings m₀ at₀ out s m at = ?
+μ-loop out₀ q w s₀ crossings m₀ at₀ out s m at = crossings - m
 
--- src/lib.rt:176:9
 way-of-requires : tie.Need-way-of-requires Inv-loop μ-loop
-way-of-requires c κs = ?
+way-of-requires c κs = search needs
 
--- src/lib.rt:177:9
 first-values-requires : tie.Need-first-values-requires Inv-loop μ-loop
-first-values-requires c κs = ?
+first-values-requires c κs = search needs
 
--- src/lib.rt:179:21
 add-crossings : tie.Need-add-crossings Inv-loop μ-loop
-add-crossings c = ?
+add-crossings c = search needs
 
--- src/lib.rt:179:21
 add-crossings-2 : tie.Need-add-crossings-2 Inv-loop μ-loop
-add-crossings-2 c = ?
+add-crossings-2 c = search needs
 
--- src/lib.rt:182:5
 loop-holds : tie.Need-loop-holds Inv-loop μ-loop
-loop-holds c = ?
+loop-holds c =
+    let s = c .before .before .before .before in
+    let p = s .args .p in
+    let q = s .args .q in
+    record {
+      most = omega arith;
+      spot = spot-start p q (place (C p q) 0) _ (place-start (C p q)) refl (c .before .before .first-values .ensures ∙ ap (λ D. values D (at 0 0 0)) (s .pre .0 .is));
+      stored = refl;
+      long = refl;
+      next-at = refl;
+    }
 
--- src/lib.rt:183:9
 put-requires : tie.Need-put-requires Inv-loop μ-loop
-put-requires c κs = ?
+put-requires c κs = search needs
 
--- src/lib.rt:184:27
 next-face-requires : tie.Need-next-face-requires Inv-loop μ-loop
-next-face-requires c κs = ?
+next-face-requires c κs = search needs
 
--- src/lib.rt:184:9
 crossed-requires : tie.Need-crossed-requires Inv-loop μ-loop
-crossed-requires c κs = ?
+crossed-requires c κs =
+    let l = c .before .before .before .before .before in
+    let s = l .before .before .before .before .before in
+    let k = s .pre .0 in
+    can-cross (s .args .p) (s .args .q) _ (l .before .before .before .before .way-of .ensures) (k .p-in) (k .q-in) _ _
+    (place-on (C (s .args .p) (s .args .q)) (centres-good rule-1 (differences (s .args .p) (s .args .q))) (l .loop .m) (omega (arith, ap total (k .is))) .1)
+    (l .loop .inv .spot)
 
--- src/lib.rt:185:9
 add-at : tie.Need-add-at Inv-loop μ-loop
-add-at c = ?
+add-at c = search needs
 
--- src/lib.rt:186:9
 add-m : tie.Need-add-m Inv-loop μ-loop
-add-m c = ?
+add-m c = search needs
 
--- src/lib.rt:182:5
 loop-less : tie.Need-loop-less Inv-loop μ-loop
-loop-less c = ?
+loop-less c = search needs
 
--- src/lib.rt:182:5
 loop-again : tie.Need-loop-again Inv-loop μ-loop
-loop-again c = ?
+loop-again c =
+    let l = c .before .before .before .before .before .before in
+    let s = l .before .before .before .before .before in
+    let k = s .pre .0 in
+    let p = s .args .p in
+    let q = s .args .q in
+    filled-one (six-cell rule-1 p q) (place (C p q)) p q _ _ (six-is rule-1 p q) (s .pre .1) _ _ _ _ (l .loop .m) _ (l .loop .inv) (omega arith)
+    (c .before .before .before .put .ensures)
+    (subst (SpotAt p q (place (C p q) (l .loop .m + 1))) (sym (c .crossed .ensures))
+    (six-turn p q _ (l .before .before .before .before .way-of .ensures) (l .loop .m) (l .loop .s) _ (omega (arith, ap total (k .is))) (l .loop .inv .spot) (c .before .next-face .ensures)))
 
--- src/lib.rt:188:5
 put-requires-2 : tie.Need-put-requires-2 Inv-loop μ-loop
-put-requires-2 c κs = ?
+put-requires-2 c κs = search needs
 
--- src/lib.rt:172:1
 same-length : tie.Need-same-length Inv-loop μ-loop
-same-length c = ?
+same-length c = search needs
 
--- src/lib.rt:172:1
 returns : tie.Need-returns Inv-loop μ-loop
-returns c = ?
+returns c =
+    let l = c .before .before .before .before in
+    let s = l .before .before .before .before .before in
+    let k = s .pre .0 in
+    let p = s .args .p in
+    let q = s .args .q in
+    let e = ap total (k .is) in
+    filled-last (six-cell rule-1 p q) (place (C p q)) p q _ _ (six-is rule-1 p q) (s .pre .1) _ _ _ (l .loop .m) _ (l .loop .inv) (omega arith)
+    (ap (six-cell rule-1 p q) e ∙ six-end rule-1 p q) (c .before .put2 .ensures)
+    ∙ ap (λ n. filled (cells (six-cell rule-1 p q) (n + 1)) (s .args .out .now)) e ∙ ap (λ x. filled x (s .args .out .now)) (sym (six-line-is rule-1 p q))
 
 pub fill6-spec : {M : Type 1} → statement M
 fill6-spec =

@@ -1,15 +1,27 @@
+-- `lists::in_limit` meets its contract: the two comparisons are those of the limit. Assumes nothing.
+use mathlib.Core.Path.{_≡_, sym, ap, _∙_}
+use mathlib.Core.Bool.{true, false}
+use lib.IntN.{ℤ, pos, negsuc}
+use lib.Signed.{leZ}
+use Rattle.cells.proofs.Machine.{held-is}
+use Rattle.lines.specs.Lines.{in-limit}
 use Rattle.lists.proofs.in_limit.Statement.{statement}
 use Rattle.lists.proofs.in_limit.Tie as tie
-use Rattle.lists.proofs.in_limit.Reads as reads
-use Rattle.lists.proofs.in_limit.Lts as lts
 
--- src/lib.rt:44:1
+-- the first comparison decides, or leaves it to the second
+upper-decides : (z : ℤ) → leZ (negsuc 8191) z ≡ true → in-limit z ≡ leZ z (pos 8191)
+upper-decides z h = rw h
+
+lower-fails : (z : ℤ) → leZ (negsuc 8191) z ≡ false → in-limit z ≡ false
+lower-fails z h = rw h
+
 returns : tie.Need-returns
-returns c = ?
+returns c =
+    let b = held-is _ (c .before .fits .v) in
+    ap (λ z. leZ z (pos 8191)) b ∙ sym (upper-decides (c .before .args .v) (sym (ap (leZ (negsuc 8191)) b) ∙ c .if1 .taken))
 
--- src/lib.rt:44:1
 returns-2 : tie.Need-returns-2
-returns-2 c = ?
+returns-2 c = c .if1 .left ∙ sym (lower-fails (c .before .args .v) (sym (ap (leZ (negsuc 8191)) (held-is _ (c .before .fits .v))) ∙ c .if1 .left))
 
 pub in-limit-spec : {M : Type 1} → statement M
 in-limit-spec = tie.close (tie.spec returns returns-2)

@@ -1,25 +1,22 @@
+-- `lists::leapt` meets its contract: at each of its steps every sum fits, since the long step does not pass Q. Assumes nothing.
+use mathlib.Core.Path.{_∙_, ap}
+use Rattle.lines.specs.Steps.{X, Y, Z}
+use Rattle.lists.specs.Way.{CanCross, crossed-where}
+use Rattle.lists.proofs.Line.{leap-first, leap-second, leap-third}
 use Rattle.lists.proofs.leapt.Statement.{statement}
 use Rattle.lists.proofs.leapt.Tie as tie
-use Rattle.lists.proofs.leapt.Reads as reads
-use Rattle.lists.proofs.leapt.Lts as lts
-use Rattle.lists.proofs.crossed_if.Reads as crossed-if-reads
 
--- src/lib.rt:153:9
 crossed-if-requires : tie.Need-crossed-if-requires
-crossed-if-requires c κs = ?
+crossed-if-requires c κs = leap-first _ _ _ (c .pre)
 
--- src/lib.rt:154:9
 crossed-if-requires-2 : tie.Need-crossed-if-requires-2
-crossed-if-requires-2 c κs = ?
+crossed-if-requires-2 c κs = rw (c .crossed-if .ensures) (leap-second _ _ _ (c .before .pre))
 
--- src/lib.rt:155:5
 crossed-if-requires-3 : tie.Need-crossed-if-requires-3
-crossed-if-requires-3 c κs = ?
+crossed-if-requires-3 c κs = rw (c .crossed-if2 .ensures, c .before .crossed-if .ensures) (leap-third _ _ _ (c .before .before .pre))
 
--- src/lib.rt:149:1
 returns : tie.Need-returns
-returns c = ?
+returns c = rw (c .crossed-if3 .ensures, c .before .crossed-if2 .ensures, c .before .before .crossed-if .ensures)
 
 pub leapt-spec : {M : Type 1} → statement M
-leapt-spec =
-    tie.close (tie.spec crossed-if-requires crossed-if-requires-2 crossed-if-requires-3 returns)
+leapt-spec = tie.close (tie.spec crossed-if-requires crossed-if-requires-2 crossed-if-requires-3 returns)

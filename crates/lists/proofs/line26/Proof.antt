@@ -1,69 +1,90 @@
+-- `lists::line26` meets its contract: each way out has the verdict that led there, and an accepted call is filled in. Assumes nothing.
+use mathlib.Core.Path.{_≡_, refl, sym, ap, _∙_, subst}
+use Prim.Native.Nat.{ℕ, _+_}
+use native.Mathlib.Omega.{arith}
+use Rattle.cells.specs.declared.Verdict.the-variants.{Fine}
+use Rattle.lines.specs.Lines.{differences, longest, line-26}
+use Rattle.lines.proofs.Cells.{length-26}
+use Rattle.tripod.specs.Tripod.{steps}
+use Rattle.lists.specs.declared.Listed.the-variants.{Cells}
+use Rattle.lists.specs.Lists.{ends-check, Line26}
+use Rattle.lists.proofs.Front.{refused-ends, refused-room, listed-all, ends-fine}
 use borrow.Author.Needs.{needs}
 use Rattle.lists.proofs.line26.Statement.{statement}
 use Rattle.lists.proofs.line26.Tie as tie
-use Rattle.lists.proofs.line26.Reads as reads
-use Rattle.lists.proofs.line26.Lts as lts
-use Rattle.lists.proofs.along.Reads as along-reads
-use Rattle.lists.proofs.check_ends.Reads as check-ends-reads
-use Rattle.lists.proofs.fill26.Reads as fill26-reads
-use Rattle.tripod.proofs.longest_axis.Reads as longest-axis-reads
-use Rattle.tripod.proofs.measured.Reads as measured-reads
 
--- src/lib.rt:244:11
 check-ends-requires : tie.Need-check-ends-requires
 check-ends-requires c κs = search needs
 
--- src/lib.rt:245:26
 enum-known-r : tie.Need-enum-known-r
 enum-known-r c = search needs
 
--- src/lib.rt:247:17
 enum-told : tie.Need-enum-told
 enum-told c = search needs
 
--- src/lib.rt:247:17
-measured-requires : tie.Need-measured-requires
-measured-requires c κs = ?
+-- where both ends have passed
+fine : (c : tie.After-enum-told) → ends-check (c .before .before .before .args .p) (c .before .before .before .args .q) ≡ Fine
+fine c = sym (c .before .before .check-ends .ensures) ∙ c .enum-told .given .1
 
--- src/lib.rt:248:17
+-- the last cell's number
+last-is : (c : tie.After-along) → c .along .result ≡ longest (steps (c .before .before .measured .result))
+last-is c = c .along .ensures ∙ c .before .longest-axis .ensures
+
+count : (c : tie.After-along) →
+    let s = c .before .before .before .before .before .before in
+    longest (differences (s .args .p) (s .args .q)) ≡ c .along .result
+count c = sym (last-is c ∙ ap longest (c .before .before .measured .ensures .0))
+
+measured-requires : tie.Need-measured-requires
+measured-requires c κs = ends-fine _ _ (fine c)
+
 longest-axis-requires : tie.Need-longest-axis-requires
 longest-axis-requires c κs = search needs
 
--- src/lib.rt:249:17
 along-requires : tie.Need-along-requires
 along-requires c κs = search needs
 
--- src/lib.rt:250:25
 add-cells : tie.Need-add-cells
 add-cells c = search needs
 
--- src/lib.rt:251:33
 cast-if1 : tie.Need-cast-if1
 cast-if1 c = search needs
 
--- src/lib.rt:251:28
 mul-if1 : tie.Need-mul-if1
 mul-if1 c = search needs
 
--- src/lib.rt:254:17
 fill26-requires : tie.Need-fill26-requires
-fill26-requires c κs = ?
+fill26-requires c κs =
+    let a = c .before .before in
+    let m = a .before .before in
+    let (hp, hq) = ends-fine _ _ (fine (m .before)) in
+    (record { p-in = hp; q-in = hq; is = m .measured .ensures .0; short = m .measured .ensures .1 }, a .before .longest-axis .ensures, last-is a, omega arith)
 
--- src/lib.rt:241:1
 returns : tie.Need-returns
-returns c = ?
+returns c =
+    let s = c .before .before .before .before in
+    refused-ends (line-26 (s .args .p) (s .args .q)) (s .args .p) (s .args .q) (s .args .out .now) _ (sym (c .before .before .before .check-ends .ensures) ∙ c .before .r .given .1)
 
--- src/lib.rt:241:1
 returns-2 : tie.Need-returns-2
-returns-2 c = ?
+returns-2 c =
+    let a = c .before in
+    let m = a .before .before in
+    let s = m .before .before .before .before in
+    refused-room (line-26 (s .args .p) (s .args .q)) (s .args .p) (s .args .q) (s .args .out .now) (fine (m .before))
+    (omega (arith, length-26 (s .args .p) (s .args .q), count a))
 
--- src/lib.rt:241:1
 same-length : tie.Need-same-length
 same-length c = search needs
 
--- src/lib.rt:241:1
 returns-3 : tie.Need-returns-3
-returns-3 c = ?
+returns-3 c =
+    let a = c .before .before .before .before in
+    let m = a .before .before in
+    let s = m .before .before .before .before in
+    let p = s .args .p in
+    let q = s .args .q in
+    subst (λ n. Line26 p q (s .args .out .now) (Cells n) (c .before .fill26 .last .0)) (length-26 p q ∙ ap (λ k. k + 1) (count a))
+    (listed-all (line-26 p q) p q (s .args .out .now) _ (fine (m .before)) (omega (arith, length-26 p q, count a)) (c .before .fill26 .ensures))
 
 pub line26-spec : {M : Type 1} → statement M
 line26-spec =

@@ -1,67 +1,85 @@
+-- `lists::line6` meets its contract: each way out has the verdict that led there, and an accepted call is filled in. Assumes nothing.
+use mathlib.Core.Path.{_≡_, refl, sym, ap, _∙_, subst}
+use Prim.Native.Nat.{ℕ, _+_}
+use native.Mathlib.Omega.{arith}
+use Rattle.cells.specs.declared.Verdict.the-variants.{Fine}
+use Rattle.lines.specs.Steps.{total}
+use Rattle.lines.specs.Preference.{rule-1}
+use Rattle.lines.specs.Lines.{differences, six-line}
+use Rattle.lines.proofs.Cells.{six-length}
+use Rattle.lists.specs.declared.Listed.the-variants.{Cells}
+use Rattle.lists.specs.Lists.{ends-check, Line6}
+use Rattle.lists.proofs.Front.{refused-ends, refused-room, listed-all, ends-fine}
 use borrow.Author.Needs.{needs}
 use Rattle.lists.proofs.line6.Statement.{statement}
 use Rattle.lists.proofs.line6.Tie as tie
-use Rattle.lists.proofs.line6.Reads as reads
-use Rattle.lists.proofs.line6.Lts as lts
-use Rattle.lists.proofs.check_ends.Reads as check-ends-reads
-use Rattle.lists.proofs.fill6.Reads as fill6-reads
-use Rattle.tripod.proofs.measured.Reads as measured-reads
 
--- src/lib.rt:225:11
 check-ends-requires : tie.Need-check-ends-requires
 check-ends-requires c κs = search needs
 
--- src/lib.rt:226:26
 enum-known-r : tie.Need-enum-known-r
 enum-known-r c = search needs
 
--- src/lib.rt:228:17
 enum-told : tie.Need-enum-told
 enum-told c = search needs
 
--- src/lib.rt:228:17
-measured-requires : tie.Need-measured-requires
-measured-requires c κs = ?
+-- where both ends have passed
+fine : (c : tie.After-enum-told) → ends-check (c .before .before .before .args .p) (c .before .before .before .args .q) ≡ Fine
+fine c = sym (c .before .before .check-ends .ensures) ∙ c .enum-told .given .1
 
--- src/lib.rt:229:25
+-- how many cells there are
+count : (c : tie.After-measured) →
+    let s = c .before .before .before .before in
+    total (differences (s .args .p) (s .args .q)) ≡ c .measured .result .a + c .measured .result .b + c .measured .result .c
+count c = sym (ap total (c .measured .ensures .0))
+
+measured-requires : tie.Need-measured-requires
+measured-requires c κs = ends-fine _ _ (fine c)
+
 add-cells : tie.Need-add-cells
 add-cells c = search needs
 
--- src/lib.rt:229:25
 add-cells-2 : tie.Need-add-cells-2
 add-cells-2 c = search needs
 
--- src/lib.rt:229:25
 add-cells-3 : tie.Need-add-cells-3
 add-cells-3 c = search needs
 
--- src/lib.rt:230:33
 cast-if1 : tie.Need-cast-if1
 cast-if1 c = search needs
 
--- src/lib.rt:230:28
 mul-if1 : tie.Need-mul-if1
 mul-if1 c = search needs
 
--- src/lib.rt:233:17
 fill6-requires : tie.Need-fill6-requires
-fill6-requires c κs = ?
+fill6-requires c κs =
+    let m = c .before .before .before .before in
+    let (hp, hq) = ends-fine _ _ (fine (m .before)) in
+    (record { p-in = hp; q-in = hq; is = m .measured .ensures .0; short = m .measured .ensures .1 }, omega arith)
 
--- src/lib.rt:222:1
 returns : tie.Need-returns
-returns c = ?
+returns c =
+    let s = c .before .before .before .before in
+    refused-ends (six-line rule-1 (s .args .p) (s .args .q)) (s .args .p) (s .args .q) (s .args .out .now) _ (sym (c .before .before .before .check-ends .ensures) ∙ c .before .r .given .1)
 
--- src/lib.rt:222:1
 returns-2 : tie.Need-returns-2
-returns-2 c = ?
+returns-2 c =
+    let m = c .before .before .before in
+    let s = m .before .before .before .before in
+    refused-room (six-line rule-1 (s .args .p) (s .args .q)) (s .args .p) (s .args .q) (s .args .out .now) (fine (m .before))
+    (omega (arith, six-length rule-1 (s .args .p) (s .args .q), count m))
 
--- src/lib.rt:222:1
 same-length : tie.Need-same-length
 same-length c = search needs
 
--- src/lib.rt:222:1
 returns-3 : tie.Need-returns-3
-returns-3 c = ?
+returns-3 c =
+    let m = c .before .before .before .before .before .before in
+    let s = m .before .before .before .before in
+    let p = s .args .p in
+    let q = s .args .q in
+    subst (λ n. Line6 p q (s .args .out .now) (Cells n) (c .before .fill6 .last .0)) (six-length rule-1 p q ∙ ap (λ k. k + 1) (count m))
+    (listed-all (six-line rule-1 p q) p q (s .args .out .now) _ (fine (m .before)) (omega (arith, six-length rule-1 p q, count m)) (c .before .fill6 .ensures))
 
 pub line6-spec : {M : Type 1} → statement M
 line6-spec =

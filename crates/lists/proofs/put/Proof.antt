@@ -1,46 +1,37 @@
+-- `lists::put` meets its contract: three stores, each within the slice, whose length stays. Assumes nothing.
+use native.Mathlib.Omega.{arith}
+use lib.ListN.{length-set}
 use borrow.Author.Needs.{needs}
 use Rattle.lists.proofs.put.Statement.{statement}
 use Rattle.lists.proofs.put.Tie as tie
-use Rattle.lists.proofs.put.Reads as reads
-use Rattle.lists.proofs.put.Lts as lts
 
--- src/lib.rt:166:5
 mul-x : tie.Need-mul-x
 mul-x c = search needs
 
--- src/lib.rt:166:5
 slice-set-from-x : tie.Need-slice-set-from-x
 slice-set-from-x c = search needs
 
--- src/lib.rt:167:9
 add-y : tie.Need-add-y
 add-y c = search needs
 
--- src/lib.rt:167:5
 mul-y : tie.Need-mul-y
 mul-y c = search needs
 
--- src/lib.rt:167:5
 slice-set-from-y : tie.Need-slice-set-from-y
-slice-set-from-y c = ?
+slice-set-from-y c = simp length-set (omega arith)
 
--- src/lib.rt:168:9
 add-z : tie.Need-add-z
 add-z c = search needs
 
--- src/lib.rt:168:5
 mul-z : tie.Need-mul-z
 mul-z c = search needs
 
--- src/lib.rt:168:5
 slice-set-from-z : tie.Need-slice-set-from-z
-slice-set-from-z c = ?
+slice-set-from-z c = simp length-set (omega arith)
 
--- src/lib.rt:159:1
 same-length : tie.Need-same-length
 same-length c = search needs
 
--- src/lib.rt:159:1
 returns : tie.Need-returns
 returns c = search needs
 

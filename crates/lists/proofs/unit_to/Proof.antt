@@ -1,15 +1,14 @@
+-- `lists::unit_to` meets its contract: the test is that of `unit`. Assumes nothing.
+use mathlib.Core.Path.{sym}
+use Rattle.cells.proofs.Machine.{le-held}
 use Rattle.lists.proofs.unit_to.Statement.{statement}
 use Rattle.lists.proofs.unit_to.Tie as tie
-use Rattle.lists.proofs.unit_to.Reads as reads
-use Rattle.lists.proofs.unit_to.Lts as lts
 
--- src/lib.rt:77:1
 returns : tie.Need-returns
-returns c = ?
+returns c = rw (le-held _ _ (c .before .fits .p) (c .before .fits .q) (c .if1 .taken))
 
--- src/lib.rt:77:1
 returns-2 : tie.Need-returns-2
-returns-2 c = ?
+returns-2 c = rw (le-held _ _ (c .before .fits .p) (c .before .fits .q) (c .if1 .left))
 
 pub unit-to-spec : {M : Type 1} → statement M
 unit-to-spec = tie.close (tie.spec returns returns-2)
