@@ -1,3 +1,4 @@
 pub mod Starred
 pub mod Lines
+pub mod Lists
 pub mod Words

@@ -252,12 +252,12 @@ pub fn line26(p: Cell, q: Cell, out: &mut [i32]) -> Listed
             let d = tripod::measured(p, q);
             let long = tripod::longest_axis(d);
             let last = along(d, long);
-            let cells = last + 1;
-            if out.len() < 3 * (cells as usize) {
+            let count = last + 1;
+            if out.len() < 3 * (count as usize) {
                 Listed::Refused(Refusal::Room)
             } else {
                 fill26(out, p, q, d, long, last);
-                Listed::Cells(cells)
+                Listed::Cells(count)
             }
         }
     }

@@ -44,8 +44,8 @@ longest-axis-requires c κs = search needs
 along-requires : tie.Need-along-requires
 along-requires c κs = search needs
 
-add-cells : tie.Need-add-cells
-add-cells c = search needs
+add-count : tie.Need-add-count
+add-count c = search needs
 
 cast-if1 : tie.Need-cast-if1
 cast-if1 c = search needs
@@ -96,7 +96,7 @@ line26-spec =
     measured-requires
     longest-axis-requires
     along-requires
-    add-cells
+    add-count
     cast-if1
     mul-if1
     fill26-requires

@@ -1,0 +1,67 @@
+-- How an answer is flattened for C: what document 01 says of it, as numbers. Assumes nothing.
+use Prim.Native.Nat.{ℕ}
+use mathlib.Core.Path.{_≡_}
+use mathlib.Core.List.{List}
+use mathlib.Core.Option.{Option, none, some}
+use lib.IntN.{ℤ}
+use Rattle.cells.specs.declared.Axis.{Axis}
+use Rattle.cells.specs.declared.Axis.the-variants.{X, Y, Z}
+use Rattle.cells.specs.declared.End.{End}
+use Rattle.cells.specs.declared.End.the-variants.{P, Q}
+use Rattle.cells.specs.declared.Part.{Part}
+use Rattle.cells.specs.declared.Part.the-variants.{OriginX, OriginY, OriginZ, Edge}
+use Rattle.cells.specs.declared.Cell.{Cell}
+use Rattle.cells.specs.declared.Refusal.{Refusal}
+use Rattle.cells.specs.Refusals.{Told, told}
+use Rattle.lists.specs.declared.Listed.{Listed}
+use Rattle.lists.specs.declared.Listed.the-variants.{Cells, Refused}
+use Rattle.lists.specs.Lists.{Lists}
+use Rattle.oatmarten.specs.declared.Flat.{Flat}
+use Rattle.oatmarten.specs.declared.OatCell.{OatCell}
+use Rattle.oatmarten.specs.declared.OatListed.{OatListed}
+
+-- an end: 1 P, 2 Q
+abbrev pub end-number : End → ℕ
+end-number P = 1
+end-number Q = 2
+
+-- an axis: 1 x, 2 y, 3 z
+abbrev pub axis-number : Axis → ℕ
+axis-number X = 1
+axis-number Y = 2
+axis-number Z = 3
+
+-- one of the four parts of a placement: 1 origin x, 2 origin y, 3 origin z, 4 the edge
+abbrev pub part-number : Part → ℕ
+part-number OriginX = 1
+part-number OriginY = 2
+part-number OriginZ = 3
+part-number Edge = 4
+
+-- 0 where nothing is said
+abbrev pub or-0 : {A : Type 0} → (A → ℕ) → Option A → ℕ
+or-0 f none = 0
+or-0 f (some a) = f a
+
+-- the axis, or the part of a placement
+abbrev pub which : Option Axis → Option Part → ℕ
+which none p = or-0 part-number p
+which (some a) p = axis-number a
+
+-- a refusal: its number, and what it says
+abbrev pub flat-refusal : Refusal → Flat
+flat-refusal r = record { number = told r .number; end = or-0 end-number (told r .end); axis = which (told r .axis) (told r .part) }
+
+abbrev pub flat-listed : Listed → OatListed
+flat-listed (Cells n) = record { refusal = 0; end = 0; axis = 0; count = n }
+flat-listed (Refused r) = record { refusal = flat-refusal r .number; end = flat-refusal r .end; axis = flat-refusal r .axis; count = 0 }
+
+-- the cell that C's struct means
+abbrev pub plain : OatCell → Cell
+plain c = record { x = c .x; y = c .y; z = c .z }
+
+-- a list call for C: the struct is the flattening of an answer that meets the list call's contract
+pub record FlatLists (line : List Cell) (p q : Cell) (entry : List ℤ) (r : OatListed) (exit : List ℤ) : Type 0 where
+  pub answer : Listed
+  pub meets : Lists line p q entry answer exit
+  pub flat : r ≡ flat-listed answer

@@ -1,0 +1,169 @@
+// The calls for C: each hands its inputs to the proved call and flattens the answer into a struct of numbers.
+ghost use mathlib.Core.Path.{_≡_};
+ghost use Rattle.lines.specs.Lines.{six-line, line-26};
+ghost use Rattle.lines.specs.Preference.{rule-1};
+ghost use Rattle.oatmarten.specs.Flat.{end-number, axis-number, part-number, flat-refusal, flat-listed, plain, FlatLists};
+use cells::Axis;
+use cells::Cell;
+use cells::End;
+use cells::Part;
+use cells::Refusal;
+use lists::Listed;
+
+// A cell.
+#[repr(C)]
+pub struct OatCell {
+    pub x: i32,
+    pub y: i32,
+    pub z: i32,
+}
+
+// The answer of a line list: the refusal's number (0: accepted), the end (1 P, 2 Q) and the axis (1 x, 2 y, 3 z) that it names, 0 for none; and the
+// number of cells.
+#[repr(C)]
+pub struct OatListed {
+    pub refusal: u32,
+    pub end: u32,
+    pub axis: u32,
+    pub count: u32,
+}
+
+// A refusal's number, end and axis as numbers.
+struct Flat {
+    pub number: u32,
+    pub end: u32,
+    pub axis: u32,
+}
+
+fn end_code(e: End) -> u32
+    ensures { λ r. ⌜ r ≡ end-number e ⌝ }
+{
+    match e {
+        End::P => 1,
+        End::Q => 2,
+    }
+}
+
+fn axis_code(a: Axis) -> u32
+    ensures { λ r. ⌜ r ≡ axis-number a ⌝ }
+{
+    match a {
+        Axis::X => 1,
+        Axis::Y => 2,
+        Axis::Z => 3,
+    }
+}
+
+fn part_code(p: Part) -> u32
+    ensures { λ r. ⌜ r ≡ part-number p ⌝ }
+{
+    match p {
+        Part::OriginX => 1,
+        Part::OriginY => 2,
+        Part::OriginZ => 3,
+        Part::Edge => 4,
+    }
+}
+
+// The end that a refusal names.
+fn end_of(r: Refusal) -> u32
+    ensures { λ n. ⌜ n ≡ flat-refusal r .end ⌝ }
+{
+    match r {
+        Refusal::Limit(e, _) => end_code(e),
+        Refusal::Count(_) => 0,
+        Refusal::Bytes => 0,
+        Refusal::Layer => 0,
+        Refusal::OffGrid(e, _) => end_code(e),
+        Refusal::Room => 0,
+        Refusal::Placement(_) => 0,
+        Refusal::NotFinite(e, _) => end_code(e),
+        Refusal::OffSurvey(e, _) => end_code(e),
+        Refusal::Record => 0,
+        Refusal::Version => 0,
+    }
+}
+
+// The axis, or the part of a placement, that it names.
+fn axis_of(r: Refusal) -> u32
+    ensures { λ n. ⌜ n ≡ flat-refusal r .axis ⌝ }
+{
+    match r {
+        Refusal::Limit(_, a) => axis_code(a),
+        Refusal::Count(a) => axis_code(a),
+        Refusal::Bytes => 0,
+        Refusal::Layer => 0,
+        Refusal::OffGrid(_, a) => axis_code(a),
+        Refusal::Room => 0,
+        Refusal::Placement(p) => part_code(p),
+        Refusal::NotFinite(_, a) => axis_code(a),
+        Refusal::OffSurvey(_, a) => axis_code(a),
+        Refusal::Record => 0,
+        Refusal::Version => 0,
+    }
+}
+
+fn flatten(r: Refusal) -> Flat
+    ensures { λ f. ⌜ f ≡ flat-refusal r ⌝ }
+{
+    let number = cells::number(r);
+    let end = end_of(r);
+    let axis = axis_of(r);
+    Flat {
+        number: number,
+        end: end,
+        axis: axis,
+    }
+}
+
+fn flat_listed(l: Listed) -> OatListed
+    ensures { λ r. ⌜ r ≡ flat-listed l ⌝ }
+{
+    match l {
+        Listed::Cells(n) => OatListed {
+            refusal: 0,
+            end: 0,
+            axis: 0,
+            count: n,
+        },
+        Listed::Refused(r) => {
+            let f = flatten(r);
+            OatListed {
+                refusal: f.number,
+                end: f.end,
+                axis: f.axis,
+                count: 0,
+            }
+        }
+    }
+}
+
+// A cell of C's as a cell.
+fn cell(c: OatCell) -> Cell
+    ensures { λ r. ⌜ r ≡ plain c ⌝ }
+{
+    let x = c.x;
+    let y = c.y;
+    let z = c.z;
+    Cell { x: x, y: y, z: z }
+}
+
+// The 6-line from p to q.
+#[no_mangle]
+pub extern "C" fn oat_line6(p: OatCell, q: OatCell, out: &mut [i32]) -> OatListed
+    ensures { λ r. ⌜ FlatLists (six-line rule-1 (plain p) (plain q)) (plain p) (plain q) (now (out .entry)) r (now (out .exit)) ⌝ }
+{
+    let from = cell(p);
+    let to = cell(q);
+    flat_listed(lists::line6(from, to, out))
+}
+
+// The 26-line from p to q.
+#[no_mangle]
+pub extern "C" fn oat_line26(p: OatCell, q: OatCell, out: &mut [i32]) -> OatListed
+    ensures { λ r. ⌜ FlatLists (line-26 (plain p) (plain q)) (plain p) (plain q) (now (out .entry)) r (now (out .exit)) ⌝ }
+{
+    let from = cell(p);
+    let to = cell(q);
+    flat_listed(lists::line26(from, to, out))
+}

@@ -1,0 +1,252 @@
+/* Reads calls, one a line, runs each over the shipped archive and prints its answer, a line each (tests/README.md).
+   Each call runs twice. Every lent slice stands between two unreadable pages, once flush with the page before it and once flush with the
+   page after it; the two answers and final memories must be the same. Slices that are lent for reading cannot be written at all.
+   The kit has no C headers, so what is called is declared here. */
+
+typedef int i32;
+typedef unsigned int u32;
+typedef unsigned long u64;
+typedef unsigned char u8;
+typedef __SIZE_TYPE__ size;
+
+/* ---- the C library */
+
+extern void *stdin;
+long getline(char **line, size *room, void *file);
+int puts(const char *text);
+int printf(const char *format, ...);
+int dprintf(int file, const char *format, ...);
+int vsnprintf(char *out, size room, const char *format, __builtin_va_list rest);
+int fflush(void *file);
+int strcmp(const char *a, const char *b);
+void *memset(void *at, int byte, size bytes);
+void *realloc(void *at, size bytes);
+void *mmap(void *at, size bytes, int access, int flags, int file, long offset);
+int mprotect(void *at, size bytes, int access);
+int munmap(void *at, size bytes);
+_Noreturn void exit(int status);
+
+enum { NO_ACCESS = 0, READ = 1, READ_WRITE = 3, PRIVATE_ANONYMOUS = 0x22 };
+
+/* ---- the archive (crates/oatmarten) */
+
+typedef struct { i32 x, y, z; } oat_cell;
+/* refusal 0: accepted; end: 0 none, 1 P, 2 Q; axis: 0 none, 1 x, 2 y, 3 z, 4 edge */
+typedef struct { u32 refusal, end, axis, count; } oat_listed;
+oat_listed oat_line6(oat_cell p, oat_cell q, i32 *out, size len);
+oat_listed oat_line26(oat_cell p, oat_cell q, i32 *out, size len);
+
+/* helpers that wait for the first call to use them */
+#define LATER __attribute__((unused))
+
+static _Noreturn void fail(const char *what) {
+    fflush(0);
+    dprintf(2, "tests/calls: %s\n", what);
+    exit(2);
+}
+
+static void *grown(void *at, size bytes) {
+    at = realloc(at, bytes);
+    if (!at) fail("no memory");
+    return at;
+}
+
+/* ---- the answer in the making, one for each placement */
+
+typedef struct { char *at; size length, room; } text;
+
+static text answers[2];
+static int placement; /* 0: flush with the page before, 1: flush with the page after */
+
+/* puts words behind the answer, at most 255 characters at a time */
+__attribute__((format(printf, 1, 2))) static void say(const char *format, ...) {
+    text *to = &answers[placement];
+    if (to->room - to->length < 256) to->at = grown(to->at, to->room = 2 * to->room + 256);
+    __builtin_va_list rest;
+    __builtin_va_start(rest, format);
+    to->length += (size)vsnprintf(to->at + to->length, 256, format, rest);
+    __builtin_va_end(rest);
+}
+
+static void say_refused(u32 number, u32 end, u32 axis) {
+    static const char *const ends[] = {"-", "P", "Q"}, *const axes[] = {"-", "x", "y", "z", "edge"};
+    say("refused %u %s %s", number, end < 3 ? ends[end] : "?", axis < 5 ? axes[axis] : "?");
+}
+
+/* ---- the numbers of the line, taken from the left */
+
+static u64 *numbers;
+static size given, taken;
+
+static u64 take_u64(void) {
+    if (taken == given) fail("a line has too few numbers");
+    return numbers[taken++];
+}
+
+static long take_between(long least, long most) {
+    long n = (long)take_u64();
+    if (n < least || n > most) fail("a number does not fit its type");
+    return n;
+}
+
+static i32 take_i32(void) { return (i32)take_between(-2147483648L, 2147483647L); }
+static size take_length(void) { return (size)take_between(0, 1L << 28); }
+LATER static u32 take_u32(void) { return (u32)take_between(0, 4294967295L); }
+LATER static u8 take_u8(void) { return (u8)take_between(0, 255); }
+LATER static double take_f64(void) { return ((union { u64 bits; double value; }){take_u64()}).value; }
+
+/* a word that holds this value until its request lands */
+static void take_fixed(long held) { take_between(held, held); }
+
+static oat_cell take_cell(void) {
+    i32 x = take_i32(), y = take_i32(), z = take_i32();
+    return (oat_cell){x, y, z};
+}
+
+/* ---- lent slices */
+
+/* a multiple of every page size that the harness may run on */
+enum { PAGE = 65536, SLACK = 0xA5 };
+
+typedef struct { u8 *data, *at; size held, bytes; } slice;
+
+/* so many bytes that can be read and written, flush with the unreadable page on one side */
+static slice lend(size bytes) {
+    slice s = {.held = (bytes + PAGE - 1) / PAGE * PAGE, .bytes = bytes};
+    u8 *map = mmap(0, s.held + 2 * PAGE, NO_ACCESS, PRIVATE_ANONYMOUS, -1, 0);
+    if (map == (u8 *)-1) fail("no memory to lend");
+    s.data = map + PAGE;
+    s.at = placement ? s.data + s.held - bytes : s.data;
+    if (s.held && mprotect(s.data, s.held, READ_WRITE)) fail("mprotect");
+    if (s.held) memset(s.data, SLACK, s.held);
+    return s;
+}
+
+/* from here on the slice can only be read */
+LATER static void only_read(slice s) {
+    if (s.held && mprotect(s.data, s.held, READ)) fail("mprotect");
+}
+
+/* takes the slice back: what stands beside it on its pages is as it was */
+static void take_back(slice s) {
+    for (u8 *b = s.data; b < s.data + s.held; b++)
+        if ((b < s.at || b >= s.at + s.bytes) && *b != SLACK) fail("a byte beside a lent slice was written");
+    munmap(s.data - PAGE, s.held + 2 * PAGE);
+}
+
+/* an array of bytes of the line: its length, then its members */
+LATER static slice lend_bytes(void) {
+    slice s = lend(take_length());
+    for (size n = 0; n < s.bytes; n++) s.at[n] = take_u8();
+    return s;
+}
+
+/* a grid of the line: its counts, then its bytes */
+typedef struct { u32 nx, ny, nz; slice cells; } grid;
+
+LATER static grid lend_grid(void) {
+    u32 nx = take_u32(), ny = take_u32(), nz = take_u32();
+    return (grid){nx, ny, nz, lend_bytes()};
+}
+
+/* room of so many bytes, each holding this value */
+LATER static slice lend_room(size bytes, u8 value) {
+    slice s = lend(bytes);
+    for (size n = 0; n < bytes; n++) s.at[n] = value;
+    return s;
+}
+
+/* room for so many numbers, each holding this value */
+static slice lend_numbers(size count, i32 value) {
+    slice s = lend(count * sizeof(i32));
+    for (size n = 0; n < count; n++) ((i32 *)s.at)[n] = value;
+    return s;
+}
+
+/* the final memory of a lent slice behind the answer; the slice is taken back */
+LATER static void say_bytes(slice s) {
+    say(" ;");
+    for (size n = 0; n < s.bytes; n++) say(" %u", s.at[n]);
+    take_back(s);
+}
+
+static void say_numbers(slice s) {
+    say(" ;");
+    for (size n = 0; n < s.bytes / sizeof(i32); n++) say(" %d", ((i32 *)s.at)[n]);
+    take_back(s);
+}
+
+/* ---- the calls */
+
+static void list(oat_listed line(oat_cell, oat_cell, i32 *, size), int takes_rule) {
+    oat_cell p = take_cell(), q = take_cell();
+    if (takes_rule) take_fixed(1);
+    size room = take_length();
+    slice out = lend_numbers(room, -77777);
+    oat_listed got = line(p, q, (i32 *)out.at, room);
+    if (got.refusal) say_refused(got.refusal, got.end, got.axis);
+    else say("ok %u", got.count);
+    /* an accepted call names no end and no axis, a refused one gives no count */
+    if (got.refusal ? got.count : got.end || got.axis) say(" stray %u %u %u", got.end, got.axis, got.count);
+    say_numbers(out);
+}
+
+static void six(void) { list(oat_line6, 1); }
+static void tw6(void) { list(oat_line26, 0); }
+
+static const struct { const char *name; void (*run)(void); } calls[] = {
+    {"six", six},
+    {"tw6", tw6},
+};
+
+/* ---- the lines of the input */
+
+/* splits the line: its name ends with 0 then, and its numbers stand in `numbers` */
+static void split(char *at) {
+    static size room;
+    given = 0;
+    while (*at && *at != ' ' && *at != '\n') at++;
+    int more = *at == ' ';
+    *at = 0;
+    while (more) {
+        at++;
+        int minus = *at == '-';
+        at += minus;
+        if (*at < '0' || *at > '9') fail("a word is not a number");
+        u64 n = 0;
+        for (; *at >= '0' && *at <= '9'; at++)
+            if (__builtin_mul_overflow(n, 10UL, &n) || __builtin_add_overflow(n, (u64)(*at - '0'), &n)) fail("a number has over 64 bits");
+        if (given == room) numbers = grown(numbers, (room = 2 * room + 1024) * sizeof(u64));
+        numbers[given++] = minus ? 0 - n : n;
+        more = *at == ' ';
+        if (!more && *at && *at != '\n') fail("a word is not a number");
+    }
+}
+
+static void answer(void run(void)) {
+    for (placement = 0; placement < 2; placement++) {
+        taken = answers[placement].length = 0;
+        run();
+        if (taken != given) fail("a line has too many numbers");
+    }
+    if (strcmp(answers[0].at, answers[1].at)) {
+        printf("the answer depends on where the slices stand\n  %s\n  %s\n", answers[0].at, answers[1].at);
+        fflush(0);
+        exit(1);
+    }
+    puts(answers[0].at);
+}
+
+int main(void) {
+    char *line = 0;
+    size room = 0;
+    while (getline(&line, &room, stdin) > 0) {
+        split(line);
+        size n = 0, known = sizeof calls / sizeof *calls;
+        while (n < known && strcmp(calls[n].name, line)) n++;
+        if (n < known) answer(calls[n].run);
+        else puts("unknown");
+        fflush(0);
+    }
+    return 0;
+}
