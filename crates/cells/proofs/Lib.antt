@@ -2,3 +2,4 @@ pub mod Refusals
 pub mod Signed
 pub mod Touching
 pub mod Machine
+pub mod Checks

@@ -1,0 +1,24 @@
+-- Tests in a row: where all is fine, each of them was. Assumes nothing.
+use mathlib.Core.Path.{_≡_, refl}
+use mathlib.Core.Bool.{Bool, true, false}
+use Prim.Native.Nat.{ℕ}
+use native.Mathlib.Omega.{arith}
+use Rattle.cells.specs.declared.Refusal.{Refusal}
+use Rattle.cells.specs.declared.Verdict.{Verdict}
+use Rattle.cells.specs.declared.Verdict.the-variants.{Fine, Refused}
+use Rattle.cells.specs.Checks.{refuse-when, _then_}
+
+refused-not-fine : {A : Type 0} {r : Refusal} → Refused r ≡ Fine → A
+refused-not-fine h = absurd (let z : _≡_ {A = ℕ} 0 1 = cc in omega arith)
+
+pub fine-first : (v w : Verdict) → (v then w) ≡ Fine → v ≡ Fine
+fine-first Fine w h = refl
+fine-first (Refused r) w h = h
+
+pub fine-rest : (v w : Verdict) → (v then w) ≡ Fine → w ≡ Fine
+fine-rest Fine w h = h
+fine-rest (Refused r) w h = refused-not-fine h
+
+pub passed : (t : Bool) (r : Refusal) → refuse-when t r ≡ Fine → t ≡ false
+passed true r h = refused-not-fine h
+passed false r h = refl

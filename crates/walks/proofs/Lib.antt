@@ -1,0 +1,6 @@
+pub mod Find
+pub mod Runs
+pub mod Numbers
+pub mod Inside
+pub mod Places
+pub mod Story

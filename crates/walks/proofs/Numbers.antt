@@ -1,0 +1,212 @@
+-- The walks over the numbers of the 6-line's cells: the working form, equal to the definition by cells. Assumes nothing.
+use mathlib.Core.Path.{_≡_, refl, sym, ap, ap₂, _∙_, subst}
+use mathlib.Core.Logic.{_⊎_, inl, inr, ⊎-elim, _≢_}
+use mathlib.Core.Bool.{Bool, true, false, cond, _||_}
+use mathlib.Core.List.{List, [], _∷_}
+use mathlib.Core.Option.{Option, none, some}
+use Prim.Native.Nat.{ℕ, zero, suc, _+_, _≤_, _<_}
+use native.Mathlib.Omega.{arith}
+use native.Mathlib.Numerals.{add-one}
+use native.Mathlib.Decide.{decLt}
+use lib.Dec.{eqb}
+use lib.ListN.{length}
+use borrow.Author.Tests.{eq-eqb, ne-eqb}
+use Rattle.cells.specs.declared.Cell.{Cell}
+use Rattle.cells.specs.declared.Counts.{Counts}
+use Rattle.cells.specs.Touching.{Touches}
+use Rattle.lines.specs.Steps.{Axis, X, Y, Z, Steps, total}
+use Rattle.lines.specs.Preference.{rule-1}
+use Rattle.lines.specs.Lines.{differences, longest, six-cell, cell-26, place-26}
+use Rattle.lines.proofs.Centres.{within-26, grows-26}
+use Rattle.lines.proofs.Cells.{six-start, six-end, six-different, six-at-26, end-26, skipped-touches}
+use Rattle.grids.specs.Grid.{byte-of, clear}
+use Rattle.walks.specs.Walks.{is-cell, number-of, six-count, count-26, after, long-or-plain, next-plain, next-adaptive, hit-at, walk, plain-walk, adaptive-walk}
+use Rattle.walks.specs.Answers.{last-of}
+use Rattle.walks.proofs.Find.{found, found-is, same-is-cell, other-is-not}
+use Rattle.walks.proofs.Runs.{stop, ends, visits, Rises, not-stopped, by-one}
+
+-- the last number, and the number of 26-line cell m
+abbrev pub last-number : Cell → Cell → ℕ
+last-number p q = total (differences p q)
+
+abbrev pub number-26 : Cell → Cell → ℕ → ℕ
+number-26 p q m = total (place-26 (differences p q) m)
+
+module _ (p q : Cell) where
+  abbrev f : ℕ → Cell
+  f = six-cell rule-1 p q
+
+  abbrev N : ℕ
+  N = last-number p q
+
+  -- Q is the last cell alone
+  is-q : (s : ℕ) → is-cell (f s) q ≡ eqb s N
+  is-q s =
+      elim (decLt s N) [
+        | yes lt ↦ differs (λ e. omega arith)
+        | no ge ↦ elim (decLt N s) [ yes gt ↦ differs (λ e. omega arith) | no le ↦ same (omega arith) ]
+      ]
+    where
+      differs : (s ≡ N → ⊥) → is-cell (f s) q ≡ eqb s N
+      differs ne = other-is-not (f s) q (λ e. ne (six-different rule-1 p q s N (e ∙ sym (six-end rule-1 p q)))) ∙ sym (ne-eqb s N ne)
+
+      same : s ≡ N → is-cell (f s) q ≡ eqb s N
+      same e = same-is-cell (f s) q (ap f e ∙ six-end rule-1 p q) ∙ sym (eq-eqb s N e)
+
+  pub six-found : (s : ℕ) → s ≤ N → number-of f (six-count p q) (f s) ≡ some s
+  six-found s le = found f (six-count p q) s (f s) (λ i j a b. six-different rule-1 p q i j) (omega arith) refl
+
+  pub plain-next : (s : ℕ) → s < N → next-plain p q (f s) ≡ f (suc s)
+  unfolding next-plain
+  plain-next s lt = ap (after f (f s)) (six-found s (omega arith)) ∙ ap f (add-one s)
+
+  -- a cell of the 6-line that is found in the 26-line is not its last, and its number is known
+  pub record Found26 (s m : ℕ) : Type 0 where
+    pub below : m < longest (differences p q)
+    pub number : s ≡ number-26 p q m
+    pub cell : f s ≡ cell-26 p q m
+
+  pub found-26 : (s m : ℕ) → s < N → number-of (cell-26 p q) (count-26 p q) (f s) ≡ some m → Found26 s m
+  found-26 s m lt h =
+      let (below, is) = found-is (cell-26 p q) (count-26 p q) (f s) m h in
+      let le : m ≤ longest (differences p q) = omega arith in
+      let e : s ≡ number-26 p q m = six-different rule-1 p q s (number-26 p q m) (is ∙ six-at-26 rule-1 p q m le) in
+      let ne : m ≢ longest (differences p q) = λ k. omega (arith, six-different rule-1 p q s N (is ∙ ap (cell-26 p q) k ∙ end-26 p q ∙ sym (six-end rule-1 p q))) in
+      record { below = omega arith; number = e; cell = is }
+
+module _ (n : Counts) (l : List ℕ) (p q : Cell) where
+  -- the number after s: by a long step where the byte is 0 and the cell is of the 26-line
+  abbrev pub go-by : ℕ → Option ℕ → ℕ
+  go-by s none = suc s
+  go-by s (some m) = number-26 p q (m + 1)
+
+  abbrev pub go : ℕ → ℕ
+  go s = cond (clear (byte-of n l (six-cell rule-1 p q s))) (go-by s (number-of (cell-26 p q) (count-26 p q) (six-cell rule-1 p q s))) (suc s)
+
+  abbrev pub solid-at : ℕ → Bool
+  solid-at s = hit-at n l (six-cell rule-1 p q s)
+
+  -- the ways of a step: to the next number, or a long step
+  pub data Way (s : ℕ) : ℕ → Type 0 where
+    face : Way s (suc s)
+    long : (m : ℕ) → clear (byte-of n l (six-cell rule-1 p q s)) ≡ true → Found26 p q s m → Way s (number-26 p q (m + 1))
+
+  pub way : (s : ℕ) → s < last-number p q → Way s (go s)
+  way s lt = by (clear (byte-of n l (six-cell rule-1 p q s))) refl (number-of (cell-26 p q) (count-26 p q) (six-cell rule-1 p q s)) refl
+    where
+      by :
+          (t : Bool) → clear (byte-of n l (six-cell rule-1 p q s)) ≡ t → (o : Option ℕ) → number-of (cell-26 p q) (count-26 p q) (six-cell rule-1 p q s) ≡ o →
+          Way s (cond t (go-by s o) (suc s))
+      by false e o h = face
+      by true e none h = face
+      by true e (some m) h = long m e (found-26 p q s m lt h)
+
+  pub go-rises : Rises (last-number p q) go
+  go-rises = record { up = λ s lt. up lt (way s lt); most = λ s lt. most lt (way s lt) }
+    where
+      up : {s t : ℕ} → s < last-number p q → Way s t → s < t
+      up lt face = omega arith
+      up lt (long m e h) = omega (arith, h .number, grows-26 (differences p q) m (h .below))
+
+      most : {s t : ℕ} → s < last-number p q → Way s t → t ≤ last-number p q
+      most lt face = omega arith
+      most lt (long m e h) =
+          let w = within-26 (differences p q) (m + 1) (omega (arith, h .below)) in
+          omega (arith, w X, w Y, w Z)
+
+  -- what a step passes over shares a face or an edge with a clear cell that it left
+  pub skipped : (s t : ℕ) → s < last-number p q → s < t → t < go s → (clear (byte-of n l (six-cell rule-1 p q s)) ≡ true) × Touches 2 (six-cell rule-1 p q s) (six-cell rule-1 p q t)
+  skipped s t lt lo hi = over (way s lt) lo hi
+    where
+      over : {u : ℕ} → Way s u → s < t → t < u → (clear (byte-of n l (six-cell rule-1 p q s)) ≡ true) × Touches 2 (six-cell rule-1 p q s) (six-cell rule-1 p q t)
+      over face lo hi = absurd (omega arith)
+      over (long m e h) lo hi = (e, rw (h .cell) (skipped-touches rule-1 p q m t (h .below) (omega (arith, h .number)) hi))
+
+  pub adaptive-next : (s : ℕ) → s < last-number p q → next-adaptive n l p q (six-cell rule-1 p q s) ≡ six-cell rule-1 p q (go s)
+  unfolding next-adaptive
+  adaptive-next s lt = by (clear (byte-of n l (six-cell rule-1 p q s))) (number-of (cell-26 p q) (count-26 p q) (six-cell rule-1 p q s)) refl
+    where
+      by :
+          (t : Bool) (o : Option ℕ) → number-of (cell-26 p q) (count-26 p q) (six-cell rule-1 p q s) ≡ o →
+          cond t (long-or-plain p q (six-cell rule-1 p q s) o) (next-plain p q (six-cell rule-1 p q s)) ≡ six-cell rule-1 p q (cond t (go-by s o) (suc s))
+      by false o h = plain-next p q s lt
+      by true none h = plain-next p q s lt
+      by true (some m) h = six-at-26 rule-1 p q (m + 1) (omega (arith, found-26 p q s m lt h .below))
+
+-- ---- a walk by cells is a walk by numbers
+
+module _ (n : Counts) (l : List ℕ) (p q : Cell) (next : Cell → Cell) (g : ℕ → ℕ) (rises : Rises (last-number p q) g) (steps : (s : ℕ) → s < last-number p q → next (six-cell rule-1 p q s) ≡ six-cell rule-1 p q (g s)) where
+  abbrev F : ℕ → Cell
+  F = six-cell rule-1 p q
+
+  abbrev stops : ℕ → Bool
+  stops s = stop (solid-at n l p q) (last-number p q) s
+
+  -- the number of its cells, and its last cell
+  pub record Followed (s fuel : ℕ) : Type 0 where
+    pub long : length (walk (hit-at n l) next q fuel (F s)) ≡ visits (solid-at n l p q) (last-number p q) g fuel s
+    pub last : (c : Cell) → last-of c (walk (hit-at n l) next q fuel (F s)) ≡ F (ends (solid-at n l p q) (last-number p q) g fuel s)
+
+  pub followed : (fuel s : ℕ) → s ≤ last-number p q → last-number p q < s + fuel → Followed s fuel
+  unfolding walk visits ends
+  followed zero s le enough = absurd (omega arith)
+  followed (suc fuel) s le enough =
+      let e : (hit-at n l (F s) || is-cell (F s) q) ≡ stops s = ap (λ b. solid-at n l p q s || b) (is-q p q s) in
+      let r = turn (stops s) refl (λ lt. followed fuel (g s) (rises .most s lt) (omega (arith, rises .up s lt))) in
+      record {
+        long = subst (λ t. length (F s ∷ cond t [] (walk (hit-at n l) next q fuel (next (F s)))) ≡ suc (cond (stops s) 0 (visits (solid-at n l p q) (last-number p q) g fuel (g s)))) (sym e) (r .0);
+        last = λ c. subst (λ t. last-of (F s) (cond t [] (walk (hit-at n l) next q fuel (next (F s)))) ≡ F (cond (stops s) s (ends (solid-at n l p q) (last-number p q) g fuel (g s)))) (sym e) (r .1);
+      }
+    where
+      turn :
+          (u : Bool) → stops s ≡ u → (s < last-number p q → Followed (g s) fuel) →
+          (length (F s ∷ cond u [] (walk (hit-at n l) next q fuel (next (F s)))) ≡ suc (cond u 0 (visits (solid-at n l p q) (last-number p q) g fuel (g s)))) ×
+          (last-of (F s) (cond u [] (walk (hit-at n l) next q fuel (next (F s)))) ≡ F (cond u s (ends (solid-at n l p q) (last-number p q) g fuel (g s))))
+      turn true h ih = (refl, refl)
+      turn false h ih =
+          let ne : s ≢ last-number p q = not-stopped (solid-at n l p q s) s (last-number p q) h .1 in
+          let lt : s < last-number p q = omega arith in
+          let r = ih lt in (
+            ap suc (ap (λ w. length (walk (hit-at n l) next q fuel w)) (steps s lt) ∙ r .long),
+            ap (λ w. last-of (F s) (walk (hit-at n l) next q fuel w)) (steps s lt) ∙ r .last (F s),
+          )
+
+  -- the whole walk, from P on
+  whole : Followed 0 (six-count p q)
+  whole = followed (six-count p q) 0 (omega arith) (omega arith)
+
+  pub whole-long : length (walk (hit-at n l) next q (six-count p q) p) ≡ visits (solid-at n l p q) (last-number p q) g (six-count p q) 0
+  whole-long = ap (λ w. length (walk (hit-at n l) next q (six-count p q) w)) (sym (six-start rule-1 p q)) ∙ whole .long
+
+  pub whole-last : (c : Cell) → last-of c (walk (hit-at n l) next q (six-count p q) p) ≡ F (ends (solid-at n l p q) (last-number p q) g (six-count p q) 0)
+  whole-last c = ap (λ w. last-of c (walk (hit-at n l) next q (six-count p q) w)) (sym (six-start rule-1 p q)) ∙ whole .last c
+
+-- the plain walk goes from number to number, the adaptive one by `go`: the number where each ends, and its reads
+module _ (n : Counts) (l : List ℕ) (p q : Cell) where
+  abbrev pub plain-end : ℕ
+  plain-end = ends (solid-at n l p q) (last-number p q) suc (six-count p q) 0
+
+  abbrev pub adaptive-end : ℕ
+  adaptive-end = ends (solid-at n l p q) (last-number p q) (go n l p q) (six-count p q) 0
+
+  abbrev pub plain-reads : ℕ
+  plain-reads = visits (solid-at n l p q) (last-number p q) suc (six-count p q) 0
+
+  abbrev pub adaptive-reads : ℕ
+  adaptive-reads = visits (solid-at n l p q) (last-number p q) (go n l p q) (six-count p q) 0
+
+  pub plain-length : length (plain-walk n l p q) ≡ plain-reads
+  unfolding plain-walk
+  plain-length = whole-long n l p q (next-plain p q) suc (by-one (last-number p q)) (plain-next p q)
+
+  pub plain-last : (c : Cell) → last-of c (plain-walk n l p q) ≡ six-cell rule-1 p q plain-end
+  unfolding plain-walk
+  plain-last = whole-last n l p q (next-plain p q) suc (by-one (last-number p q)) (plain-next p q)
+
+  pub adaptive-length : length (adaptive-walk n l p q) ≡ adaptive-reads
+  unfolding adaptive-walk
+  adaptive-length = whole-long n l p q (next-adaptive n l p q) (go n l p q) (go-rises n l p q) (adaptive-next n l p q)
+
+  pub adaptive-last : (c : Cell) → last-of c (adaptive-walk n l p q) ≡ six-cell rule-1 p q adaptive-end
+  unfolding adaptive-walk
+  adaptive-last = whole-last n l p q (next-adaptive n l p q) (go n l p q) (go-rises n l p q) (adaptive-next n l p q)

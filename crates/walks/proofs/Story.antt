@@ -1,0 +1,154 @@
+-- The two walks' answers, by the numbers of the 6-line's cells where they end: what demand 3 rests on. Assumes nothing.
+use mathlib.Core.Path.{_≡_, refl, sym, ap, ap₂, _∙_, subst}
+use mathlib.Core.Logic.{_⊎_, inl, inr, ⊎-elim}
+use mathlib.Core.Bool.{Bool, true, false, cond}
+use mathlib.Core.List.{List}
+use Prim.Native.Nat.{ℕ, zero, suc, _+_, _≤_, _<_}
+use native.Mathlib.Omega.{arith, both-ways}
+use native.Mathlib.Decide.{decLt}
+use lib.ListN.{length}
+use Rattle.cells.specs.declared.Cell.{Cell}
+use Rattle.cells.specs.declared.Counts.{Counts}
+use Rattle.cells.specs.declared.Verdict.the-variants.{Fine}
+use Rattle.cells.specs.Touching.{Touches}
+use Rattle.lines.specs.Steps.{Axis, Steps, total, same}
+use Rattle.lines.specs.Crossings.{Course, next, place}
+use Rattle.lines.specs.Preference.{rule-1}
+use Rattle.lines.specs.Lines.{differences, centres, longest, six-cell, place-26}
+use Rattle.lines.proofs.Steps.{Cmp, here, other, cmp, same-self, bump}
+use Rattle.lines.proofs.Fractions.{place-start, place-suc, place-end}
+use Rattle.lines.proofs.Centres.{centres-good, longest-axis, is-place-26, moved-longest}
+use Rattle.grids.specs.Grid.{byte-of, solid}
+use Rattle.walks.specs.declared.Place.{Place}
+use Rattle.walks.specs.declared.Hit.{Hit}
+use Rattle.walks.specs.declared.FirstHit.{FirstHit}
+use Rattle.walks.specs.declared.FirstHit.the-variants.{Clear, Hit as Blocked}
+use Rattle.walks.specs.Walks.{hit-at, number-of, six-count, plain-walk, adaptive-walk}
+use Rattle.walks.specs.Answers.{entered-at, place-by, place-of, last-of, answer-of, answer-by, walk-check, plain, adaptive}
+use Rattle.walks.specs.Safe.{InGrid, NoClearTouches}
+use Rattle.walks.proofs.Runs.{stop, stopped, ended, Ended, by-one, ends, visits, visits-all, at-least, plain-first, never-earlier, never-invented, same-end, no-more-visits}
+use Rattle.walks.proofs.Numbers.{last-number, number-26, six-found, go, go-rises, solid-at, skipped, way, Way, face, long, plain-end, adaptive-end, plain-reads, adaptive-reads, plain-length, plain-last, adaptive-length, adaptive-last}
+use Rattle.walks.proofs.Inside.{Accepted, six-inside}
+
+module _ (n : Counts) (l : List ℕ) (p q : Cell) where
+  abbrev f : ℕ → Cell
+  f = six-cell rule-1 p q
+
+  abbrev N : ℕ
+  N = last-number p q
+
+  -- the answer of a walk that ends at number e after r reads
+  abbrev pub answer-at : ℕ → ℕ → FirstHit
+  answer-at e r =
+      cond (hit-at n l (f e))
+      (Blocked (record { cell = f e; code = byte-of n l (f e); place = entered-at p q e; reads = r }))
+      (Clear r)
+
+  answer-is : (cells : List Cell) (e r : ℕ) → e ≤ N → last-of p cells ≡ f e → length cells ≡ r → answer-of n l p q cells ≡ answer-at e r
+  unfolding answer-of place-of
+  answer-is cells e r le last many =
+      ap₂ (λ w k. cond (hit-at n l w) (Blocked (record { cell = w; code = byte-of n l w; place = place-of p q w; reads = k })) (Clear k)) last many
+      ∙ ap (λ a. cond (hit-at n l (f e)) (Blocked (record { cell = f e; code = byte-of n l (f e); place = a; reads = r })) (Clear r)) (ap (place-by p q) (six-found p q e le))
+
+  plain-ended : Ended (solid-at n l p q) N suc (by-one N) 0 (plain-end n l p q) (plain-reads n l p q)
+  plain-ended = ended (solid-at n l p q) N suc (by-one N) (six-count p q) 0 (omega arith) (omega arith)
+
+  adaptive-ended : Ended (solid-at n l p q) N (go n l p q) (go-rises n l p q) 0 (adaptive-end n l p q) (adaptive-reads n l p q)
+  adaptive-ended = ended (solid-at n l p q) N (go n l p q) (go-rises n l p q) (six-count p q) 0 (omega arith) (omega arith)
+
+  pub plain-below : plain-end n l p q ≤ N
+  plain-below = plain-ended .most
+
+  pub adaptive-below : adaptive-end n l p q ≤ N
+  adaptive-below = adaptive-ended .most
+
+  pub plain-answer : plain n l p q ≡ answer-by (walk-check n (length l) p q) (answer-at (plain-end n l p q) (plain-reads n l p q))
+  unfolding plain
+  plain-answer = ap (answer-by (walk-check n (length l) p q)) (answer-is (plain-walk n l p q) _ _ plain-below (plain-last n l p q p) (plain-length n l p q))
+
+  pub adaptive-answer : adaptive n l p q ≡ answer-by (walk-check n (length l) p q) (answer-at (adaptive-end n l p q) (adaptive-reads n l p q))
+  unfolding adaptive
+  adaptive-answer = ap (answer-by (walk-check n (length l) p q)) (answer-is (adaptive-walk n l p q) _ _ adaptive-below (adaptive-last n l p q p) (adaptive-length n l p q))
+
+  -- ---- in any grid
+
+  pub no-earlier : plain-end n l p q ≤ adaptive-end n l p q
+  no-earlier = never-earlier (solid-at n l p q) N (go n l p q) (go-rises n l p q)
+
+  pub not-invented : solid-at n l p q (adaptive-end n l p q) ≡ true → solid-at n l p q (plain-end n l p q) ≡ true
+  not-invented = never-invented (solid-at n l p q) N (go n l p q) (go-rises n l p q)
+
+  -- ---- where no clear cell touches a solid one by face or edge
+
+  pub ends-alike : (k : ℕ) → 2 ≤ k → InGrid n p → InGrid n q → NoClearTouches k n l → adaptive-end n l p q ≡ plain-end n l p q
+  ends-alike k two hp hq safe = same-end (solid-at n l p q) N (go n l p q) (go-rises n l p q) nothing-solid
+    where
+      wider : {c d : Cell} → Touches 2 c d → Touches k c d
+      wider t = record { by-one = t .by-one; differing = t .differing; within = omega (arith, t .within) }
+
+      nothing-solid : (s t : ℕ) → s < N → s < t → t < go n l p q s → solid-at n l p q t ≡ false
+      nothing-solid s t lt lo hi = by (solid-at n l p q t) refl
+        where
+          by : (b : Bool) → solid-at n l p q t ≡ b → solid-at n l p q t ≡ false
+          by false e = e
+          by true e =
+              let (clear, touch) = skipped n l p q s t lt lo hi in
+              let most : go n l p q s ≤ N = go-rises n l p q .most s lt in
+              absurd (safe .none (f s) (f t) (six-inside n p q hp hq s (omega arith)) (six-inside n p q hp hq t (omega arith)) clear e (wider touch))
+
+  pub reads-no-more : adaptive-end n l p q ≡ plain-end n l p q → adaptive-reads n l p q ≤ plain-reads n l p q
+  reads-no-more = no-more-visits (solid-at n l p q) N (go n l p q) (go-rises n l p q)
+
+  -- ---- with no hit
+
+  -- a walk that is not stopped by a solid cell ends at Q
+  ends-at-q : (e : ℕ) → stop (solid-at n l p q) N e ≡ true → solid-at n l p q e ≡ false → e ≡ N
+  ends-at-q e s h =
+      ⊎-elim (λ hit. absurd (let z : _≡_ {A = ℕ} 0 1 = ap (λ b. cond b 1 0) (sym h ∙ hit) in omega arith)) (λ last. last)
+      (stopped (solid-at n l p q e) e N s)
+
+  -- the plain walk then passed every cell, none of them solid
+  pub plain-clear : solid-at n l p q (plain-end n l p q) ≡ false → (s : ℕ) → s ≤ N → solid-at n l p q s ≡ false
+  plain-clear h s le =
+      let e = ends-at-q (plain-end n l p q) (plain-ended .stops) h in
+      elim (decLt s (plain-end n l p q)) [
+        | yes lt ↦ plain-first (solid-at n l p q) N suc (by-one N) s lt
+        | no ge ↦ ap (solid-at n l p q) (both-ways s (plain-end n l p q) (omega arith) (omega arith)) ∙ h
+      ]
+
+  pub plain-clear-reads : solid-at n l p q (plain-end n l p q) ≡ false → plain-reads n l p q ≡ N + 1
+  plain-clear-reads h =
+      omega (arith, ends-at-q (plain-end n l p q) (plain-ended .stops) h, visits-all (solid-at n l p q) N (six-count p q) 0 (omega arith) (omega arith))
+
+  pub adaptive-clear-most : solid-at n l p q (adaptive-end n l p q) ≡ false → adaptive-reads n l p q ≤ N + 1
+  adaptive-clear-most h = omega (arith, ends-at-q (adaptive-end n l p q) (adaptive-ended .stops) h, adaptive-ended .few)
+
+  -- each step moves along the longest axis by at most one
+  pub adaptive-clear-least : solid-at n l p q (adaptive-end n l p q) ≡ false → longest (differences p q) + 1 ≤ adaptive-reads n l p q
+  adaptive-clear-least h =
+      let e = ends-at-q (adaptive-end n l p q) (adaptive-ended .stops) h in
+      let w : μ (adaptive-end n l p q) + 1 ≤ μ 0 + adaptive-reads n l p q = at-least (solid-at n l p q) N (go n l p q) (go-rises n l p q) μ (λ s lt. grows s lt (way n l p q s lt)) (six-count p q) 0 (omega arith) (omega arith) in
+      let z : μ 0 ≡ 0 = place-start (centres rule-1 (differences p q)) a in
+      let y : μ (adaptive-end n l p q) ≡ longest (differences p q) = ap μ e ∙ place-end (centres rule-1 (differences p q)) (centres-good rule-1 (differences p q)) a ∙ is-longest in
+      omega (arith, w)
+    where
+      a : Axis
+      a = longest-axis (differences p q) .0
+
+      is-longest : differences p q a ≡ longest (differences p q)
+      is-longest = longest-axis (differences p q) .1
+
+      μ : ℕ → ℕ
+      μ s = place (centres rule-1 (differences p q)) s a
+
+      at-most-one : {m b : Axis} → Cmp m b → same m b ≤ 1
+      at-most-one {m} here = omega (arith, same-self m)
+      at-most-one (other e f) = omega arith
+
+      -- 26-line cell m has moved by m along it
+      at-26 : (m : ℕ) → m ≤ longest (differences p q) → μ (number-26 p q m) ≡ m
+      at-26 m le = sym (is-place-26 (differences p q) rule-1 m le a) ∙ rw is-longest (moved-longest (longest (differences p q)) m le)
+
+      grows : (s : ℕ) {t : ℕ} → s < N → Way n l p q s t → μ t ≤ μ s + 1
+      grows s lt face = rw (place-suc (centres rule-1 (differences p q)) s) (omega (arith, at-most-one (cmp (next (centres rule-1 (differences p q)) (place (centres rule-1 (differences p q)) s)) a)))
+      grows s lt (long m e h) = omega (arith, at-26 m (omega (arith, h .below)), at-26 (m + 1) (omega (arith, h .below)), ap μ (h .number))

@@ -1,0 +1,112 @@
+-- Document 01: the answer of a first-hit call, from its walk. "Place of a hit" and "Reads"; refusals 2, 3, then 5 (P before Q; x, y, z).
+-- Assumes nothing.
+use Prim.Native.Nat.{ℕ, zero, suc, _+_, _-_, _*_}
+use mathlib.Core.Path.{_≡_}
+use mathlib.Core.Bool.{Bool, cond, _||_}
+use mathlib.Core.List.{List, [], _∷_}
+use mathlib.Core.Option.{Option, none, some}
+use mathlib.Core.Logic.{_⊎_, inl, inr}
+use lib.IntN.{ℤ, pos}
+use lib.Signed.{ltZ, leZ}
+use lib.ListN.{length}
+use Rattle.cells.specs.declared.Axis.{Axis}
+use Rattle.cells.specs.declared.Axis.the-variants.{X, Y, Z}
+use Rattle.cells.specs.declared.End.{End}
+use Rattle.cells.specs.declared.End.the-variants.{P, Q}
+use Rattle.cells.specs.declared.Cell.{Cell}
+use Rattle.cells.specs.declared.Counts.{Counts}
+use Rattle.cells.specs.declared.Refusal.the-variants.{OffGrid}
+use Rattle.cells.specs.declared.Verdict.{Verdict}
+use Rattle.cells.specs.declared.Verdict.the-variants.{Fine, Refused}
+use Rattle.cells.specs.Checks.{refuse-when, _then_}
+use Rattle.cells.specs.Refusals.{Told, told}
+use Rattle.lines.specs.Crossings.{Course, next, place}
+use Rattle.lines.specs.Preference.{rule-1}
+use Rattle.lines.specs.Lines.{differences, centres, six-cell}
+use Rattle.grids.specs.Grid.{shape, byte-of}
+use Rattle.walks.specs.declared.Place.{Place}
+use Rattle.walks.specs.declared.Hit.{Hit}
+use Rattle.walks.specs.declared.FirstHit.{FirstHit}
+use Rattle.walks.specs.declared.FirstHit.the-variants.{Clear, Hit as Blocked, Refused as NotWalked}
+use Rattle.walks.specs.Walks.{hit-at, number-of, six-count, plain-walk, adaptive-walk}
+
+-- ---- the place of a hit
+
+-- "0 over 1 if the cell is P, else 2i-1 over 2D of the crossing by which the 6-line enters that cell": face i of the axis along which cell s
+-- steps on
+abbrev pub entered-at : Cell → Cell → ℕ → Place
+entered-at p q zero = record { num = 0; den = 1 }
+entered-at p q (suc s) =
+    let c : Course = centres rule-1 (differences p q) in
+    let a : Axis = next c (place c s) in
+    record { num = 2 * place c (suc s) a - 1; den = 2 * differences p q a }
+
+-- by the cell's number in the 6-line
+abbrev pub place-by : Cell → Cell → Option ℕ → Place
+place-by p q none = entered-at p q 0
+place-by p q (some s) = entered-at p q s
+
+unfoldable pub place-of : Cell → Cell → Cell → Place
+unfolding number-of six-cell next place
+place-of p q w = place-by p q (number-of (six-cell rule-1 p q) (six-count p q) w)
+
+-- ---- the answer of a walk
+
+-- its last cell
+abbrev pub last-of : Cell → List Cell → Cell
+last-of c [] = c
+last-of c (d ∷ l) = last-of d l
+
+-- a hit where its last cell is solid, else clear; "the number of cells of the walk so defined, its last included"
+unfoldable pub answer-of : Counts → List ℕ → Cell → Cell → List Cell → FirstHit
+unfolding place-of
+answer-of n l p q cells =
+    let w : Cell = last-of p cells in
+    cond (hit-at n l w)
+    (Blocked (record { cell = w; code = byte-of n l w; place = place-of p q w; reads = length cells }))
+    (Clear (length cells))
+
+-- ---- refusals
+
+-- "an end outside the grid"
+abbrev pub off-axis : ℤ → ℕ → Bool
+off-axis v count = ltZ v (pos 0) || leZ (pos count) v
+
+-- refusal 5 (x, y, z), for one end
+abbrev pub grid-check : End → Counts → Cell → Verdict
+grid-check e n c =
+    refuse-when (off-axis (c .x) (n .nx)) (OffGrid e X) then
+    refuse-when (off-axis (c .y) (n .ny)) (OffGrid e Y) then
+    refuse-when (off-axis (c .z) (n .nz)) (OffGrid e Z)
+
+-- 2, 3, then 5 (P before Q)
+unfoldable pub walk-check : Counts → ℕ → Cell → Cell → Verdict
+unfolding shape
+walk-check n bytes p q = shape n bytes then grid-check P n p then grid-check Q n q
+
+abbrev pub answer-by : Verdict → FirstHit → FirstHit
+answer-by Fine a = a
+answer-by (Refused r) a = NotWalked r
+
+-- ---- the two calls
+
+unfoldable pub plain : Counts → List ℕ → Cell → Cell → FirstHit
+unfolding walk-check answer-of plain-walk
+plain n l p q = answer-by (walk-check n (length l) p q) (answer-of n l p q (plain-walk n l p q))
+
+unfoldable pub adaptive : Counts → List ℕ → Cell → Cell → FirstHit
+unfolding walk-check answer-of adaptive-walk
+adaptive n l p q = answer-by (walk-check n (length l) p q) (answer-of n l p q (adaptive-walk n l p q))
+
+-- their contracts
+pub record PlainHit (n : Counts) (l : List ℕ) (p q : Cell) (r : FirstHit) : Type 0 where
+  pub says : r ≡ plain n l p q
+
+pub record AdaptiveHit (n : Counts) (l : List ℕ) (p q : Cell) (r : FirstHit) : Type 0 where
+  pub says : r ≡ adaptive n l p q
+
+-- each case of the answer: what is said of a refusal, the reads, or the hit's values
+abbrev pub told-hit : FirstHit → Told ⊎ (ℕ ⊎ Hit)
+told-hit (NotWalked r) = inl (told r)
+told-hit (Clear reads) = inr (inl reads)
+told-hit (Blocked h) = inr (inr h)

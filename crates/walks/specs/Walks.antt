@@ -1,0 +1,71 @@
+-- Document 01, "Adaptive walk" and "Reads": the plain and the adaptive walk from P to Q through a grid, as lists of cells. They differ in what
+-- comes next alone. Assumes nothing.
+use Prim.Native.Nat.{ℕ, zero, suc, _+_}
+use mathlib.Core.Bool.{Bool, true, false, cond, _&&_, _||_}
+use mathlib.Core.List.{List, [], _∷_}
+use mathlib.Core.Option.{Option, none, some}
+use lib.IntN.{ℤ}
+use lib.Signed.{leZ}
+use Rattle.cells.specs.declared.Cell.{Cell}
+use Rattle.cells.specs.declared.Counts.{Counts}
+use Rattle.lines.specs.Steps.{total}
+use Rattle.lines.specs.Preference.{rule-1}
+use Rattle.lines.specs.Lines.{differences, six-cell, longest, cell-26}
+use Rattle.grids.specs.Grid.{byte-of, clear, solid}
+
+-- two cells are one
+abbrev pub is-same : ℤ → ℤ → Bool
+is-same a b = leZ a b && leZ b a
+
+abbrev pub is-cell : Cell → Cell → Bool
+is-cell c d = is-same (c .x) (d .x) && (is-same (c .y) (d .y) && is-same (c .z) (d .z))
+
+-- which of the cells f 0 to f (n - 1) is w
+unfoldable pub number-of : (ℕ → Cell) → ℕ → Cell → Option ℕ
+number-of f zero w = none
+number-of f (suc n) w = cond (is-cell w (f n)) (some n) (number-of f n w)
+
+-- how many cells the 6-line and the 26-line have
+abbrev pub six-count : Cell → Cell → ℕ
+six-count p q = total (differences p q) + 1
+
+abbrev pub count-26 : Cell → Cell → ℕ
+count-26 p q = longest (differences p q) + 1
+
+-- the cell after the one that was found, or w itself
+abbrev pub after : (ℕ → Cell) → Cell → Option ℕ → Cell
+after f w none = w
+after f w (some s) = f (s + 1)
+
+-- "go to the next 6-line cell"
+unfoldable pub next-plain : Cell → Cell → Cell → Cell
+unfolding number-of six-cell
+next-plain p q w = after (six-cell rule-1 p q) w (number-of (six-cell rule-1 p q) (six-count p q) w)
+
+-- "if w is 26-line cell m, go to 26-line cell m+1. Else go to the next 6-line cell"
+abbrev pub long-or-plain : Cell → Cell → Cell → Option ℕ → Cell
+long-or-plain p q w none = next-plain p q w
+long-or-plain p q w (some m) = cell-26 p q (m + 1)
+
+-- "if the byte is 0 and w is 26-line cell m, go to 26-line cell m+1. Else go to the next 6-line cell"
+unfoldable pub next-adaptive : Counts → List ℕ → Cell → Cell → Cell → Cell
+unfolding number-of cell-26 next-plain
+next-adaptive n l p q w = cond (clear (byte-of n l w)) (long-or-plain p q w (number-of (cell-26 p q) (count-26 p q) w)) (next-plain p q w)
+
+-- the one test of a cell: "byte 2 or more, hit"
+abbrev pub hit-at : Counts → List ℕ → Cell → Bool
+hit-at n l w = solid (byte-of n l w)
+
+-- "byte 2 or more, hit. Else if w is Q, clear. Else" what comes next. The number of cells is bounded by that of the 6-line.
+unfoldable pub walk : (Cell → Bool) → (Cell → Cell) → Cell → ℕ → Cell → List Cell
+walk hit next q zero w = []
+walk hit next q (suc fuel) w = w ∷ cond (hit w || is-cell w q) [] (walk hit next q fuel (next w))
+
+-- "The plain walk is the 6-line to its first solid cell."
+unfoldable pub plain-walk : Counts → List ℕ → Cell → Cell → List Cell
+unfolding walk next-plain
+plain-walk n l p q = walk (hit-at n l) (next-plain p q) q (six-count p q) p
+
+unfoldable pub adaptive-walk : Counts → List ℕ → Cell → Cell → List Cell
+unfolding walk next-adaptive
+adaptive-walk n l p q = walk (hit-at n l) (next-adaptive n l p q) q (six-count p q) p

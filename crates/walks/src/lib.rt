@@ -1,0 +1,24 @@
+// Theory only: the plain and the adaptive walk stand in specs/, the laws about them in proofs/. The types are the answer of a first-hit call.
+use cells::Cell;
+use cells::Refusal;
+
+// The place of a hit: the fraction of the way at which the line enters the cell, not reduced.
+pub struct Place {
+    pub num: u32,
+    pub den: u32,
+}
+
+// The first solid cell of a walk.
+pub struct Hit {
+    pub cell: Cell,
+    pub code: u8,
+    pub place: Place,
+    pub reads: u32,
+}
+
+// The answer of a first-hit call: clear with the number of reads, a hit, or a refusal.
+pub enum FirstHit {
+    Clear(u32),
+    Hit(Hit),
+    Refused(Refusal),
+}
