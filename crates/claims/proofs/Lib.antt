@@ -1,4 +1,6 @@
+pub mod Words
 pub mod Starred
 pub mod Lines
 pub mod Lists
-pub mod Words
+pub mod Grids
+pub mod Points

@@ -4,8 +4,17 @@ use mathlib.Core.Path.{_≡_}
 use mathlib.Core.List.{List, [], _∷_}
 use lib.IntN.{pos, negℤ}
 use Rattle.cells.specs.declared.Cell.{Cell}
+use Rattle.cells.specs.declared.Counts.{Counts}
 use Rattle.lines.specs.Preference.{rule-1}
 use Rattle.lines.specs.Lines.{six-line, line-26}
+use Rattle.grids.specs.Marks.{marked}
+use Rattle.walks.specs.declared.FirstHit.{FirstHit}
+use Rattle.walks.specs.declared.FirstHit.the-variants.{Clear, Hit as Blocked}
+use Rattle.walks.specs.Answers.{plain, adaptive}
+
+-- counts
+abbrev pub counts : ℕ → ℕ → ℕ → Counts
+counts nx ny nz = record { nx = nx; ny = ny; nz = nz }
 
 -- the cell (x, y, z)
 abbrev pub at : ℕ → ℕ → ℕ → Cell
@@ -15,15 +24,24 @@ at x y z = record { x = pos x; y = pos y; z = pos z }
 abbrev pub at-minus : ℕ → ℕ → ℕ → Cell
 at-minus x y z = record { x = negℤ (pos x); y = pos y; z = pos z }
 
--- a row: the ends P and Q, and the cells of the line between them
+-- the hit at a cell, with its code, place and reads
+abbrev pub hit : Cell → ℕ → ℕ → ℕ → ℕ → FirstHit
+hit c code num den reads = Blocked (record { cell = c; code = code; place = record { num = num; den = den }; reads = reads })
+
+-- a row: the ends P and Q and the cells of the line between them; counts, bytes, and the bytes marked; or a grid, the ends, and what the plain and
+-- the adaptive walk answer
 pub data Row : Type 0 where
   six : Cell → Cell → List Cell → Row
   twenty-six : Cell → Cell → List Cell → Row
+  marks : Counts → List ℕ → List ℕ → Row
+  walks : Counts → List ℕ → Cell → Cell → FirstHit → FirstHit → Row
 
 -- what a row says
 abbrev pub Holds : Row → Type 0
 Holds (six p q l) = six-line rule-1 p q ≡ l
 Holds (twenty-six p q l) = line-26 p q ≡ l
+Holds (marks n l m) = marked 3 n l ≡ m
+Holds (walks n l p q a b) = (plain n l p q ≡ a) × (adaptive n l p q ≡ b)
 
 -- every row of a table holds
 abbrev pub Every : List Row → Type 0
@@ -42,4 +60,16 @@ table =
     ∷ twenty-six (at 0 0 0) (at 3 1 0) (at 0 0 0 ∷ at 1 0 0 ∷ at 2 1 0 ∷ at 3 1 0 ∷ [])
     ∷ six (at 5 6 7) (at 5 6 7) (at 5 6 7 ∷ [])
     ∷ twenty-six (at 5 6 7) (at 5 6 7) (at 5 6 7 ∷ [])
+    -- the program's venue: its marks; its walks, unmarked and marked
+    ∷ marks (counts 4 2 1) (0 ∷ 0 ∷ 0 ∷ 0 ∷ 0 ∷ 2 ∷ 0 ∷ 0 ∷ []) (1 ∷ 1 ∷ 1 ∷ 0 ∷ 1 ∷ 2 ∷ 1 ∷ 0 ∷ [])
+    ∷ walks (counts 4 2 1) (0 ∷ 0 ∷ 0 ∷ 0 ∷ 0 ∷ 2 ∷ 0 ∷ 0 ∷ []) (at 0 0 0) (at 3 1 0) (hit (at 1 1 0) 2 1 2 3) (Clear 4)
+    ∷ walks (counts 4 2 1) (1 ∷ 1 ∷ 1 ∷ 0 ∷ 1 ∷ 2 ∷ 1 ∷ 0 ∷ []) (at 0 0 0) (at 3 1 0) (hit (at 1 1 0) 2 1 2 3) (hit (at 1 1 0) 2 1 2 3)
+    -- equal ends: one cell, one read
+    ∷ walks (counts 4 2 1) (1 ∷ 1 ∷ 1 ∷ 0 ∷ 1 ∷ 2 ∷ 1 ∷ 0 ∷ []) (at 3 1 0) (at 3 1 0) (Clear 1) (Clear 1)
+    -- complete marks, both clear, the adaptive walk reads fewer
+    ∷ walks (counts 3 2 1) (0 ∷ 0 ∷ 0 ∷ 0 ∷ 0 ∷ 0 ∷ []) (at 0 0 0) (at 2 1 0) (Clear 4) (Clear 3)
+    -- missing marks: a long step lands on the hit
+    ∷ walks (counts 6 3 1) (0 ∷ 0 ∷ 0 ∷ 0 ∷ 0 ∷ 0 ∷ 0 ∷ 0 ∷ 2 ∷ 0 ∷ 0 ∷ 0 ∷ 0 ∷ 0 ∷ 0 ∷ 0 ∷ 0 ∷ 0 ∷ []) (at 0 0 0) (at 5 2 0) (hit (at 2 1 0) 2 3 10 4) (hit (at 2 1 0) 2 3 10 3)
+    -- missing marks: the adaptive walk is clear and reads more than the plain one
+    ∷ walks (counts 3 2 1) (0 ∷ 0 ∷ 0 ∷ 0 ∷ 2 ∷ 0 ∷ []) (at 0 1 0) (at 2 0 0) (hit (at 1 1 0) 2 1 4 2) (Clear 3)
     ∷ []

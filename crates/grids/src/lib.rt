@@ -1,4 +1,8 @@
-// The grid: its shape, its layers, near marks and their completeness.
+// The grid: its shape and its layers. Its definitions (specs/) are those of near marks and their completeness too; their calls are in `marks`.
+ghost use mathlib.Core.Path.{_≡_};
+ghost use lib.ListN.{length};
+ghost use Rattle.grids.specs.Grid.{bad-count, shape, bad-layer, layer-check, layer-part, layer};
+use cells::Axis;
 use cells::Counts;
 use cells::Refusal;
 use cells::Verdict;
@@ -14,4 +18,75 @@ pub enum Completeness {
     Yes,
     No,
     Refused(Refusal),
+}
+
+fn bad_count(n: u32) -> bool
+    ensures { λ r. ⌜ r ≡ bad-count n ⌝ }
+{
+    if n == 0 { true } else { 1024 < n }
+}
+
+// Refusals 2 and 3.
+pub fn shape(n: Counts, bytes: usize) -> Verdict
+    ensures { λ r. ⌜ r ≡ shape n bytes ⌝ }
+{
+    if bad_count(n.nx) {
+        return Verdict::Refused(Refusal::Count(Axis::X));
+    }
+    if bad_count(n.ny) {
+        return Verdict::Refused(Refusal::Count(Axis::Y));
+    }
+    if bad_count(n.nz) {
+        return Verdict::Refused(Refusal::Count(Axis::Z));
+    }
+    if bytes == (n.nx as usize) * (n.ny as usize) * (n.nz as usize) {
+        Verdict::Fine
+    } else {
+        Verdict::Refused(Refusal::Bytes)
+    }
+}
+
+fn bad_layer(n: Counts, z: i32) -> bool
+    ensures { λ r. ⌜ r ≡ bad-layer n z ⌝ }
+{
+    if z < 0 { true } else { n.nz <= z as u32 }
+}
+
+// Refusals 2, 3, then 4.
+fn layer_check(n: Counts, bytes: usize, z: i32) -> Verdict
+    ensures { λ r. ⌜ r ≡ layer-check n bytes z ⌝ }
+{
+    let v = shape(n, bytes);
+    let Verdict::Fine = v else {
+        return v;
+    };
+    if bad_layer(n, z) {
+        return Verdict::Refused(Refusal::Layer);
+    }
+    v
+}
+
+// Where the layer z lies in the slice, or why there is none: the partner of `layer`.
+pub fn layer_part(n: Counts, cells: &[u8], z: i32) -> LayerPart
+    ensures { λ r. ⌜ r ≡ layer-part n (length (now (cells .entry))) z ⌝ }
+{
+    match layer_check(n, cells.len(), z) {
+        Verdict::Fine => {
+            let row = n.nx as usize;
+            let long = row * (n.ny as usize);
+            let start = (z as usize) * long;
+            LayerPart::Part(start, long)
+        }
+        Verdict::Refused(r) => LayerPart::Refused(r),
+    }
+}
+
+// The layer z: the caller's own nx·ny bytes, or the empty part where it is refused.
+pub fn layer(n: Counts, cells: &[u8], z: i32) -> &[u8]
+    ensures { λ r. ⌜ now r ≡ layer n (now (cells .entry)) z ⌝ }
+{
+    let LayerPart::Part(start, long) = layer_part(n, cells, z) else {
+        return &cells[..0];
+    };
+    &cells[start..start + long]
 }

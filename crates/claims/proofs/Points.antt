@@ -1,0 +1,136 @@
+-- The claims about a surveyed point's cell, each from its law; the table's rows by computation. Assumes nothing.
+use Prim.Native.Nat.{ℕ, _≤_}
+use mathlib.Core.Path.{_≡_, refl, sym, ap, subst, _∙_}
+use mathlib.Core.Bool.{false}
+use mathlib.Core.Option.{none, some}
+use native.Mathlib.Omega.{arith}
+use lib.IntN.{ℤ, pos}
+use lib.Ieee.{Float, le, lt, ofInt, div, sub, neg, toBits}
+use Rattle.cells.specs.declared.Cell as cell
+use Rattle.cells.specs.declared.Counts.{Counts}
+use Rattle.cells.specs.declared.End.the-variants.{P}
+use Rattle.cells.specs.declared.Axis.{Axis}
+use Rattle.cells.specs.declared.Axis.the-variants.{X, Y, Z}
+use Rattle.cells.specs.Refusals.{at-end}
+use Rattle.cells.specs.Touching.{on}
+use Rattle.lines.proofs.Cells.{same-cell}
+use Rattle.sights.specs.declared.Lookup.the-variants.{Cell}
+use Rattle.sights.specs.declared.Placement.{Placement}
+use Rattle.sights.specs.declared.Point.{Point}
+use Rattle.sights.specs.Quotient.{outside, cell-number}
+use Rattle.sights.specs.Search.{Inside}
+use Rattle.sights.specs.Survey.{Tested, quotients, cell-at, cell-of}
+use Rattle.sights.specs.Answers.{Said, said}
+use Rattle.sights.proofs.Whole.{whole-exact}
+use Rattle.sights.proofs.Finite.{quotient-no-nan}
+use Rattle.sights.proofs.Numbers.{one-number, number-whole-part, number-found, number-in, cell-not-outside, outside-exactly}
+use Rattle.sights.proofs.Survey.{Ranges, counts-range, placed, point-fine}
+use Rattle.sights.proofs.Lookups.{cell-given, cell-found}
+use Rattle.sights.proofs.Answers.{said-one}
+use Rattle.claims.specs.Points.{OneAnswer, Coordinate, InItsCell, Finite, TheCell, Outside, Exact, Shares, Refuted, Every, table, cube, placement, metres, tenths, point, cell-is, refused}
+
+pub one-answer : (n : Counts) (at : Placement) (p : Point) → OneAnswer n at p
+one-answer n at p = record { alone = λ r s e f. e ∙ sym f; told-apart = λ r e. said-one r (cell-of n at p) e }
+
+-- ---- the cell
+
+-- where q is inside, the definition's number is the coordinate
+coordinate : (count : ℕ) (q : Float) → Inside count q → Coordinate count q (pos (cell-number count q))
+coordinate count q h =
+    let small = h .small in
+    let (below, there) = number-in count q h in
+    record {
+      number = cell-number count q;
+      same = refl;
+      below = below;
+      there = there;
+      only = λ m r i. one-number q m (cell-number count q) r (omega arith) i there;
+      part = number-whole-part q (cell-number count q) (omega arith) there;
+    }
+
+-- a coordinate is the definition's number, and its quotient is not outside
+coordinate-is : (count : ℕ) (q : Float) (z : ℤ) → count ≤ 1024 → Coordinate count q z → z ≡ pos (cell-number count q)
+coordinate-is count q z small k = k .same ∙ ap pos (sym (number-found count (k .number) q (omega arith) (k .below) (k .there)))
+
+coordinate-inside : (count : ℕ) (q : Float) (z : ℤ) → count ≤ 1024 → Coordinate count q z → outside count q ≡ false
+coordinate-inside count q z small k = cell-not-outside q count (k .number) (omega arith) (k .below) (k .there)
+
+-- so a cell with these coordinates is the definition's
+cell-is-at : (n : Counts) (q : Point) (c : cell.Cell) → Ranges n → InItsCell n q c → c ≡ cell-at n q
+cell-is-at n q c range i = same-cell c (cell-at n q) each
+  where
+    each : (a : Axis) → on c a ≡ on (cell-at n q) a
+    each X = coordinate-is (n .nx) (q .x) (c .x) (range .x .1) (i .x)
+    each Y = coordinate-is (n .ny) (q .y) (c .y) (range .y .1) (i .y)
+    each Z = coordinate-is (n .nz) (q .z) (c .z) (range .z .1) (i .z)
+
+pub the-cell : (n : Counts) (at : Placement) (p : Point) → TheCell n at p
+the-cell n at p = record { given = given; found = found }
+  where
+    given : (c : cell.Cell) → cell-of n at p ≡ Cell c → InItsCell n (quotients at p) c
+    given c h =
+        let (tested, inside, same) = cell-given n at p c h in
+        subst (InItsCell n (quotients at p)) (sym same)
+        (record { x = coordinate (n .nx) _ (inside .x); y = coordinate (n .ny) _ (inside .y); z = coordinate (n .nz) _ (inside .z) })
+
+    found : (c : cell.Cell) → Tested n at → Finite p → InItsCell n (quotients at p) c → cell-of n at p ≡ Cell c
+    found c t f i =
+        let range = counts-range n (t .counts) in
+        let fine =
+        point-fine P n p (quotients at p) (f .x) (f .y) (f .z) (coordinate-inside (n .nx) _ (c .x) (range .x .1) (i .x))
+        (coordinate-inside (n .ny) _ (c .y) (range .y .1) (i .y)) (coordinate-inside (n .nz) _ (c .z) (range .z .1) (i .z)) in
+        cell-found n at p t fine ∙ ap Cell (sym (cell-is-at n (quotients at p) c range i))
+
+-- ---- outside, and exact conversion
+
+pub outside-holds : (n : Counts) (at : Placement) (p : Point) → Outside n at p
+outside-holds n at p =
+    record {
+      numbers = λ t f.
+          let l = placed at (t .placed) in (
+            quotient-no-nan (p .x) (at .ox) (at .edge) (f .x) (l .x) (l .edge) (l .above),
+            quotient-no-nan (p .y) (at .oy) (at .edge) (f .y) (l .y) (l .edge) (l .above),
+            quotient-no-nan (p .z) (at .oz) (at .edge) (f .z) (l .z) (l .edge) (l .above),
+          );
+      exactly = λ count q small p. outside-exactly q count (omega arith) p;
+    }
+
+pub conversion-exact : (k : ℕ) → Exact k
+conversion-exact k = record { value = whole-exact k }
+
+pub shares : Shares
+unfolding toBits div ofInt
+shares = record { half = refl; third = refl; start = refl }
+
+-- ---- the table, and wrong answers
+
+pub surveyed : Every table
+unfolding cell-of le lt ofInt div sub neg
+surveyed = (refl, (refl, (refl, (refl, (refl, (refl, (refl, (refl, (refl, (refl, (refl, (refl, (refl, (refl, (refl, (refl, (refl, tt)))))))))))))))))
+
+-- what the definition says at the two inputs
+at-one-and-a-half : said (cell-of (cube 4) (placement (metres 0) (metres 1)) (point (tenths 15) (metres 0) (metres 0))) ≡ cell-is 1 0 0
+unfolding cell-of le lt ofInt div sub
+at-one-and-a-half = refl
+
+at-the-count : said (cell-of (cube 4) (placement (metres 0) (metres 1)) (point (metres 4) (metres 0) (metres 0))) ≡ refused (at-end 9 P X)
+unfolding cell-of le lt ofInt div sub
+at-the-count = refl
+
+-- the x of an answer's cell, and whether there is one
+x-of : Said → ℤ
+x-of s = elim (s .cell) [ some c ↦ c .x | none ↦ pos 0 ]
+
+is-cell : Said → ℕ
+is-cell s = elim (s .cell) [ some c ↦ 1 | none ↦ 0 ]
+
+pub refuted : Refuted
+unfolding x-of is-cell
+refuted =
+    record {
+      always-first-cell = λ e. apart (ap x-of (sym at-one-and-a-half ∙ e));
+      count-accepted = λ e. let z : _≡_ {A = ℕ} 0 1 = ap is-cell (sym at-the-count ∙ e) in omega arith;
+    }
+  where
+    apart : pos 1 ≡ pos 0 → ⊥
+    apart e = let z : _≡_ {A = ℕ} 1 0 = cc in omega arith

@@ -1,0 +1,156 @@
+-- What is claimed of a surveyed point's cell (document 01, "From metres to cells"), for every counts, placement and point. Assumes nothing.
+use Prim.Native.Nat.{ℕ, _^_, _≤_, _<_}
+use mathlib.Core.Path.{_≡_}
+use mathlib.Core.Bool.{true, false}
+use mathlib.Core.Logic.{_↔_}
+use mathlib.Core.List.{List, [], _∷_}
+use mathlib.Core.Option.{none, some}
+use lib.IntN.{ℤ, pos, negsuc}
+use lib.Ieee.{Float, nan, inf, fin, binary64, div, neg, isNan, toUnsigned, toBits}
+use lib.Ieee.Exact.{HasValue}
+use lib.Ieee.Scale.{finite}
+use Rattle.cells.specs.declared.Axis.the-variants.{X, Y, Z}
+use Rattle.cells.specs.declared.Cell as cell
+use Rattle.cells.specs.declared.Counts.{Counts}
+use Rattle.cells.specs.declared.End.the-variants.{P}
+use Rattle.cells.specs.declared.Part.{Part}
+use Rattle.cells.specs.declared.Part.the-variants.{OriginX, Edge}
+use Rattle.cells.specs.declared.Axis.{Axis}
+use Rattle.cells.specs.Refusals.{Told, at-end}
+use Rattle.sights.specs.declared.Lookup.{Lookup}
+use Rattle.sights.specs.declared.Lookup.the-variants.{Cell}
+use Rattle.sights.specs.declared.Placement.{Placement}
+use Rattle.sights.specs.declared.Point.{Point}
+use Rattle.sights.specs.Quotient.{whole, outside, in-cell, share-of}
+use Rattle.sights.specs.Survey.{Tested, quotients, cell-of}
+use Rattle.sights.specs.Answers.{Said, said}
+
+-- 1. One answer for each input; and what document 01 has for an answer tells which it is.
+pub record OneAnswer (n : Counts) (at : Placement) (p : Point) : Type 0 where
+  pub alone : (r s : Lookup) → r ≡ cell-of n at p → s ≡ cell-of n at p → r ≡ s
+  pub told-apart : (r : Lookup) → said r ≡ said (cell-of n at p) → r ≡ cell-of n at p
+
+-- 2. On one axis: the coordinate z is a whole number k below the count with k ≤ q < k+1, and no other whole number (up to 2^53) is.
+-- It is q's whole part.
+pub record Coordinate (count : ℕ) (q : Float) (z : ℤ) : Type 0 where
+  pub number : ℕ
+  pub same : z ≡ pos number
+  pub below : number < count
+  pub there : in-cell q number ≡ true
+  pub only : (m : ℕ) → m < 2 ^ 53 → in-cell q m ≡ true → m ≡ number
+  pub part : toUnsigned 32 q ≡ number
+
+-- on the three axes
+pub record InItsCell (n : Counts) (q : Point) (c : cell.Cell) : Type 0 where
+  pub x : Coordinate (n .nx) (q .x) (c .x)
+  pub y : Coordinate (n .ny) (q .y) (c .y)
+  pub z : Coordinate (n .nz) (q .z) (c .z)
+
+-- all three surveyed values are finite
+pub record Finite (p : Point) : Type 0 where
+  pub x : finite (p .x) ≡ true
+  pub y : finite (p .y) ≡ true
+  pub z : finite (p .z) ≡ true
+
+-- 2. An answer that is a cell is the cell where the point's quotients lie; and where there is such a cell, it is the answer.
+pub record TheCell (n : Counts) (at : Placement) (p : Point) : Type 0 where
+  pub given : (c : cell.Cell) → cell-of n at p ≡ Cell c → InItsCell n (quotients at p) c
+  pub found : (c : cell.Cell) → Tested n at → Finite p → InItsCell n (quotients at p) c → cell-of n at p ≡ Cell c
+
+-- 3. With counts and placement that pass their tests and finite values, no quotient is NaN; and a quotient is outside exactly when no whole
+-- number k below the count has k ≤ q < k+1.
+pub record Outside (n : Counts) (at : Placement) (p : Point) : Type 0 where
+  pub numbers : Tested n at → Finite p →
+      (isNan (quotients at p .x) ≡ false) × (isNan (quotients at p .y) ≡ false) × (isNan (quotients at p .z) ≡ false)
+  pub exactly : (count : ℕ) (q : Float) → count ≤ 1024 → isNan q ≡ false → (outside count q ≡ true) ↔ ((k : ℕ) → k < count → in-cell q k ≡ false)
+
+-- 4. Every whole number up to 2^53 is made f64 exactly: its value is the number over 1. All counts and all numbers of 32 bits are among them.
+pub record Exact (k : ℕ) : Type 0 where
+  pub value : k ≤ 2 ^ 53 → HasValue (whole k) false k 1
+
+-- 5. The share of the way is that quotient rounded once: 1 over 2 is 0.5, 1 over 3 the f64 nearest to a third, 0 over 1 is 0.
+pub record Shares : Type 0 where
+  pub half : toBits binary64 (share-of 1 2) ≡ 0x3fe0_0000_0000_0000
+  pub third : toBits binary64 (share-of 1 3) ≡ 0x3fd5_5555_5555_5555
+  pub start : share-of 0 1 ≡ whole 0
+
+-- ---- worked examples, as one table
+
+-- k metres, and the f64 nearest to k tenths of a metre
+abbrev pub metres : ℕ → Float
+metres k = whole k
+
+abbrev pub tenths : ℕ → Float
+tenths k = div binary64 (whole k) (whole 10)
+
+-- the least f64 above 0
+abbrev pub smallest : Float
+smallest = fin false 1 (negsuc 1073)
+
+-- the three counts alike
+abbrev pub cube : ℕ → Counts
+cube k = record { nx = k; ny = k; nz = k }
+
+-- the origin's three values alike, and the edge
+abbrev pub placement : Float → Float → Placement
+placement o edge = record { ox = o; oy = o; oz = o; edge = edge }
+
+abbrev pub point : Float → Float → Float → Point
+point x y z = record { x = x; y = y; z = z }
+
+-- what an answer says: the cell (x, y, z), or a refusal
+abbrev pub cell-is : ℕ → ℕ → ℕ → Said
+cell-is x y z = record { cell = some (record { x = pos x; y = pos y; z = pos z }); refusal = none }
+
+abbrev pub refused : Told → Said
+refused t = record { cell = none; refusal = some t }
+
+abbrev pub count-refused : Axis → Said
+count-refused a = refused (record { number = 2; end = none; axis = some a; part = none })
+
+abbrev pub placement-refused : Part → Said
+placement-refused p = refused (record { number = 7; end = none; axis = none; part = some p })
+
+-- a row: counts, placement, point, and what the answer says
+pub data Row : Type 0 where
+  row : Counts → Placement → Point → Said → Row
+
+-- what a row claims
+abbrev pub Holds : Row → Type 0
+Holds (row n at p says) = said (cell-of n at p) ≡ says
+
+-- every row of a table holds
+abbrev pub Every : List Row → Type 0
+Every [] = Unit {0}
+Every (r ∷ rows) = Holds r × Every rows
+
+-- accepted: 1.5 m at an edge of 1 m; minus zero; (0.7 - 0.1) / 0.2, which rounds to less than 3; a quotient that rounds to minus zero.
+-- Refused: below 0, at the count, an infinite quotient (9); NaN and an infinity (8), x before y; edges 0.0, NaN, infinite, -1 and an origin
+-- NaN (7); counts 0 and 1,025 (2), before 7.
+abbrev pub table : List Row
+table =
+    row (cube 4) (placement (metres 0) (metres 1)) (point (tenths 15) (metres 0) (tenths 39)) (cell-is 1 0 3)
+    ∷ row (cube 4) (placement (metres 0) (metres 1)) (point (neg (metres 0)) (metres 1) (metres 2)) (cell-is 0 1 2)
+    ∷ row (cube 4) (placement (tenths 1) (tenths 2)) (point (tenths 7) (tenths 1) (tenths 3)) (cell-is 2 0 0)
+    ∷ row (cube 4) (placement (metres 0) (metres 4)) (point (neg smallest) (metres 5) (metres 15)) (cell-is 0 1 3)
+    ∷ row (cube 4) (placement (metres 0) (metres 1)) (point (neg smallest) (metres 0) (metres 0)) (refused (at-end 9 P X))
+    ∷ row (cube 4) (placement (metres 0) (metres 1)) (point (metres 0) (metres 0) (metres 4)) (refused (at-end 9 P Z))
+    ∷ row (cube 4) (placement (metres 0) smallest) (point (metres 0) (metres 1) (metres 0)) (refused (at-end 9 P Y))
+    ∷ row (cube 4) (placement (metres 0) (metres 1)) (point (metres 0) nan (metres 0)) (refused (at-end 8 P Y))
+    ∷ row (cube 4) (placement (metres 0) (metres 1)) (point (inf true) nan nan) (refused (at-end 8 P X))
+    ∷ row (cube 4) (placement (metres 0) (metres 1)) (point (metres 9) nan nan) (refused (at-end 9 P X))
+    ∷ row (cube 4) (placement (metres 0) (metres 0)) (point nan nan nan) (placement-refused Edge)
+    ∷ row (cube 4) (placement (metres 0) nan) (point (metres 0) (metres 0) (metres 0)) (placement-refused Edge)
+    ∷ row (cube 4) (placement (metres 0) (inf false)) (point (metres 0) (metres 0) (metres 0)) (placement-refused Edge)
+    ∷ row (cube 4) (placement (metres 0) (neg (metres 1))) (point (metres 0) (metres 0) (metres 0)) (placement-refused Edge)
+    ∷ row (cube 4) (placement nan nan) (point (metres 0) (metres 0) (metres 0)) (placement-refused OriginX)
+    ∷ row (cube 0) (placement nan nan) (point nan nan nan) (count-refused X)
+    ∷ row (cube 1025) (placement (metres 0) (metres 1)) (point (metres 0) (metres 0) (metres 0)) (count-refused X)
+    ∷ []
+
+-- ---- wrong answers that the contract rules out
+
+-- "always cell 0", at 1.5 m; "q equal to the count is accepted", at 4 m of 4 cells
+pub record Refuted : Type 0 where
+  pub always-first-cell : said (cell-of (cube 4) (placement (metres 0) (metres 1)) (point (tenths 15) (metres 0) (metres 0))) ≡ cell-is 0 0 0 → ⊥
+  pub count-accepted : said (cell-of (cube 4) (placement (metres 0) (metres 1)) (point (metres 4) (metres 0) (metres 0))) ≡ cell-is 3 0 0 → ⊥

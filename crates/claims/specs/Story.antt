@@ -1,0 +1,102 @@
+-- Demand 3: the plain and the adaptive walk tell one story. Claims about the two first-hit calls, by their contracts: for every grid, every two
+-- ends, and all answers that meet the contracts on the same inputs. Assumes nothing.
+use Prim.Native.Nat.{ℕ, _+_, _*_, _≤_}
+use mathlib.Core.Path.{_≡_}
+use mathlib.Core.Bool.{true, false}
+use mathlib.Core.List.{List, [], _∷_}
+use lib.ListN.{length}
+use Rattle.cells.specs.declared.Cell.{Cell}
+use Rattle.cells.specs.declared.Counts.{Counts}
+use Rattle.cells.specs.declared.Refusal.{Refusal}
+use Rattle.cells.specs.declared.Verdict.the-variants.{Fine}
+use Rattle.lines.specs.Steps.{total}
+use Rattle.lines.specs.Preference.{rule-1}
+use Rattle.lines.specs.Lines.{differences, longest, six-cell}
+use Rattle.lines.specs.Segment.{Share, InOpen}
+use Rattle.grids.specs.Grid.{byte-of, solid}
+use Rattle.grids.specs.Marks.{complete, Marks}
+use Rattle.walks.specs.declared.Place.{Place}
+use Rattle.walks.specs.declared.Hit.{Hit}
+use Rattle.walks.specs.declared.FirstHit.{FirstHit}
+use Rattle.walks.specs.declared.FirstHit.the-variants.{Clear, Hit as Blocked, Refused}
+use Rattle.walks.specs.Answers.{PlainHit, AdaptiveHit}
+use Rattle.claims.specs.Starred.{at}
+
+-- the first answer is the plain walk's, the second the adaptive one's: the same cell, code and place, or both clear, or both refuse alike; and the
+-- adaptive walk reads no more cells
+pub data SameStory : FirstHit → FirstHit → Type 0 where
+  hits : {h k : Hit} → h .cell ≡ k .cell → h .code ≡ k .code → h .place ≡ k .place → k .reads ≤ h .reads → SameStory (Blocked h) (Blocked k)
+  clears : {r s : ℕ} → s ≤ r → SameStory (Clear r) (Clear s)
+  refusals : {r : Refusal} → SameStory (Refused r) (Refused r)
+
+-- 1. Same story: where no clear cell touches a solid one by face, edge or corner.
+pub record OneStory (n : Counts) (l : List ℕ) (p q : Cell) : Type 0 where
+  pub story : complete 3 n l ≡ true → (rp ra : FirstHit) → PlainHit n l p q rp → AdaptiveHit n l p q ra → SameStory rp ra
+
+-- cell c stands in the 6-line where d stands, or before it
+pub record NoLater (p q c d : Cell) : Type 0 where
+  pub of-c : ℕ
+  pub of-d : ℕ
+  pub c-is : c ≡ six-cell rule-1 p q of-c
+  pub d-is : d ≡ six-cell rule-1 p q of-d
+  pub order : of-c ≤ of-d
+  pub most : of-d ≤ total (differences p q)
+
+-- 2. Never invented, never earlier: in any grid whatever, an adaptive hit is a plain hit, there or before.
+pub record NeverInvented (n : Counts) (l : List ℕ) (p q : Cell) : Type 0 where
+  pub plain-too : (k : Hit) (rp : FirstHit) → AdaptiveHit n l p q (Blocked k) → PlainHit n l p q rp →
+      (h : Hit) × (rp ≡ Blocked h) × (h .place .num * k .place .den ≤ k .place .num * h .place .den) × NoLater p q (h .cell) (k .cell)
+
+-- 3. Nothing in the way: marks complete and the adaptive answer clear, then no cell whose open inside the segment meets is solid.
+pub record NothingInTheWay (n : Counts) (l : List ℕ) (p q : Cell) : Type 0 where
+  pub open-way : complete 3 n l ≡ true → (reads : ℕ) → AdaptiveHit n l p q (Clear reads) → (k d : ℕ) (c : Cell) → Share k d → InOpen p q k d c → solid (byte-of n l c) ≡ false
+
+-- 4. With no hit plain reads A+B+C+1 cells, and adaptive between M+1 and A+B+C+1.
+pub record Reads (n : Counts) (l : List ℕ) (p q : Cell) : Type 0 where
+  pub plain : (reads : ℕ) → PlainHit n l p q (Clear reads) → reads ≡ total (differences p q) + 1
+  pub adaptive : (reads : ℕ) → AdaptiveHit n l p q (Clear reads) → (longest (differences p q) + 1 ≤ reads) × (reads ≤ total (differences p q) + 1)
+
+-- 5. Mark, then walk: after an accepted marking the premise of 1 and 3 holds.
+pub record MarkedFirst (n : Counts) (l exit : List ℕ) : Type 0 where
+  pub premise : Marks n l Fine exit → complete 3 n exit ≡ true
+
+-- 6. One answer for each input.
+pub record HitOnce (n : Counts) (l : List ℕ) (p q : Cell) : Type 0 where
+  pub plain : (r s : FirstHit) → PlainHit n l p q r → PlainHit n l p q s → r ≡ s
+  pub adaptive : (r s : FirstHit) → AdaptiveHit n l p q r → AdaptiveHit n l p q s → r ≡ s
+
+-- ---- wrong walks, on named inputs
+
+-- the program's venue, without marks
+abbrev pub venue : Counts
+venue = record { nx = 4; ny = 2; nz = 1 }
+
+abbrev pub no-marks : List ℕ
+no-marks = 0 ∷ 0 ∷ 0 ∷ 0 ∷ 0 ∷ 2 ∷ 0 ∷ 0 ∷ []
+
+-- one near cell, at P
+abbrev pub near-start : Counts
+near-start = record { nx = 3; ny = 2; nz = 1 }
+
+abbrev pub near-bytes : List ℕ
+near-bytes = 1 ∷ 0 ∷ 0 ∷ 0 ∷ 0 ∷ 0 ∷ []
+
+-- no marks, one solid cell at (2,1,0), onto which a long step leads
+abbrev pub long-way : Counts
+long-way = record { nx = 6; ny = 3; nz = 1 }
+
+abbrev pub long-bytes : List ℕ
+long-bytes = 0 ∷ 0 ∷ 0 ∷ 0 ∷ 0 ∷ 0 ∷ 0 ∷ 0 ∷ 2 ∷ 0 ∷ 0 ∷ 0 ∷ 0 ∷ 0 ∷ 0 ∷ 0 ∷ 0 ∷ 0 ∷ []
+
+-- the hit there with the place of the first face crossed, y at 1 over 4, instead of x at 3 over 10
+abbrev pub first-face : Hit
+first-face = record { cell = at 2 1 0; code = 2; place = record { num = 1; den = 4 }; reads = 3 }
+
+pub record WrongWalks : Type 0 where
+  pub plain-refuses : (r : Refusal) → PlainHit venue no-marks (at 0 0 0) (at 3 1 0) (Refused r) → ⊥
+  pub adaptive-refuses : (r : Refusal) → AdaptiveHit venue no-marks (at 0 0 0) (at 3 1 0) (Refused r) → ⊥
+  pub secretly-plain : (r : FirstHit) → PlainHit venue no-marks (at 0 0 0) (at 3 1 0) r → AdaptiveHit venue no-marks (at 0 0 0) (at 3 1 0) r → ⊥
+  pub clear-always : (reads : ℕ) → PlainHit venue no-marks (at 0 0 0) (at 3 1 0) (Clear reads) → ⊥
+  pub reads-made-up : (reads : ℕ) → AdaptiveHit venue no-marks (at 0 0 0) (at 3 1 0) (Clear reads) → reads ≡ 4
+  pub long-at-any-clear : AdaptiveHit near-start near-bytes (at 0 0 0) (at 2 1 0) (Clear 3) → ⊥
+  pub place-of-first-face : AdaptiveHit long-way long-bytes (at 0 0 0) (at 5 2 0) (Blocked first-face) → ⊥

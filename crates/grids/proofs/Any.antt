@@ -1,0 +1,106 @@
+-- Laws of `any`, some number below n passes, and of `tab`, a list by its index. Assumes nothing.
+use Prim.Native.Nat.{ℕ, zero, suc, _+_, _<_}
+use native.Mathlib.Nat.{eq-or-lt-of-le}
+use native.Mathlib.Numerals.{add-one}
+use native.Mathlib.Omega.{arith}
+use mathlib.Core.Path.{_≡_, refl, sym, subst, ap, _∙_}
+use mathlib.Core.Bool.{Bool, true, false, _||_, true≢false}
+use mathlib.Core.Logic.{_⊎_, inl, inr}
+use mathlib.Core.List.{List, [], _∷_, _++_}
+use lib.ListN.{length, getD, length-append, List·getD-append}
+use lib.Seq.{getD-append-seam, ext-getD}
+use Rattle.grids.specs.Marks.{any, tab}
+
+-- ---- tests
+
+-- a test that is not true is false
+pub not-so : (t : Bool) → (t ≡ true → ⊥) → t ≡ false
+not-so true h = absurd (h refl)
+not-so false h = refl
+
+-- two tests that follow from each other are one
+pub same-test : (s t : Bool) → (s ≡ true → t ≡ true) → (t ≡ true → s ≡ true) → s ≡ t
+same-test true t h k = sym (h refl)
+same-test false true h k = k refl
+same-test false false h k = refl
+
+pub or-true : (s : Bool) → s || true ≡ true
+or-true true = refl
+or-true false = refl
+
+pub or-false : (s : Bool) → s || false ≡ s
+or-false true = refl
+or-false false = refl
+
+pub or-assoc : (s t u : Bool) → (s || t) || u ≡ s || (t || u)
+or-assoc true t u = refl
+or-assoc false t u = refl
+
+-- one of two tests holds
+pub or-either : (s t : Bool) → s || t ≡ true → (s ≡ true) ⊎ (t ≡ true)
+or-either true t h = inl refl
+or-either false t h = inr h
+
+-- ---- some number below n
+
+pub any-some : (p : ℕ → Bool) (n k : ℕ) → k < n → p k ≡ true → any p n ≡ true
+unfolding any
+any-some p zero k h e = absurd (omega arith)
+any-some p (suc n) k h e = go (eq-or-lt-of-le {n = k} {m = n} (omega arith)) (any-some p n k)
+  where
+    go : (k ≡ n) ⊎ (k < n) → (k < n → p k ≡ true → any p n ≡ true) → any p n || p n ≡ true
+    go (inl q) ih = rw (subst (λ (j : ℕ). p j ≡ true) q e) (or-true (any p n))
+    go (inr l) ih = rw (ih l e)
+
+pub any-none : (p : ℕ → Bool) (n : ℕ) → ((k : ℕ) → k < n → p k ≡ false) → any p n ≡ false
+unfolding any
+any-none p zero h = refl
+any-none p (suc n) h = rw (any-none p n (λ k l. h k (omega arith)), h n (omega arith))
+
+pub any-which : (p : ℕ → Bool) (n : ℕ) → any p n ≡ true → (k : ℕ) × (k < n) × (p k ≡ true)
+unfolding any
+any-which p zero e = absurd (true≢false (sym e))
+any-which p (suc n) e = go (any p n) refl (any-which p n) e
+  where
+    go : (b : Bool) → any p n ≡ b → (any p n ≡ true → (k : ℕ) × (k < n) × (p k ≡ true)) → b || p n ≡ true → (k : ℕ) × (k < suc n) × (p k ≡ true)
+    go true q ih e = let w = ih q in (w .0, let h = w .1 in omega arith, w .2)
+    go false q ih e = (n, omega arith, e)
+
+pub any-same : (p q : ℕ → Bool) (n : ℕ) → ((k : ℕ) → k < n → p k ≡ q k) → any p n ≡ any q n
+unfolding any
+any-same p q zero h = refl
+any-same p q (suc n) h = rw (any-same p q n (λ k l. h k (omega arith)), h n (omega arith))
+
+pub any-zero : (p : ℕ → Bool) → any p 0 ≡ false
+unfolding any
+any-zero p = refl
+
+pub any-more : (p : ℕ → Bool) (n : ℕ) → any p (n + 1) ≡ any p n || p n
+unfolding any
+any-more p n = rw (add-one n)
+
+-- where none below n passes, each fails
+pub any-false : (p : ℕ → Bool) (n k : ℕ) → any p n ≡ false → k < n → p k ≡ false
+any-false p n k e h = not-so (p k) (λ t. true≢false (sym (any-some p n k h t) ∙ e))
+
+-- ---- a list by its index
+
+pub length-tab : (f : ℕ → ℕ) (n : ℕ) → length (tab f n) ≡ n
+unfolding tab
+length-tab f zero = refl
+length-tab f (suc n) = length-append (tab f n) (f n ∷ []) ∙ ap (λ (k : ℕ). k + 1) (length-tab f n) ∙ omega arith
+
+pub getD-tab : (f : ℕ → ℕ) (n k : ℕ) → k < n → getD (tab f n) k 0 ≡ f k
+unfolding tab
+getD-tab f zero k h = absurd (omega arith)
+getD-tab f (suc n) k h = go (eq-or-lt-of-le {n = k} {m = n} (omega arith)) (getD-tab f n k)
+  where
+    go : (k ≡ n) ⊎ (k < n) → (k < n → getD (tab f n) k 0 ≡ f k) → getD (tab f n ++ (f n ∷ [])) k 0 ≡ f k
+    go (inl e) ih = ap (λ (j : ℕ). getD (tab f n ++ (f n ∷ [])) j 0) (e ∙ sym (length-tab f n)) ∙ getD-append-seam (tab f n) (f n) [] 0 ∙ ap f (sym e)
+    go (inr l) ih = List·getD-append (tab f n) (f n ∷ []) 0 k (subst (λ (m : ℕ). k < m) (sym (length-tab f n)) l) ∙ ih l
+
+-- a list that is f at each index below its length n
+pub is-tab : (f : ℕ → ℕ) (n : ℕ) (xs : List ℕ) → length xs ≡ n → ((k : ℕ) → k < n → getD xs k 0 ≡ f k) → xs ≡ tab f n
+is-tab f n xs l h =
+    ext-getD 0 xs (tab f n) (l ∙ sym (length-tab f n))
+    (λ i b. let k : i < n = subst (λ (m : ℕ). i < m) l b in h i k ∙ sym (getD-tab f n i k))

@@ -1,0 +1,7 @@
+pub mod Answers
+pub mod Any
+pub mod Shapes
+pub mod Layers
+pub mod Places
+pub mod Beside
+pub mod Marking

@@ -1,0 +1,70 @@
+-- What a fine shape says: the bounds of every later call. Assumes nothing.
+use Prim.Native.Nat.{ℕ, suc, _+_, _*_, _≤_, _<_}
+use native.Mathlib.Nat.{mul-le-mul, mul-le-mul-left, mul-assoc, pos-of-ne-zero}
+use native.Mathlib.Omega.{arith}
+use mathlib.Core.Path.{_≡_, refl, _∙_}
+use mathlib.Core.Bool.{Bool, true, false, _||_, true≢false}
+use lib.Dec.{ltb, eqb}
+use borrow.Author.Tests.{ltb-false, eqb-true, eqb-false, not-false}
+use Rattle.cells.specs.declared.Axis.the-variants.{X, Y, Z}
+use Rattle.cells.specs.declared.Counts.{Counts}
+use Rattle.cells.specs.declared.Refusal.the-variants.{Count}
+use Rattle.cells.specs.declared.Verdict.the-variants.{Fine}
+use Rattle.cells.specs.Checks.{refuse-when}
+use Rattle.cells.proofs.Checks.{fine-first, fine-rest, passed}
+use Rattle.grids.specs.Grid.{bad-count, size, shape}
+
+-- a count is 1 to 1,024
+pub record Good (n : ℕ) : Type 0 where
+  pub some : 1 ≤ n
+  pub most : n ≤ 1024
+
+pub good-count : (n : ℕ) → bad-count n ≡ false → Good n
+good-count n h = go (eqb n 0) refl h
+  where
+    go : (b : Bool) → eqb n 0 ≡ b → (b || ltb 1024 n) ≡ false → Good n
+    go true e h = absurd (true≢false h)
+    go false e h = record { some = pos-of-ne-zero (eqb-false n 0 e); most = ltb-false 1024 n h }
+
+-- ---- a fine shape
+
+-- counts 1 to 1,024, as many bytes as cells, and so every product that a call forms is small
+pub record Shaped (n : Counts) (bytes : ℕ) : Type 0 where
+  pub x : Good (n .nx)
+  pub y : Good (n .ny)
+  pub z : Good (n .nz)
+  pub bytes-are : bytes ≡ size n
+  pub by-rows : bytes ≡ n .nx * (n .ny * n .nz)
+  pub layer-most : n .nx * n .ny ≤ 1048576
+  pub rows-most : n .ny * n .nz ≤ 1048576
+  pub size-most : size n ≤ 1073741824
+  pub layer-some : 1 ≤ n .nx * n .ny
+
+pub shaped : (n : Counts) (bytes : ℕ) → shape n bytes ≡ Fine → Shaped n bytes
+unfolding shape
+shaped n bytes e =
+    let past-x = fine-rest (refuse-when (bad-count (n .nx)) (Count X)) _ e in
+    let past-y = fine-rest (refuse-when (bad-count (n .ny)) (Count Y)) _ past-x in
+    let past-z = fine-rest (refuse-when (bad-count (n .nz)) (Count Z)) _ past-y in
+    let gx = good-count (n .nx) (passed _ _ (fine-first (refuse-when (bad-count (n .nx)) (Count X)) _ e)) in
+    let gy = good-count (n .ny) (passed _ _ (fine-first (refuse-when (bad-count (n .ny)) (Count Y)) _ past-x)) in
+    let gz = good-count (n .nz) (passed _ _ (fine-first (refuse-when (bad-count (n .nz)) (Count Z)) _ past-y)) in
+    let b = eqb-true bytes (size n) (not-false _ (passed _ _ past-z)) in
+    let per : n .nx * n .ny ≤ 1024 * 1024 = mul-le-mul (gx .most) (gy .most) in
+    record {
+      x = gx;
+      y = gy;
+      z = gz;
+      bytes-are = b;
+      by-rows = b ∙ mul-assoc (n .nx) (n .ny) (n .nz);
+      layer-most = per;
+      rows-most = mul-le-mul (gy .most) (gz .most);
+      size-most = mul-le-mul per (gz .most);
+      layer-some = mul-le-mul (gx .some) (gy .some);
+    }
+
+-- row r lies within the bytes
+pub row-within : (n : Counts) (bytes r : ℕ) → Shaped n bytes → r < n .ny * n .nz → n .nx * r + n .nx ≤ bytes
+row-within n bytes r s h =
+    let rows : n .nx * suc r ≤ n .nx * (n .ny * n .nz) = mul-le-mul-left (n .nx) h in
+    omega (arith, s .by-rows)

@@ -1,0 +1,47 @@
+-- The marks are complete exactly when no row has a gap. Assumes nothing.
+use mathlib.Core.Path.{_≡_, sym, _∙_}
+use lib.ListN.{length}
+use denote.Ref.{now}
+use borrow.Author.Needs.{needs}
+use Rattle.cells.specs.declared.Verdict.the-variants.{Fine}
+use Rattle.grids.specs.Grid.{shape}
+use Rattle.grids.specs.Marks.{completeness}
+use Rattle.marks.proofs.RowMarks.{complete-is}
+use Rattle.marks.proofs.complete.Statement.{statement}
+use Rattle.marks.proofs.complete.Tie as tie
+
+fine : (c : tie.After-enum-told) → let a = c .before .before .before .before .args in shape (a .n) (length (now (a .cells))) ≡ Fine
+fine c = sym (c .before .before .shape .ensures) ∙ c .enum-told .given .1
+
+shape-requires : tie.Need-shape-requires
+shape-requires c κs = search needs
+
+enum-told : tie.Need-enum-told
+enum-told c = search needs
+
+has-gap-requires : tie.Need-has-gap-requires
+has-gap-requires c κs = fine c
+
+enum-known-r : tie.Need-enum-known-r
+enum-known-r c = search needs
+
+returns : tie.Need-returns
+unfolding completeness
+returns c =
+    let d = c .before .before in
+    rw (fine d, complete-is, sym (c .before .has-gap .ensures) ∙ c .if1 .taken)
+
+returns-2 : tie.Need-returns-2
+unfolding completeness
+returns-2 c =
+    let d = c .before .before in
+    rw (fine d, complete-is, sym (c .before .has-gap .ensures) ∙ c .if1 .left)
+
+returns-3 : tie.Need-returns-3
+unfolding completeness
+returns-3 c = rw (sym (c .before .before .before .shape .ensures) ∙ c .before .r .given .1)
+
+pub complete-spec : {M : Type 1} → statement M
+complete-spec =
+    tie.close
+    (tie.spec shape-requires enum-told has-gap-requires enum-known-r returns returns-2 returns-3)

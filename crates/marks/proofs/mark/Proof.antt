@@ -1,0 +1,43 @@
+-- A refused shape stores nothing; a fine one is marked row by row. Assumes nothing.
+use mathlib.Core.Path.{sym, _∙_}
+use borrow.Author.Needs.{needs}
+use Rattle.marks.proofs.mark.Statement.{statement}
+use Rattle.marks.proofs.mark.Tie as tie
+
+shape-requires : tie.Need-shape-requires
+shape-requires c κs = search needs
+
+enum-told : tie.Need-enum-told
+enum-told c = search needs
+
+enum-told-2 : tie.Need-enum-told-2
+enum-told-2 c = search needs
+
+returns : tie.Need-returns
+returns c =
+    let e = c .before .before .shape .ensures in
+    record { says = e; holds = rw (sym e ∙ c .enum-told2 .given .1) }
+
+mark-rows-requires : tie.Need-mark-rows-requires
+mark-rows-requires c κs = sym (c .before .before .before .shape .ensures) ∙ c .before .enum-told .given .1
+
+same-length : tie.Need-same-length
+same-length c = search needs
+
+returns-2 : tie.Need-returns-2
+returns-2 c =
+    let d = c .before .before .before .before in
+    let e = d .before .before .shape .ensures in
+    record { says = e; holds = rw (sym e ∙ d .enum-told .given .1) (c .before .before .mark-rows .ensures) }
+
+pub mark-spec : {M : Type 1} → statement M
+mark-spec =
+    tie.close
+    (tie.spec
+    shape-requires
+    enum-told
+    enum-told-2
+    returns
+    mark-rows-requires
+    same-length
+    returns-2)

@@ -1,0 +1,4 @@
+pub mod Quotient
+pub mod Search
+pub mod Survey
+pub mod Answers
