@@ -3,4 +3,5 @@ pub mod Starred
 pub mod Lines
 pub mod Lists
 pub mod Grids
+pub mod Story
 pub mod Points

@@ -1,0 +1,194 @@
+-- Demand 3: the claims about the two first-hit calls, from where their walks end. Assumes nothing.
+use Prim.Native.Nat.{ℕ, _+_, _*_, _≤_}
+use mathlib.Core.Path.{_≡_, refl, sym, ap, ap₂, _∙_, subst, subst₂}
+use mathlib.Core.Bool.{Bool, true, false, cond}
+use mathlib.Core.List.{List}
+use mathlib.Core.Logic.{_⊎_, inl, inr}
+use mathlib.Core.Option.{Option, some, Option·map, Option·some-injective}
+use native.Mathlib.Omega.{arith}
+use lib.IntN.{pos}
+use lib.ListN.{length}
+use Rattle.cells.specs.declared.Cell.{Cell}
+use Rattle.cells.specs.declared.Counts.{Counts}
+use Rattle.cells.specs.declared.Refusal.{Refusal}
+use Rattle.cells.specs.declared.Verdict.{Verdict}
+use Rattle.cells.specs.declared.Verdict.the-variants.{Fine, Refused as Fails}
+use Rattle.cells.specs.Refusals.{Told, told}
+use Rattle.cells.proofs.Refusals.{untold, told-back}
+use Rattle.lines.specs.Steps.{total}
+use Rattle.lines.specs.Preference.{rule-1}
+use Rattle.lines.specs.Lines.{differences, longest, six-cell}
+use Rattle.lines.specs.Segment.{Share, InOpen}
+use Rattle.lines.proofs.Cells.{six-misses-none}
+use Rattle.grids.specs.Grid.{byte-of, solid}
+use Rattle.grids.specs.Marks.{complete, marked, after-marking, Marks}
+use Rattle.grids.proofs.Marking.{marked-complete}
+use Rattle.walks.specs.declared.Place.{Place}
+use Rattle.walks.specs.declared.Hit.{Hit}
+use Rattle.walks.specs.declared.FirstHit.{FirstHit}
+use Rattle.walks.specs.declared.FirstHit.the-variants.{Clear, Hit as Blocked, Refused}
+use Rattle.walks.specs.Walks.{hit-at}
+use Rattle.walks.specs.Answers.{entered-at, walk-check, answer-by, plain, adaptive, PlainHit, AdaptiveHit, told-hit}
+use Rattle.walks.proofs.Numbers.{plain-end, adaptive-end, plain-reads, adaptive-reads}
+use Rattle.walks.proofs.Inside.{accepted}
+use Rattle.walks.proofs.Safe.{complete-safe}
+use Rattle.walks.proofs.Places.{never-falls}
+use Rattle.walks.proofs.Story.{answer-at, plain-answer, adaptive-answer, plain-below, adaptive-below, no-earlier, not-invented, ends-alike, reads-no-more, plain-clear, plain-clear-reads, adaptive-clear-most, adaptive-clear-least}
+use Rattle.claims.specs.Story.{SameStory, hits, clears, refusals, OneStory, NoLater, NeverInvented, NothingInTheWay, Reads, MarkedFirst, HitOnce, WrongWalks}
+
+-- what an answer carries
+hit-or : Hit → FirstHit → Hit
+hit-or k (Blocked h) = h
+hit-or k (Clear r) = k
+hit-or k (Refused r) = k
+
+reads-or : ℕ → FirstHit → ℕ
+reads-or k (Blocked h) = k
+reads-or k (Clear r) = r
+reads-or k (Refused r) = k
+
+-- 0 a hit, 1 clear, 2 refused
+kind : FirstHit → ℕ
+kind (Blocked h) = 0
+kind (Clear r) = 1
+kind (Refused r) = 2
+
+module _ (n : Counts) (l : List ℕ) (p q : Cell) where
+  abbrev check : Verdict
+  check = walk-check n (length l) p q
+
+  -- where the marks are complete and the ends are in the grid, both walks end at the same number
+  alike : check ≡ Fine → complete 3 n l ≡ true → adaptive-end n l p q ≡ plain-end n l p q
+  alike fine whole =
+      let a = accepted n (length l) p q fine in
+      ends-alike n l p q 3 (omega arith) (a .p-in) (a .q-in) (complete-safe 3 n l (a .shaped) whole)
+
+  same-answers : complete 3 n l ≡ true → (v : Verdict) → check ≡ v → SameStory (answer-by v (answer-at n l p q (plain-end n l p q) (plain-reads n l p q))) (answer-by v (answer-at n l p q (adaptive-end n l p q) (adaptive-reads n l p q)))
+  same-answers whole (Fails r) h = refusals
+  same-answers whole Fine h =
+      let e = alike h whole in
+      subst (λ k. SameStory (answer-at n l p q (plain-end n l p q) (plain-reads n l p q)) (answer-at n l p q k (adaptive-reads n l p q))) (sym e)
+      (by (hit-at n l (six-cell rule-1 p q (plain-end n l p q))) _ _ _ (reads-no-more n l p q e))
+    where
+      by :
+          (b : Bool) (c : Cell) (code : ℕ) (place : Place) {r s : ℕ} → s ≤ r →
+          SameStory (cond b (Blocked (record { cell = c; code = code; place = place; reads = r })) (Clear r)) (cond b (Blocked (record { cell = c; code = code; place = place; reads = s })) (Clear s))
+      by true c code place le = hits refl refl refl le
+      by false c code place le = clears le
+
+  pub one-story : OneStory n l p q
+  one-story =
+      record {
+        story = λ whole rp ra hp ha.
+            subst₂ SameStory (sym (hp .says ∙ plain-answer n l p q)) (sym (ha .says ∙ adaptive-answer n l p q)) (same-answers whole check refl);
+      }
+
+  -- ---- in any grid
+
+  -- an answer that is a hit is the hit at the walk's end
+  hit-told : (v : Verdict) (k : Hit) (e r : ℕ) → Blocked k ≡ answer-by v (answer-at n l p q e r) →
+      (v ≡ Fine) × (hit-at n l (six-cell rule-1 p q e) ≡ true) × (k ≡ record { cell = six-cell rule-1 p q e; code = byte-of n l (six-cell rule-1 p q e); place = entered-at p q e; reads = r })
+  unfolding kind hit-or
+  hit-told (Fails x) k e r h = absurd (let z : _≡_ {A = ℕ} 0 2 = ap kind h in omega arith)
+  hit-told Fine k e r h = by (hit-at n l (six-cell rule-1 p q e)) refl h
+    where
+      there : Hit
+      there = record { cell = six-cell rule-1 p q e; code = byte-of n l (six-cell rule-1 p q e); place = entered-at p q e; reads = r }
+
+      by : (b : Bool) → hit-at n l (six-cell rule-1 p q e) ≡ b → Blocked k ≡ cond b (Blocked there) (Clear r) → (Fine ≡ Fine) × (hit-at n l (six-cell rule-1 p q e) ≡ true) × (k ≡ there)
+      by true b h = (refl, b, ap (hit-or k) h)
+      by false b h = absurd (let z : _≡_ {A = ℕ} 0 1 = ap kind h in omega arith)
+
+  -- an answer that is clear is so at the walk's end
+  clear-told : (v : Verdict) (k e r : ℕ) → Clear k ≡ answer-by v (answer-at n l p q e r) → (v ≡ Fine) × (hit-at n l (six-cell rule-1 p q e) ≡ false) × (k ≡ r)
+  unfolding kind reads-or
+  clear-told (Fails x) k e r h = absurd (let z : _≡_ {A = ℕ} 1 2 = ap kind h in omega arith)
+  clear-told Fine k e r h = by _ (hit-at n l (six-cell rule-1 p q e)) refl h
+    where
+      by :
+          (there : Hit) (b : Bool) → hit-at n l (six-cell rule-1 p q e) ≡ b → Clear k ≡ cond b (Blocked there) (Clear r) →
+          (Fine ≡ Fine) × (hit-at n l (six-cell rule-1 p q e) ≡ false) × (k ≡ r)
+      by there true b h = absurd (let z : _≡_ {A = ℕ} 1 0 = ap kind h in omega arith)
+      by there false b h = (refl, b, ap (reads-or k) h)
+
+  pub never-invented : NeverInvented n l p q
+  never-invented =
+      record {
+        plain-too = λ k rp ha hp.
+            let (fine, hit, is) = hit-told check k (adaptive-end n l p q) (adaptive-reads n l p q) (ha .says ∙ adaptive-answer n l p q) in
+            let there : Hit = record { cell = six-cell rule-1 p q (plain-end n l p q); code = byte-of n l (six-cell rule-1 p q (plain-end n l p q)); place = entered-at p q (plain-end n l p q); reads = plain-reads n l p q } in (
+              there,
+              hp .says ∙ plain-answer n l p q ∙ ap (λ v. answer-by v (answer-at n l p q (plain-end n l p q) (plain-reads n l p q))) fine ∙ ap (λ b. cond b (Blocked there) (Clear (plain-reads n l p q))) (not-invented n l p q hit),
+              subst (λ h. there .place .num * h .place .den ≤ h .place .num * there .place .den) (sym is) (never-falls p q (plain-end n l p q) (adaptive-end n l p q) (no-earlier n l p q) (adaptive-below n l p q)),
+              record {
+                of-c = plain-end n l p q;
+                of-d = adaptive-end n l p q;
+                c-is = refl;
+                d-is = ap (λ h. h .cell) is;
+                order = no-earlier n l p q;
+                most = adaptive-below n l p q;
+              },
+            );
+      }
+
+  -- ---- clear
+
+  pub nothing-in-the-way : NothingInTheWay n l p q
+  nothing-in-the-way =
+      record {
+        open-way = λ whole reads ha k d c share inside.
+            let (fine, none, many) = clear-told check reads (adaptive-end n l p q) (adaptive-reads n l p q) (ha .says ∙ adaptive-answer n l p q) in
+            let free = subst (λ e. hit-at n l (six-cell rule-1 p q e) ≡ false) (alike fine whole) none in
+            let (s, le, is) = six-misses-none rule-1 p q k d c share inside in
+            subst (λ w. hit-at n l w ≡ false) is (plain-clear n l p q free s le);
+      }
+
+  pub reads-hold : Reads n l p q
+  reads-hold =
+      record {
+        plain = λ reads hp.
+            let (fine, none, many) = clear-told check reads (plain-end n l p q) (plain-reads n l p q) (hp .says ∙ plain-answer n l p q) in
+            many ∙ plain-clear-reads n l p q none;
+        adaptive = λ reads ha.
+            let (fine, none, many) = clear-told check reads (adaptive-end n l p q) (adaptive-reads n l p q) (ha .says ∙ adaptive-answer n l p q) in
+            (omega (arith, adaptive-clear-least n l p q none), omega (arith, adaptive-clear-most n l p q none));
+      }
+
+  pub hit-once : HitOnce n l p q
+  hit-once = record { plain = λ r s h k. h .says ∙ sym (k .says); adaptive = λ r s h k. h .says ∙ sym (k .says) }
+
+-- ---- mark, then walk
+
+pub marked-first : (n : Counts) (l exit : List ℕ) → MarkedFirst n l exit
+marked-first n l exit = record { premise = λ m. ap (complete 3 n) (m .holds ∙ ap (λ v. after-marking v n l) (sym (m .says))) ∙ marked-complete 3 n l }
+
+-- ---- what document 01 says of an answer tells which it is
+
+hit-back : Told ⊎ (ℕ ⊎ Hit) → Option FirstHit
+hit-back (inl t) = Option·map Refused (untold t)
+hit-back (inr (inl reads)) = some (Clear reads)
+hit-back (inr (inr h)) = some (Blocked h)
+
+told-hit-back : (a : FirstHit) → hit-back (told-hit a) ≡ some a
+unfolding hit-back
+told-hit-back (Clear reads) = refl
+told-hit-back (Blocked h) = refl
+told-hit-back (Refused r) = ap (Option·map Refused) (told-back r)
+
+pub hits-one-to-one : (a b : FirstHit) → told-hit a ≡ told-hit b → a ≡ b
+hits-one-to-one a b e = Option·some-injective a b (sym (told-hit-back a) ∙ ap hit-back e ∙ told-hit-back b)
+
+-- ---- wrong walks
+
+pub wrong-walks : WrongWalks
+unfolding plain adaptive kind reads-or hit-or
+wrong-walks =
+    record {
+      plain-refuses = λ r h. absurd (let z : _≡_ {A = ℕ} 2 0 = ap kind (h .says) in omega arith);
+      adaptive-refuses = λ r h. absurd (let z : _≡_ {A = ℕ} 2 1 = ap kind (h .says) in omega arith);
+      secretly-plain = λ r h k. absurd (let z : _≡_ {A = ℕ} 0 1 = ap kind (sym (h .says) ∙ k .says) in omega arith);
+      clear-always = λ reads h. absurd (let z : _≡_ {A = ℕ} 1 0 = ap kind (h .says) in omega arith);
+      reads-made-up = λ reads h. ap (reads-or 0) (h .says);
+      long-at-any-clear = λ h. absurd (let z : _≡_ {A = ℕ} 3 4 = ap (reads-or 0) (h .says) in omega arith);
+      place-of-first-face = λ h. absurd (let z : _≡_ {A = ℕ} 1 3 = ap (λ a. hit-or (record { cell = record { x = pos 0; y = pos 0; z = pos 0 }; code = 0; place = record { num = 0; den = 1 }; reads = 0 }) a .place .num) (h .says) in omega arith);
+    }
