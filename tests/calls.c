@@ -35,6 +35,13 @@ typedef struct { i32 x, y, z; } oat_cell;
 typedef struct { u32 refusal, end, axis, count; } oat_listed;
 oat_listed oat_line6(oat_cell p, oat_cell q, i32 *out, size len);
 oat_listed oat_line26(oat_cell p, oat_cell q, i32 *out, size len);
+typedef struct { u32 nx, ny, nz; } oat_counts;
+typedef struct { u32 refusal, end, axis; } oat_verdict;
+typedef struct { u32 refusal, end, axis, yes; } oat_complete_answer;
+typedef struct { u32 refusal, end, axis; u64 offset, length; } oat_part;
+oat_verdict oat_mark(oat_counts n, u8 *cells, size len);
+oat_complete_answer oat_complete(oat_counts n, const u8 *cells, size len);
+oat_part oat_layer(oat_counts n, const u8 *cells, size len, i32 z);
 
 /* helpers that wait for the first call to use them */
 #define LATER __attribute__((unused))
@@ -91,8 +98,8 @@ static long take_between(long least, long most) {
 
 static i32 take_i32(void) { return (i32)take_between(-2147483648L, 2147483647L); }
 static size take_length(void) { return (size)take_between(0, 1L << 28); }
-LATER static u32 take_u32(void) { return (u32)take_between(0, 4294967295L); }
-LATER static u8 take_u8(void) { return (u8)take_between(0, 255); }
+static u32 take_u32(void) { return (u32)take_between(0, 4294967295L); }
+static u8 take_u8(void) { return (u8)take_between(0, 255); }
 LATER static double take_f64(void) { return ((union { u64 bits; double value; }){take_u64()}).value; }
 
 /* a word that holds this value until its request lands */
@@ -123,7 +130,7 @@ static slice lend(size bytes) {
 }
 
 /* from here on the slice can only be read */
-LATER static void only_read(slice s) {
+static void only_read(slice s) {
     if (s.held && mprotect(s.data, s.held, READ)) fail("mprotect");
 }
 
@@ -135,18 +142,18 @@ static void take_back(slice s) {
 }
 
 /* an array of bytes of the line: its length, then its members */
-LATER static slice lend_bytes(void) {
+static slice lend_bytes(void) {
     slice s = lend(take_length());
     for (size n = 0; n < s.bytes; n++) s.at[n] = take_u8();
     return s;
 }
 
 /* a grid of the line: its counts, then its bytes */
-typedef struct { u32 nx, ny, nz; slice cells; } grid;
+typedef struct { oat_counts n; slice cells; } grid;
 
-LATER static grid lend_grid(void) {
+static grid lend_grid(void) {
     u32 nx = take_u32(), ny = take_u32(), nz = take_u32();
-    return (grid){nx, ny, nz, lend_bytes()};
+    return (grid){{nx, ny, nz}, lend_bytes()};
 }
 
 /* room of so many bytes, each holding this value */
@@ -164,7 +171,7 @@ static slice lend_numbers(size count, i32 value) {
 }
 
 /* the final memory of a lent slice behind the answer; the slice is taken back */
-LATER static void say_bytes(slice s) {
+static void say_bytes(slice s) {
     say(" ;");
     for (size n = 0; n < s.bytes; n++) say(" %u", s.at[n]);
     take_back(s);
@@ -178,6 +185,11 @@ static void say_numbers(slice s) {
 
 /* ---- the calls */
 
+/* an accepted call names no end and no axis, a refused one gives no values */
+static void say_stray(u32 refusal, u32 end, u32 axis, u64 values) {
+    if (refusal ? values != 0 : end || axis) say(" stray %u %u %lu", end, axis, values);
+}
+
 static void list(oat_listed line(oat_cell, oat_cell, i32 *, size), int takes_rule) {
     oat_cell p = take_cell(), q = take_cell();
     if (takes_rule) take_fixed(1);
@@ -186,17 +198,51 @@ static void list(oat_listed line(oat_cell, oat_cell, i32 *, size), int takes_rul
     oat_listed got = line(p, q, (i32 *)out.at, room);
     if (got.refusal) say_refused(got.refusal, got.end, got.axis);
     else say("ok %u", got.count);
-    /* an accepted call names no end and no axis, a refused one gives no count */
-    if (got.refusal ? got.count : got.end || got.axis) say(" stray %u %u %u", got.end, got.axis, got.count);
+    say_stray(got.refusal, got.end, got.axis, got.refusal ? got.count : 0);
     say_numbers(out);
 }
 
 static void six(void) { list(oat_line6, 1); }
 static void tw6(void) { list(oat_line26, 0); }
 
+static void mark(void) {
+    grid g = lend_grid();
+    take_fixed(1);
+    oat_verdict got = oat_mark(g.n, g.cells.at, g.cells.bytes);
+    if (got.refusal) say_refused(got.refusal, got.end, got.axis);
+    else say("ok");
+    say_stray(got.refusal, got.end, got.axis, 0);
+    say_bytes(g.cells);
+}
+
+static void complete(void) {
+    grid g = lend_grid();
+    take_fixed(1);
+    only_read(g.cells);
+    oat_complete_answer got = oat_complete(g.n, g.cells.at, g.cells.bytes);
+    take_back(g.cells);
+    if (got.refusal) say_refused(got.refusal, got.end, got.axis);
+    else say(got.yes == 1 ? "yes" : got.yes ? "?" : "no");
+    say_stray(got.refusal, got.end, got.axis, got.refusal ? got.yes : 0);
+}
+
+static void layer(void) {
+    grid g = lend_grid();
+    i32 z = take_i32();
+    only_read(g.cells);
+    oat_part got = oat_layer(g.n, g.cells.at, g.cells.bytes, z);
+    take_back(g.cells);
+    if (got.refusal) say_refused(got.refusal, got.end, got.axis);
+    else say("ok %lu %lu", got.offset, got.length);
+    say_stray(got.refusal, got.end, got.axis, got.refusal ? got.offset + got.length : 0);
+}
+
 static const struct { const char *name; void (*run)(void); } calls[] = {
     {"six", six},
     {"tw6", tw6},
+    {"mark", mark},
+    {"complete", complete},
+    {"layer", layer},
 };
 
 /* ---- the lines of the input */

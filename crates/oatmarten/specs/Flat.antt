@@ -12,13 +12,25 @@ use Rattle.cells.specs.declared.Part.{Part}
 use Rattle.cells.specs.declared.Part.the-variants.{OriginX, OriginY, OriginZ, Edge}
 use Rattle.cells.specs.declared.Cell.{Cell}
 use Rattle.cells.specs.declared.Refusal.{Refusal}
+use Rattle.cells.specs.declared.Counts.{Counts}
+use Rattle.cells.specs.declared.Verdict.{Verdict}
+use Rattle.cells.specs.declared.Verdict.the-variants.{Fine, Refused as Fails}
 use Rattle.cells.specs.Refusals.{Told, told}
+use Rattle.grids.specs.declared.LayerPart.{LayerPart}
+use Rattle.grids.specs.declared.LayerPart.the-variants.{Part as LayerAt, Refused as NoPart}
+use Rattle.grids.specs.declared.Completeness.{Completeness}
+use Rattle.grids.specs.declared.Completeness.the-variants.{Yes, No, Refused as NotAsked}
+use Rattle.grids.specs.Marks.{Marks}
 use Rattle.lists.specs.declared.Listed.{Listed}
 use Rattle.lists.specs.declared.Listed.the-variants.{Cells, Refused}
 use Rattle.lists.specs.Lists.{Lists}
 use Rattle.oatmarten.specs.declared.Flat.{Flat}
 use Rattle.oatmarten.specs.declared.OatCell.{OatCell}
 use Rattle.oatmarten.specs.declared.OatListed.{OatListed}
+use Rattle.oatmarten.specs.declared.OatCounts.{OatCounts}
+use Rattle.oatmarten.specs.declared.OatVerdict.{OatVerdict}
+use Rattle.oatmarten.specs.declared.OatComplete.{OatComplete}
+use Rattle.oatmarten.specs.declared.OatPart.{OatPart}
 
 -- an end: 1 P, 2 Q
 abbrev pub end-number : End → ℕ
@@ -56,6 +68,23 @@ abbrev pub flat-listed : Listed → OatListed
 flat-listed (Cells n) = record { refusal = 0; end = 0; axis = 0; count = n }
 flat-listed (Refused r) = record { refusal = flat-refusal r .number; end = flat-refusal r .end; axis = flat-refusal r .axis; count = 0 }
 
+abbrev pub flat-verdict : Verdict → OatVerdict
+flat-verdict Fine = record { refusal = 0; end = 0; axis = 0 }
+flat-verdict (Fails r) = record { refusal = flat-refusal r .number; end = flat-refusal r .end; axis = flat-refusal r .axis }
+
+abbrev pub flat-complete : Completeness → OatComplete
+flat-complete Yes = record { refusal = 0; end = 0; axis = 0; yes = 1 }
+flat-complete No = record { refusal = 0; end = 0; axis = 0; yes = 0 }
+flat-complete (NotAsked r) = record { refusal = flat-refusal r .number; end = flat-refusal r .end; axis = flat-refusal r .axis; yes = 0 }
+
+abbrev pub flat-part : LayerPart → OatPart
+flat-part (LayerAt start many) = record { refusal = 0; end = 0; axis = 0; offset = start; length = many }
+flat-part (NoPart r) = record { refusal = flat-refusal r .number; end = flat-refusal r .end; axis = flat-refusal r .axis; offset = 0; length = 0 }
+
+-- the counts that C's struct means
+abbrev pub plain-counts : OatCounts → Counts
+plain-counts n = record { nx = n .nx; ny = n .ny; nz = n .nz }
+
 -- the cell that C's struct means
 abbrev pub plain : OatCell → Cell
 plain c = record { x = c .x; y = c .y; z = c .z }
@@ -65,3 +94,9 @@ pub record FlatLists (line : List Cell) (p q : Cell) (entry : List ℤ) (r : Oat
   pub answer : Listed
   pub meets : Lists line p q entry answer exit
   pub flat : r ≡ flat-listed answer
+
+-- the marking call for C, likewise
+pub record FlatMarks (n : Counts) (entry : List ℕ) (r : OatVerdict) (exit : List ℕ) : Type 0 where
+  pub answer : Verdict
+  pub meets : Marks n entry answer exit
+  pub flat : r ≡ flat-verdict answer
