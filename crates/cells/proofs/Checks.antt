@@ -22,3 +22,6 @@ fine-rest (Refused r) w h = refused-not-fine h
 pub passed : (t : Bool) (r : Refusal) → refuse-when t r ≡ Fine → t ≡ false
 passed true r h = refused-not-fine h
 passed false r h = refl
+
+pub each-fine : (v w : Verdict) → (v then w) ≡ Fine → (v ≡ Fine) × (w ≡ Fine)
+each-fine v w h = (fine-first v w h, fine-rest v w h)

@@ -1,6 +1,6 @@
 -- The front of the lent slice: cells stored one after another, and what each way out of a list call answers and leaves. Assumes nothing.
 use mathlib.Core.Path.{_≡_, refl, sym, ap, ap₂, _∙_, subst}
-use mathlib.Core.Bool.{Bool, true, false, not}
+use mathlib.Core.Bool.{true, not}
 use mathlib.Core.List.{List, [], _∷_, _++_}
 use Prim.Native.Nat.{ℕ, zero, suc, _+_, _*_, _≤_, _<_}
 use native.Mathlib.Omega.{arith}
@@ -9,7 +9,7 @@ use lib.IntN.{ℤ}
 use lib.Dec.{ltb}
 use lib.ListN.{length, set, take, drop, length-append, length-drop}
 use lib.Seq.{sets-eq, take-at, drop-append-add, drop-drop}
-use borrow.Author.Tests.{lt-ltb, le-ltb}
+use borrow.Author.Tests.{lt-ltb, le-ltb, not-false}
 use Rattle.cells.specs.declared.Cell.{Cell}
 use Rattle.cells.specs.declared.Refusal.{Refusal}
 use Rattle.cells.specs.declared.Refusal.the-variants.{Limit, Room}
@@ -17,8 +17,9 @@ use Rattle.cells.specs.declared.Axis.{Axis}
 use Rattle.cells.specs.declared.Axis.the-variants.{X, Y, Z}
 use Rattle.cells.specs.declared.End.{End}
 use Rattle.cells.specs.declared.End.the-variants.{P, Q}
-use Rattle.cells.specs.Checks.{refuse-when, _then_}
+use Rattle.cells.specs.Checks.{refuse-when}
 use Rattle.cells.specs.Touching.{on}
+use Rattle.cells.proofs.Checks.{fine-first, fine-rest, passed}
 use Rattle.cells.specs.declared.Verdict.{Verdict}
 use Rattle.cells.specs.declared.Verdict.the-variants.{Fine, Refused}
 use Rattle.lines.specs.Lines.{cells, in-limit, InLimit}
@@ -77,25 +78,17 @@ module _ (line : List Cell) (p q : Cell) (entry : List ℤ) where
 -- ---- ends that passed
 
 end-fine : (e : End) (c : Cell) → end-check e c ≡ Fine → InLimit c
-end-fine e c h = record { limit = limits (go (in-limit (c .x)) (in-limit (c .y)) (in-limit (c .z)) h) }
+end-fine e c h =
+    let yz = fine-rest (refuse-when (not (in-limit (c .x))) (Limit e X)) _ h in
+    let x = not-false _ (passed _ _ (fine-first (refuse-when (not (in-limit (c .x))) (Limit e X)) _ h)) in
+    let y = not-false _ (passed _ _ (fine-first (refuse-when (not (in-limit (c .y))) (Limit e Y)) _ yz)) in
+    let z = not-false _ (passed _ _ (fine-rest (refuse-when (not (in-limit (c .y))) (Limit e Y)) _ yz)) in
+    record { limit = limits x y z }
   where
-    refused-not-fine : {r : Refusal} → Refused r ≡ Fine → ⊥
-    refused-not-fine h = let z : _≡_ {A = ℕ} 0 1 = cc in omega arith
-
-    go : (s t u : Bool) → refuse-when (not s) (Limit e X) then refuse-when (not t) (Limit e Y) then refuse-when (not u) (Limit e Z) ≡ Fine → (s ≡ true) × (t ≡ true) × (u ≡ true)
-    go true true true h = (refl, refl, refl)
-    go true true false h = absurd (refused-not-fine h)
-    go true false u h = absurd (refused-not-fine h)
-    go false t u h = absurd (refused-not-fine h)
-
-    limits : (in-limit (c .x) ≡ true) × (in-limit (c .y) ≡ true) × (in-limit (c .z) ≡ true) → (a : Axis) → in-limit (on c a) ≡ true
-    limits h X = h .0
-    limits h Y = h .1
-    limits h Z = h .2
+    limits : in-limit (c .x) ≡ true → in-limit (c .y) ≡ true → in-limit (c .z) ≡ true → (a : Axis) → in-limit (on c a) ≡ true
+    limits x y z X = x
+    limits x y z Y = y
+    limits x y z Z = z
 
 pub ends-fine : (p q : Cell) → ends-check p q ≡ Fine → InLimit p × InLimit q
-ends-fine p q h = let (hp, hq) = both (end-check P p) (end-check Q q) h in (end-fine P p hp, end-fine Q q hq)
-  where
-    both : (u v : Verdict) → u then v ≡ Fine → (u ≡ Fine) × (v ≡ Fine)
-    both Fine v h = (refl, h)
-    both (Refused r) v h = absurd (let z : _≡_ {A = ℕ} 0 1 = cc in omega arith)
+ends-fine p q h = (end-fine P p (fine-first (end-check P p) _ h), end-fine Q q (fine-rest (end-check P p) _ h))

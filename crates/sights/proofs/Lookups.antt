@@ -17,7 +17,8 @@ use Rattle.sights.specs.declared.Placement.{Placement}
 use Rattle.sights.specs.declared.Point.{Point}
 use Rattle.sights.specs.Search.{AllInside}
 use Rattle.sights.specs.Survey.{count-check, placement-check, Tested, quotients, point-check, cell-at, passed, look-up, cell-of}
-use Rattle.sights.proofs.Survey.{each-fine, point-inside}
+use Rattle.cells.proofs.Checks.{each-fine}
+use Rattle.sights.proofs.Survey.{point-inside}
 
 module _ (e : End) (n : Counts) (at : Placement) (p : Point) where
   look-up-is : look-up e n at p ≡ passed (point-check e n p (quotients at p)) (Cell (cell-at n (quotients at p)))

@@ -17,7 +17,9 @@ use Rattle.cells.specs.declared.Refusal.the-variants.{Count, Bytes}
 use Rattle.cells.specs.declared.Verdict.{Verdict}
 use Rattle.cells.specs.declared.Verdict.the-variants.{Fine, Refused as Fails}
 use Rattle.cells.specs.Checks.{refuse-when, _then_}
+use Rattle.cells.proofs.Checks.{each-fine, passed}
 use Rattle.grids.specs.Grid.{bad-count, size, shape}
+use Rattle.grids.proofs.Shapes.{good-count}
 use Rattle.sights.specs.declared.Placement.{Placement}
 use Rattle.sights.specs.declared.Point.{Point}
 use Rattle.sights.specs.Quotient.{whole, quotient, outside}
@@ -28,28 +30,10 @@ use Rattle.sights.proofs.Finite.{quotient-no-nan}
 use Rattle.sights.proofs.Whole.{at-least}
 use Rattle.sights.proofs.Numbers.{not-outside}
 
--- ---- tests in a row
-
--- where two tests pass in a row, each passes
-pub each-fine : (v w : Verdict) → (v then w) ≡ Fine → (v ≡ Fine) × (w ≡ Fine)
-each-fine Fine w h = (refl, h)
-each-fine (Fails r) w h = absurd (let z : _≡_ {A = ℕ} 0 1 = cc in omega arith)
-
--- a test that passes does not hold
-pub test-passed : (b : Bool) (r : Refusal) → refuse-when b r ≡ Fine → b ≡ false
-test-passed true r h = absurd (let z : _≡_ {A = ℕ} 0 1 = cc in omega arith)
-test-passed false r h = refl
-
 -- ---- counts
 
 pub count-range : (n : ℕ) → bad-count n ≡ false → (0 < n) × (n ≤ 1024)
-count-range n h =
-    let (none, many) = neither (eqb n 0) (ltb 1024 n) h in
-    (pos-of n (eqb-false n 0 none), ltb-false 1024 n many)
-  where
-    pos-of : (n : ℕ) → (n ≡ 0 → ⊥) → 0 < n
-    pos-of zero h = absurd (h refl)
-    pos-of (suc n) h = omega arith
+count-range n h = let g = good-count n h in (g .some, g .most)
 
 pub record Ranges (n : Counts) : Type 0 where
   pub x : (0 < n .nx) × (n .nx ≤ 1024)
@@ -61,7 +45,7 @@ unfolding count-check
 counts-range n h =
     let (x, rest) = each-fine _ _ h in
     let (y, z) = each-fine _ _ rest in
-    record { x = count-range _ (test-passed _ _ x); y = count-range _ (test-passed _ _ y); z = count-range _ (test-passed _ _ z) }
+    record { x = count-range _ (passed _ _ x); y = count-range _ (passed _ _ y); z = count-range _ (passed _ _ z) }
 
 -- a grid whose shape is fine has passed the test of the counts
 pub shape-counts : (n : Counts) (bytes : ℕ) → shape n bytes ≡ Fine → count-check n ≡ Fine
@@ -89,7 +73,7 @@ pub record Placed (at : Placement) : Type 0 where
   pub above : lt (whole 0) (at .edge) ≡ true
 
 finite-passed : (b : Bool) (r : Refusal) → refuse-when (not b) r ≡ Fine → b ≡ true
-finite-passed b r h = not-false b (test-passed (not b) r h)
+finite-passed b r h = not-false b (passed (not b) r h)
 
 pub placed : (at : Placement) → placement-check at ≡ Fine → Placed at
 unfolding placement-check
@@ -97,7 +81,7 @@ placed at h =
     let (x, rest) = each-fine _ _ h in
     let (y, more) = each-fine _ _ rest in
     let (z, e) = each-fine _ _ more in
-    let (edge, above) = neither _ _ (test-passed _ _ e) in
+    let (edge, above) = neither _ _ (passed _ _ e) in
     record { x = finite-passed _ _ x; y = finite-passed _ _ y; z = finite-passed _ _ z; edge = not-false _ edge; above = not-false _ above }
 
 -- ---- a point
@@ -107,7 +91,7 @@ value-inside : (e : End) (a : Axis) (count : ℕ) (value origin edge : Float) �
 value-inside e a count value origin edge range o f up h =
     let (finite, within) = each-fine _ _ h in
     let number = quotient-no-nan value origin edge (finite-passed _ _ finite) o f up in
-    let inside = test-passed _ _ within in
+    let inside = passed _ _ within in
     record { some = range .0; small = range .1; from = at-least _ 0 (omega arith) number (not-outside count _ inside .0); within = inside }
 
 pub point-inside : (e : End) (n : Counts) (at : Placement) (p : Point) → Tested n at → point-check e n p (quotients at p) ≡ Fine → AllInside n (quotients at p)
