@@ -39,9 +39,13 @@ typedef struct { u32 nx, ny, nz; } oat_counts;
 typedef struct { u32 refusal, end, axis; } oat_verdict;
 typedef struct { u32 refusal, end, axis, yes; } oat_complete_answer;
 typedef struct { u32 refusal, end, axis; u64 offset, length; } oat_part;
+typedef struct { double ox, oy, oz, edge; } oat_placement;
+typedef struct { double x, y, z; } oat_point;
+typedef struct { u32 refusal, end, axis; i32 x, y, z; } oat_found;
 oat_verdict oat_mark(oat_counts n, u8 *cells, size len);
 oat_complete_answer oat_complete(oat_counts n, const u8 *cells, size len);
 oat_part oat_layer(oat_counts n, const u8 *cells, size len, i32 z);
+oat_found oat_cell_of(oat_counts n, oat_placement at, oat_point p);
 
 /* helpers that wait for the first call to use them */
 #define LATER __attribute__((unused))
@@ -100,7 +104,7 @@ static i32 take_i32(void) { return (i32)take_between(-2147483648L, 2147483647L);
 static size take_length(void) { return (size)take_between(0, 1L << 28); }
 static u32 take_u32(void) { return (u32)take_between(0, 4294967295L); }
 static u8 take_u8(void) { return (u8)take_between(0, 255); }
-LATER static double take_f64(void) { return ((union { u64 bits; double value; }){take_u64()}).value; }
+static double take_f64(void) { return ((union { u64 bits; double value; }){take_u64()}).value; }
 
 /* a word that holds this value until its request lands */
 static void take_fixed(long held) { take_between(held, held); }
@@ -237,12 +241,33 @@ static void layer(void) {
     say_stray(got.refusal, got.end, got.axis, got.refusal ? got.offset + got.length : 0);
 }
 
+static oat_placement take_placement(void) {
+    double ox = take_f64(), oy = take_f64(), oz = take_f64(), edge = take_f64();
+    return (oat_placement){ox, oy, oz, edge};
+}
+
+static oat_point take_point(void) {
+    double x = take_f64(), y = take_f64(), z = take_f64();
+    return (oat_point){x, y, z};
+}
+
+static void cell(void) {
+    u32 nx = take_u32(), ny = take_u32(), nz = take_u32();
+    oat_placement at = take_placement();
+    oat_point p = take_point();
+    oat_found got = oat_cell_of((oat_counts){nx, ny, nz}, at, p);
+    if (got.refusal) say_refused(got.refusal, got.end, got.axis);
+    else say("ok %d %d %d", got.x, got.y, got.z);
+    say_stray(got.refusal, got.end, got.axis, got.refusal ? (u64)(got.x | got.y | got.z) : 0);
+}
+
 static const struct { const char *name; void (*run)(void); } calls[] = {
     {"six", six},
     {"tw6", tw6},
     {"mark", mark},
     {"complete", complete},
     {"layer", layer},
+    {"cell", cell},
 };
 
 /* ---- the lines of the input */

@@ -3,7 +3,7 @@ use Prim.Native.Nat.{ℕ}
 use mathlib.Core.Path.{_≡_}
 use mathlib.Core.List.{List}
 use mathlib.Core.Option.{Option, none, some}
-use lib.IntN.{ℤ}
+use lib.IntN.{ℤ, pos}
 use Rattle.cells.specs.declared.Axis.{Axis}
 use Rattle.cells.specs.declared.Axis.the-variants.{X, Y, Z}
 use Rattle.cells.specs.declared.End.{End}
@@ -31,6 +31,13 @@ use Rattle.oatmarten.specs.declared.OatCounts.{OatCounts}
 use Rattle.oatmarten.specs.declared.OatVerdict.{OatVerdict}
 use Rattle.oatmarten.specs.declared.OatComplete.{OatComplete}
 use Rattle.oatmarten.specs.declared.OatPart.{OatPart}
+use Rattle.oatmarten.specs.declared.OatPlacement.{OatPlacement}
+use Rattle.oatmarten.specs.declared.OatPoint.{OatPoint}
+use Rattle.oatmarten.specs.declared.OatFound.{OatFound}
+use Rattle.sights.specs.declared.Placement.{Placement}
+use Rattle.sights.specs.declared.Point.{Point}
+use Rattle.sights.specs.declared.Lookup.{Lookup}
+use Rattle.sights.specs.declared.Lookup.the-variants.{Cell as At, Refused as NotFound}
 
 -- an end: 1 P, 2 Q
 abbrev pub end-number : End → ℕ
@@ -80,6 +87,17 @@ flat-complete (NotAsked r) = record { refusal = flat-refusal r .number; end = fl
 abbrev pub flat-part : LayerPart → OatPart
 flat-part (LayerAt start many) = record { refusal = 0; end = 0; axis = 0; offset = start; length = many }
 flat-part (NoPart r) = record { refusal = flat-refusal r .number; end = flat-refusal r .end; axis = flat-refusal r .axis; offset = 0; length = 0 }
+
+abbrev pub flat-found : Lookup → OatFound
+flat-found (At c) = record { refusal = 0; end = 0; axis = 0; x = c .x; y = c .y; z = c .z }
+flat-found (NotFound r) = record { refusal = flat-refusal r .number; end = flat-refusal r .end; axis = flat-refusal r .axis; x = pos 0; y = pos 0; z = pos 0 }
+
+-- the placement and the point that C's structs mean
+abbrev pub plain-placement : OatPlacement → Placement
+plain-placement at = record { ox = at .ox; oy = at .oy; oz = at .oz; edge = at .edge }
+
+abbrev pub plain-point : OatPoint → Point
+plain-point p = record { x = p .x; y = p .y; z = p .z }
 
 -- the counts that C's struct means
 abbrev pub plain-counts : OatCounts → Counts

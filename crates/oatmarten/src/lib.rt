@@ -5,7 +5,8 @@ ghost use Rattle.lines.specs.Preference.{rule-1};
 ghost use lib.ListN.{length};
 ghost use Rattle.grids.specs.Grid.{layer-part};
 ghost use Rattle.grids.specs.Marks.{completeness};
-ghost use Rattle.oatmarten.specs.Flat.{end-number, axis-number, part-number, flat-refusal, flat-listed, flat-verdict, flat-complete, flat-part, plain, plain-counts, FlatLists, FlatMarks};
+ghost use Rattle.sights.specs.Survey.{cell-of};
+ghost use Rattle.oatmarten.specs.Flat.{end-number, axis-number, part-number, flat-refusal, flat-listed, flat-verdict, flat-complete, flat-part, plain, plain-counts, plain-placement, plain-point, flat-found, FlatLists, FlatMarks};
 use cells::Axis;
 use cells::Cell;
 use cells::Counts;
@@ -16,6 +17,9 @@ use cells::Verdict;
 use grids::Completeness;
 use grids::LayerPart;
 use lists::Listed;
+use sights::Lookup;
+use sights::Placement;
+use sights::Point;
 
 // A cell.
 #[repr(C)]
@@ -68,6 +72,34 @@ pub struct OatPart {
     pub axis: u32,
     pub offset: u64,
     pub length: u64,
+}
+
+// Where the grid lies: its origin and its cell edge, in metres.
+#[repr(C)]
+pub struct OatPlacement {
+    pub ox: f64,
+    pub oy: f64,
+    pub oz: f64,
+    pub edge: f64,
+}
+
+// A surveyed point, in metres.
+#[repr(C)]
+pub struct OatPoint {
+    pub x: f64,
+    pub y: f64,
+    pub z: f64,
+}
+
+// The cell of a point.
+#[repr(C)]
+pub struct OatFound {
+    pub refusal: u32,
+    pub end: u32,
+    pub axis: u32,
+    pub x: i32,
+    pub y: i32,
+    pub z: i32,
 }
 
 // A refusal's number, end and axis as numbers.
@@ -318,4 +350,68 @@ pub extern "C" fn oat_layer(n: OatCounts, cells: &[u8], z: i32) -> OatPart
 {
     let grid = counts(n);
     flat_part(grids::layer_part(grid, cells, z))
+}
+
+// A placement and a point of C's as such.
+fn placement(at: OatPlacement) -> Placement
+    ensures { λ r. ⌜ r ≡ plain-placement at ⌝ }
+{
+    Placement {
+        ox: at.ox,
+        oy: at.oy,
+        oz: at.oz,
+        edge: at.edge,
+    }
+}
+
+fn point(p: OatPoint) -> Point
+    ensures { λ r. ⌜ r ≡ plain-point p ⌝ }
+{
+    Point {
+        x: p.x,
+        y: p.y,
+        z: p.z,
+    }
+}
+
+fn flat_found(l: Lookup) -> OatFound
+    ensures { λ r. ⌜ r ≡ flat-found l ⌝ }
+{
+    match l {
+        Lookup::Cell(c) => {
+            let x = c.x;
+            let y = c.y;
+            let z = c.z;
+            OatFound {
+                refusal: 0,
+                end: 0,
+                axis: 0,
+                x: x,
+                y: y,
+                z: z,
+            }
+        }
+        Lookup::Refused(r) => {
+            let f = flatten(r);
+            OatFound {
+                refusal: f.number,
+                end: f.end,
+                axis: f.axis,
+                x: 0,
+                y: 0,
+                z: 0,
+            }
+        }
+    }
+}
+
+// The cell of a surveyed point.
+#[no_mangle]
+pub extern "C" fn oat_cell_of(n: OatCounts, at: OatPlacement, p: OatPoint) -> OatFound
+    ensures { λ r. ⌜ r ≡ flat-found (cell-of (plain-counts n) (plain-placement at) (plain-point p)) ⌝ }
+{
+    let grid = counts(n);
+    let place = placement(at);
+    let surveyed = point(p);
+    flat_found(sights::cell_of(grid, place, surveyed))
 }
