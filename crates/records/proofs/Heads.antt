@@ -13,7 +13,7 @@ use Rattle.cells.specs.declared.Verdict.{Verdict}
 use Rattle.cells.specs.declared.Verdict.the-variants.{Fine, Refused}
 use Rattle.cells.specs.Checks.{refuse-when, _then_}
 use Rattle.grids.specs.Grid.{shape}
-use Rattle.grids.proofs.Shapes.{fine-first, fine-rest, passed}
+use Rattle.cells.proofs.Checks.{fine-first, fine-rest, passed}
 use Rattle.records.specs.declared.Venue.{Venue}
 use Rattle.records.specs.declared.VenueRead.the-variants.{Read}
 use Rattle.records.specs.Records.{length-field, announced, version-of, whole, venue-version, venue-head, venue-in, venue-check, venue-by, venue-read, pair-version, pair-length, pair-check}
