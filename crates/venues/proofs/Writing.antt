@@ -12,7 +12,8 @@ use Rattle.cells.specs.declared.Counts.{Counts}
 use Rattle.cells.specs.declared.Refusal.{Refusal}
 use Rattle.cells.specs.declared.Verdict.the-variants.{Fine, Refused}
 use Rattle.grids.specs.Grid.{size, shape}
-use Rattle.grids.proofs.Shapes.{shaped, fine-first, fine-rest, passed}
+use Rattle.cells.proofs.Checks.{fine-first, fine-rest, passed}
+use Rattle.grids.proofs.Shapes.{shaped}
 use Rattle.venues.specs.declared.Written.{Written}
 use Rattle.venues.specs.declared.Written.the-variants.{Wrote, Refused as NotWritten}
 use Rattle.records.specs.Records.{venue-head, cells-from}
