@@ -1,12 +1,12 @@
 -- Laws of pieces in a lent slice: one after another, they are one piece. Assumes nothing.
-use mathlib.Core.Path.{_≡_, refl, sym, ap, ap₂, _∙_}
+use mathlib.Core.Path.{_≡_, sym, ap, ap₂, _∙_}
 use mathlib.Core.List.{List, [], _∷_, _++_, append-nil, append-assoc}
-use Prim.Native.Nat.{ℕ, suc, _+_, _-_, _≤_, _<_, min}
+use Prim.Native.Nat.{ℕ, _+_, _-_, _≤_, _<_}
 use native.Mathlib.Numerals.{add-one}
 use native.Mathlib.Nat.{zero-add}
 use native.Mathlib.Omega.{arith}
 use lib.ListN.{length, set, take, drop, length-append, length-take, length-drop, drop-of-length-le}
-use lib.Seq.{set-split, take-all, take-at, drop-at, drop-drop, drop-append-add, take-length}
+use lib.Seq.{set-split, take-all, take-at, drop-drop, drop-append-add, take-length}
 use borrow.Rule.Slice.PartMut.{putMid}
 use Rattle.buffers.specs.Over.{over}
 

@@ -19,7 +19,7 @@ use Rattle.venues.specs.declared.Written.the-variants.{Wrote}
 use Rattle.venues.specs.Writing.{written-version, head-bytes, write-check, WritesVenue}
 use Rattle.venues.proofs.Told.{told-written-one}
 use Rattle.venues.proofs.RoundTrip.{read-back, cells-back, front-written, same-bytes}
-use Rattle.claims.specs.Records.{ReadsVenue, GivesCells, ReadsPair, OneAnswer, ToldApart, ReadBack, WrittenBack, NotLookedAt, example-venue, example-cells, example-counts, example-room, minus-one-pair, Refuses, WritesNothing, ReadsUnsigned}
+use Rattle.claims.specs.Records.{ReadsVenue, GivesCells, OneAnswer, ToldApart, ReadBack, WrittenBack, NotLookedAt, example-venue, example-cells, example-counts, example-room, minus-one-pair, Refuses, WritesNothing, ReadsUnsigned}
 
 pub one-answer : (s : List ℕ) → OneAnswer s
 one-answer s =
@@ -52,11 +52,12 @@ read-back-same n cells entry = record { same = same; in-place = in-place }
     same w exit k c e rest r part reads gives =
         let f = front-written n cells entry exit k (subst (λ (a : Written). WritesVenue n cells entry a exit) e c) in
         let bytes : take k exit ++ rest ≡ head-bytes written-version n ++ (cells ++ rest) =
-            ap (λ l. l ++ rest) (f .front) ∙ append-assoc (head-bytes written-version n) cells rest in
-        let long : size n ≡ length cells = sym (shaped n (length cells) (f .fine) .bytes-are) in
-        (reads ∙ ap venue-read bytes ∙ read-back n cells rest (f .fine)
-        ∙ ap (λ (l : ℕ). Read (record { counts = n; start = cells-from written-version; long = l })) long,
-        gives ∙ ap venue-cells bytes ∙ cells-back n cells rest (f .fine))
+        ap (λ l. l ++ rest) (f .front) ∙ append-assoc (head-bytes written-version n) cells rest in
+        let long : size n ≡ length cells = sym (shaped n (length cells) (f .fine) .bytes-are) in (
+          reads ∙ ap venue-read bytes ∙ read-back n cells rest (f .fine)
+              ∙ ap (λ (l : ℕ). Read (record { counts = n; start = cells-from written-version; long = l })) long,
+          gives ∙ ap venue-cells bytes ∙ cells-back n cells rest (f .fine),
+        )
 
     in-place : (w : Written) (exit : List ℕ) (k : ℕ) → WritesVenue n cells entry w exit → w ≡ Wrote k →
         (r : VenueRead) (part : List ℕ) → ReadsVenue exit r → GivesCells exit part →

@@ -8,7 +8,7 @@ use lib.Dec.{ltb}
 use lib.ListN.{length, getD, length-append, List·getD-append}
 use lib.Seq.{getD-append-seam}
 use borrow.Author.Tests.{ltb-true, ltb-false}
-use Rattle.texts.specs.Text.{digit, decimal-in, decimal, hit-line, clear-line, pair-refused-line, venue-refused-line, PutsLine}
+use Rattle.texts.specs.Text.{digit, decimal-in, decimal, hit-line, clear-line, pair-refused-line, venue-refused-line}
 use Rattle.claims.specs.Texts.{value-after, Decimal, OneLine, Examples}
 
 -- one digit more

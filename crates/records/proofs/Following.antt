@@ -2,15 +2,14 @@
 use mathlib.Core.Path.{_≡_, refl, sym, ap, ap₂, _∙_}
 use mathlib.Core.Bool.{Bool, true, false, not}
 use mathlib.Core.List.{List, _++_}
-use Prim.Native.Nat.{ℕ, _+_, _-_, _*_, _≤_, _<_}
+use Prim.Native.Nat.{ℕ, _+_, _*_, _≤_, _<_}
 use native.Mathlib.Nat.{pos-of-ne-zero}
 use native.Mathlib.Omega.{arith}
 use lib.Dec.{ltb, eqb}
 use lib.ListN.{length, getD, take, drop, length-append, length-drop, List·getD-append}
 use lib.Seq.{take-append-le, drop-append-le}
 use borrow.Author.Tests.{eq-eqb, ne-eqb, eqb-true, eqb-false, le-ltb, ltb-false}
-use Rattle.buffers.specs.Numbers.{two-at, four-at}
-use Rattle.cells.specs.declared.Counts.{Counts}
+use Rattle.buffers.specs.Numbers.{two-at}
 use Rattle.cells.specs.declared.Refusal.{Refusal}
 use Rattle.cells.specs.declared.Refusal.the-variants.{Record, Version}
 use Rattle.cells.specs.declared.Verdict.the-variants.{Fine, Refused}
@@ -22,7 +21,7 @@ use Rattle.records.specs.declared.VenueRead.the-variants.{Read, Refused 
 use Rattle.records.specs.declared.Pair.{Pair}
 use Rattle.records.specs.declared.PairRead.{PairRead}
 use Rattle.records.specs.declared.PairRead.the-variants.{Refused as NoPair}
-use Rattle.records.specs.Records.{length-field, announced, version-of, whole, venue-version, venue-head, cells-from, counts-from, counts-at, venue-in, venue-check, venue-by, venue-read, part-of, venue-cells, pair-version, pair-length, ends-from, cell-in, pair-in, pair-check, pair-by, pair-read}
+use Rattle.records.specs.Records.{length-field, announced, version-of, whole, venue-version, venue-head, counts-from, counts-at, venue-in, venue-check, venue-by, venue-read, part-of, venue-cells, pair-version, pair-length, ends-from, cell-in, pair-in, pair-check, pair-by, pair-read}
 use Rattle.records.proofs.Heads.{head-least, pair-least, part-within}
 
 -- ---- the verdicts, by what was announced

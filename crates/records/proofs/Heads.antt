@@ -11,7 +11,7 @@ use borrow.Author.Tests.{ltb-false, eqb-true, eqb-false, not-false}
 use Rattle.cells.specs.declared.Refusal.the-variants.{Record, Version}
 use Rattle.cells.specs.declared.Verdict.{Verdict}
 use Rattle.cells.specs.declared.Verdict.the-variants.{Fine, Refused}
-use Rattle.cells.specs.Checks.{refuse-when, _then_}
+use Rattle.cells.specs.Checks.{refuse-when}
 use Rattle.grids.specs.Grid.{shape}
 use Rattle.cells.proofs.Checks.{fine-first, fine-rest, passed}
 use Rattle.records.specs.declared.Venue.{Venue}

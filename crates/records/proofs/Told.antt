@@ -6,7 +6,7 @@ use mathlib.Core.Option.{Option, some, Option·map, Option·some-injective}
 use Rattle.cells.specs.declared.Cell.{Cell}
 use Rattle.cells.specs.declared.Counts.{Counts}
 use Rattle.cells.specs.declared.Refusal.{Refusal}
-use Rattle.cells.specs.Refusals.{Told, told}
+use Rattle.cells.specs.Refusals.{Told}
 use Rattle.cells.proofs.Refusals.{untold, told-back}
 use Rattle.records.specs.declared.VenueRead.{VenueRead}
 use Rattle.records.specs.declared.VenueRead.the-variants.{Read, Refused as NoVenue}

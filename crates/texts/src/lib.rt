@@ -12,6 +12,7 @@ pub enum Walker {
 }
 
 const SPACE: u8 = 32;
+
 const LINE_FEED: u8 = 10;
 
 fn letter(w: Walker) -> u8
@@ -68,7 +69,16 @@ fn put_cell(out: &mut [u8], at: usize, x: u32, y: u32, z: u32) -> usize
 }
 
 // `K P hit x y z code reads`, or with A.
-pub fn put_hit(out: &mut [u8], k: u64, w: Walker, x: u32, y: u32, z: u32, code: u8, reads: u32) -> usize
+pub fn put_hit(
+    out: &mut [u8],
+    k: u64,
+    w: Walker,
+    x: u32,
+    y: u32,
+    z: u32,
+    code: u8,
+    reads: u32,
+) -> usize
     requires { ⌜ line-room ≤ length (now out) ⌝ }
     ensures { λ r. ⌜ PutsLine (hit-line k w x y z code reads) (now (out .entry)) r (now (out .exit)) ⌝ }
 {

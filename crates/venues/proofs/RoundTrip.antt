@@ -29,8 +29,8 @@ counts-back : (s : List ℕ) → AllBytes s → (i : ℕ) → i + 6 ≤ length s
 counts-back s bytes i h =
     joined s bytes i 4 2
     ∙ ap₂ (λ a b. a ++ b)
-      (joined s bytes i 2 2 ∙ ap₂ (λ a b. a ++ b) (two-back s bytes i (omega arith)) (two-back s bytes (i + 2) (omega arith)))
-      (two-back s bytes (i + 4) (omega arith))
+    (joined s bytes i 2 2 ∙ ap₂ (λ a b. a ++ b) (two-back s bytes i (omega arith)) (two-back s bytes (i + 2) (omega arith)))
+    (two-back s bytes (i + 4) (omega arith))
 
 -- ---- reading
 
@@ -65,9 +65,9 @@ module _ (n : Counts) (cells rest : List ℕ) (fine : shape n (length cells) ≡
   read-back =
       let s = head-bytes written-version n ++ (cells ++ rest) in
       let check : venue-check s ≡ Fine =
-          judged s all-there refl (omega (arith, long-is))
-          ∙ ap (λ (v : Venue). shape (v .counts) (v .long)) in-is
-          ∙ ap (shape n) (sym (shaped n (length cells) fine .bytes-are)) ∙ fine in
+      judged s all-there refl (omega (arith, long-is))
+      ∙ ap (λ (v : Venue). shape (v .counts) (v .long)) in-is
+      ∙ ap (shape n) (sym (shaped n (length cells) fine .bytes-are)) ∙ fine in
       ap₂ venue-by check in-is
 
   pub cells-back : venue-cells (head-bytes written-version n ++ (cells ++ rest)) ≡ cells
@@ -86,8 +86,8 @@ unfolding venue-head
 head-back s bytes h =
     joined s bytes 0 5 6
     ∙ ap₂ (λ a b. a ++ b)
-      (joined s bytes 0 4 1 ∙ ap₂ (λ a b. a ++ b) (four-back s bytes 0 (omega arith)) (ap (take 1) (drop-cons s 4 0 (omega arith))))
-      (counts-back s bytes 5 (omega arith))
+    (joined s bytes 0 4 1 ∙ ap₂ (λ a b. a ++ b) (four-back s bytes 0 (omega arith)) (ap (take 1) (drop-cons s 4 0 (omega arith))))
+    (counts-back s bytes 5 (omega arith))
 
 version-one : (version : ℕ) → venue-version version ≡ true → version ≡ written-version
 unfolding venue-version
@@ -113,10 +113,10 @@ record-back s v bytes e =
         let total : cells-from version + long ≡ length-field + announced s = omega arith in
         let length-is : announced s ≡ venue-head written-version + size n = omega (arith, shaped n long (w .shaped) .bytes-are, ap venue-head one) in
         let by-bytes : take (cells-from version) s ≡ (four (announced s) ++ (version ∷ [])) ++ count-bytes n =
-            subst (λ (u : ℕ). take (cells-from u) s ≡ (four (announced s) ++ (version ∷ [])) ++ count-bytes (counts-at s (counts-from u))) (sym one)
-            (head-back s bytes (omega (arith, ap venue-head one))) in
+        subst (λ (u : ℕ). take (cells-from u) s ≡ (four (announced s) ++ (version ∷ [])) ++ count-bytes (counts-at s (counts-from u))) (sym one)
+        (head-back s bytes (omega (arith, ap venue-head one))) in
         let by-values : take (cells-from version) s ≡ head-bytes written-version n =
-            by-bytes ∙ ap₂ (λ a b. (four a ++ (b ∷ [])) ++ count-bytes n) length-is one in
+        by-bytes ∙ ap₂ (λ a b. (four a ++ (b ∷ [])) ++ count-bytes n) length-is one in
         sym
         (ap (λ k. take k s) (sym total) ∙ take-add (cells-from version) long s
         ∙ ap (λ a. a ++ take long (drop (cells-from version) s)) by-values)
@@ -168,8 +168,9 @@ same-bytes s v entry exit w bytes e room c =
     let fits = record-fits s v e in
     let H = head-bytes written-version n in
     let check : write-check n (length (venue-cells s)) (length entry) ≡ Fine =
-        rw (fits .fine, le-ltb (length entry) (record-length n) (omega (arith, fits .total))) in
-    let none : drop (record-length n) entry ≡ [] = drop-of-length-le entry {i = record-length n} (omega (arith, fits .total)) in
-    (c .says ∙ ap (λ t. written t n) check ∙ ap Wrote (fits .total),
-    c .holds ∙ ap (λ t. after-writing t n (venue-cells s) entry) check ∙ ap (λ l. H ++ (venue-cells s ++ l)) none
-    ∙ ap (λ l. H ++ l) (append-nil (venue-cells s)) ∙ record-back s v bytes e)
+    rw (fits .fine, le-ltb (length entry) (record-length n) (omega (arith, fits .total))) in
+    let none : drop (record-length n) entry ≡ [] = drop-of-length-le entry {i = record-length n} (omega (arith, fits .total)) in (
+      c .says ∙ ap (λ t. written t n) check ∙ ap Wrote (fits .total),
+      c .holds ∙ ap (λ t. after-writing t n (venue-cells s) entry) check ∙ ap (λ l. H ++ (venue-cells s ++ l)) none
+          ∙ ap (λ l. H ++ l) (append-nil (venue-cells s)) ∙ record-back s v bytes e,
+    )

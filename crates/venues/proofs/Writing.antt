@@ -1,9 +1,8 @@
 -- Writing a venue: what a fine check says, and the two ways out. Assumes nothing.
 use mathlib.Core.Path.{_≡_, refl, sym, ap, ap₂, _∙_}
-use mathlib.Core.List.{List, [], _∷_, _++_, append-assoc}
-use Prim.Native.Nat.{ℕ, _+_, _≤_, _<_}
+use mathlib.Core.List.{List, _++_, append-assoc}
+use Prim.Native.Nat.{ℕ, _+_, _≤_}
 use native.Mathlib.Omega.{arith}
-use lib.Dec.{ltb}
 use lib.ListN.{length, drop, length-append}
 use borrow.Author.Tests.{ltb-false}
 use Rattle.buffers.specs.Over.{over}
@@ -14,7 +13,6 @@ use Rattle.cells.specs.declared.Verdict.the-variants.{Fine, Refused}
 use Rattle.grids.specs.Grid.{size, shape}
 use Rattle.cells.proofs.Checks.{fine-first, fine-rest, passed}
 use Rattle.grids.proofs.Shapes.{shaped}
-use Rattle.venues.specs.declared.Written.{Written}
 use Rattle.venues.specs.declared.Written.the-variants.{Wrote, Refused as NotWritten}
 use Rattle.records.specs.Records.{venue-head, cells-from}
 use Rattle.venues.specs.Writing.{written-version, head-bytes, record-length, write-check, written, after-writing, WritesVenue}

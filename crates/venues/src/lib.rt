@@ -6,7 +6,6 @@ ghost use Rattle.buffers.specs.Over.{over};
 ghost use Rattle.grids.specs.Grid.{shape};
 ghost use Rattle.records.specs.Records.{cells-from};
 ghost use Rattle.venues.specs.Writing.{written-version, count-bytes, head-bytes, write-check, WritesVenue};
-
 use cells::Counts;
 use cells::Refusal;
 use cells::Verdict;

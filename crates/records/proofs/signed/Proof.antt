@@ -1,6 +1,6 @@
 -- Below 2^15 the number is held as it is; from there on 2^16 is taken off, which fits. Assumes nothing.
 use native.Mathlib.Omega.{arith}
-use mathlib.Core.Path.{_≡_, sym, ap, _∙_}
+use mathlib.Core.Path.{sym, ap, _∙_}
 use borrow.Author.Tests.{lt-ltb, le-ltb}
 use lib.IntN.{pos, _-ℤ_}
 use Rattle.cells.proofs.Machine.{held, nat-held, held-is}

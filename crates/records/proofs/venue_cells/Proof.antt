@@ -1,11 +1,11 @@
 -- The part that the partner names lies within the bytes; where it names none, the empty part. Assumes nothing.
-use mathlib.Core.Path.{_≡_, sym, ap, _∙_}
+use mathlib.Core.Path.{sym, ap, _∙_}
 use Prim.Native.Nat.{ℕ, _+_, _<_, _≤_, _^_}
 use native.Mathlib.Nat.{add-sub-cancel-left}
 use native.Mathlib.Omega.{arith}
 use lib.ListN.{length, take, drop}
 use denote.Ref.{now}
-use Rattle.records.specs.Records.{venue-read, venue-cells}
+use Rattle.records.specs.Records.{venue-cells}
 use Rattle.records.proofs.Heads.{part-within}
 use borrow.Author.Needs.{needs}
 use Rattle.records.proofs.venue_cells.Statement.{statement}

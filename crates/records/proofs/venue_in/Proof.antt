@@ -1,10 +1,9 @@
 -- The head is at least seven bytes and within the record, so its counts stand before the cells. Assumes nothing.
 use native.Mathlib.Omega.{arith}
-use mathlib.Core.Path.{_≡_, refl, sym, ap, _∙_}
-use Prim.Native.Nat.{_+_, _<_, _≤_}
+use Prim.Native.Nat.{_<_}
 use lib.ListN.{length}
 use denote.Ref.{now}
-use Rattle.records.specs.Records.{length-field, announced, version-of, venue-head}
+use Rattle.records.specs.Records.{version-of, venue-head}
 use Rattle.records.proofs.Heads.{head-least}
 use borrow.Author.Needs.{needs}
 use Rattle.records.proofs.venue_in.Statement.{statement}

@@ -1,5 +1,5 @@
 -- Each test is the definition's, in its order. Assumes nothing.
-use mathlib.Core.Path.{_∙_, sym}
+use mathlib.Core.Path.{sym}
 use borrow.Author.Tests.{lt-ltb, le-ltb, eq-eqb, ne-eqb}
 use Rattle.records.specs.Records.{whole}
 use borrow.Author.Needs.{needs}

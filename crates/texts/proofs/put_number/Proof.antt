@@ -42,9 +42,10 @@ returns c =
     let few = at-most-twenty _ (made .decimal .result) (start .fits .n .fits) (d .1 .0) in
     let long = d .0 .1 in
     let puts = c .before .before .put-word .ensures in
-    let text : take (made .decimal .result) (made .decimal .last .1 .0) ≡ decimal (start .args .n) = d .1 .1 ∙ fewest-digits (start .args .n) (made .decimal .result) (d .1 .0) in
-    (same-piece (ap (λ l. l ++ (start .args .after ∷ [])) text) puts,
-    omega (arith, puts .says, length-append (take (made .decimal .result) (made .decimal .last .1 .0)) (start .args .after ∷ [])))
+    let text : take (made .decimal .result) (made .decimal .last .1 .0) ≡ decimal (start .args .n) = d .1 .1 ∙ fewest-digits (start .args .n) (made .decimal .result) (d .1 .0) in (
+      same-piece (ap (λ l. l ++ (start .args .after ∷ [])) text) puts,
+      omega (arith, puts .says, length-append (take (made .decimal .result) (made .decimal .last .1 .0)) (start .args .after ∷ [])),
+    )
 
 pub put-number-spec : {M : Type 1} → statement M
 put-number-spec =

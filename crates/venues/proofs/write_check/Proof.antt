@@ -1,11 +1,10 @@
 -- The shape's verdict, and where it is fine the test of the room: the definition's order. Assumes nothing.
 use native.Mathlib.Omega.{arith}
-use native.Mathlib.Nat.{lt-of-le-of-lt}
 use mathlib.Core.Path.{_≡_, sym, _∙_}
 use borrow.Author.Tests.{lt-ltb, le-ltb}
 use Rattle.cells.specs.declared.Verdict.the-variants.{Fine}
 use Rattle.grids.specs.Grid.{shape}
-use Rattle.grids.proofs.Shapes.{Shaped, shaped}
+use Rattle.grids.proofs.Shapes.{shaped}
 use Rattle.venues.specs.Writing.{written-version, record-length, write-check}
 use Rattle.records.proofs.Heads.{head-most}
 use borrow.Author.Needs.{needs}

@@ -1,7 +1,7 @@
 -- Where the check is fine, the head and then the cells are stored; else nothing is. Assumes nothing.
 use Prim.Native.Nat.{_+_, _≤_}
 use native.Mathlib.Omega.{arith}
-use mathlib.Core.Path.{_≡_, refl, sym, ap, _∙_}
+use mathlib.Core.Path.{_≡_, sym, ap, _∙_}
 use denote.Ref.{now}
 use lib.ListN.{length}
 use Rattle.cells.specs.declared.Verdict.the-variants.{Fine}
