@@ -1,25 +1,30 @@
 -- The claims about venue and pair records, each from its law. Assumes nothing.
-use Prim.Native.Nat.{ℕ, _+_}
+use Prim.Native.Nat.{ℕ, _+_, _-_, _*_, _≤_}
+use native.Mathlib.Nat.{mul-le-mul}
 use native.Mathlib.Omega.{arith}
 use mathlib.Core.Path.{_≡_, sym, ap, _∙_, subst}
 use mathlib.Core.List.{List, _++_, append-assoc}
 use lib.ListN.{length, getD, take, drop, take-append-drop}
+use borrow.Author.Tests.{eqb-true}
 use Rattle.cells.specs.declared.Counts.{Counts}
+use Rattle.cells.specs.declared.Verdict.the-variants.{Fine}
 use Rattle.cells.proofs.Signed.{up}
 use Rattle.grids.specs.Grid.{size, shape}
 use Rattle.grids.proofs.Shapes.{shaped}
 use Rattle.records.specs.declared.Pair.{Pair}
+use Rattle.records.specs.declared.Venue.{Venue}
 use Rattle.records.specs.declared.VenueRead.{VenueRead}
 use Rattle.records.specs.declared.VenueRead.the-variants.{Read}
 use Rattle.records.specs.Records.{length-field, announced, cells-from, whole, venue-version, venue-head, venue-check, venue-read, venue-cells, signed, pair-version, pair-length, pair-in, pair-check, pair-read}
+use Rattle.records.proofs.Heads.{venue-accepted}
 use Rattle.records.proofs.Told.{told-venue-one, told-pair-one}
 use Rattle.records.proofs.Following.{venue-unread, cells-unread, pair-unread}
 use Rattle.venues.specs.declared.Written.{Written}
 use Rattle.venues.specs.declared.Written.the-variants.{Wrote}
 use Rattle.venues.specs.Writing.{written-version, head-bytes, write-check, WritesVenue}
 use Rattle.venues.proofs.Told.{told-written-one}
-use Rattle.venues.proofs.RoundTrip.{read-back, cells-back, front-written, same-bytes}
-use Rattle.claims.specs.Records.{ReadsVenue, GivesCells, OneAnswer, ToldApart, ReadBack, WrittenBack, NotLookedAt, example-venue, example-cells, example-counts, example-room, minus-one-pair, Refuses, WritesNothing, ReadsUnsigned}
+use Rattle.venues.proofs.RoundTrip.{read-back, cells-back, front-written, record-fits, same-bytes}
+use Rattle.claims.specs.Records.{ReadsVenue, GivesCells, OneAnswer, ToldApart, Accepted, EmptyPart, ReadBack, WrittenBack, NotLookedAt, example-venue, example-cells, example-counts, example-room, minus-one-pair, Refuses, WritesNothing, ReadsUnsigned}
 
 pub one-answer : (s : List ℕ) → OneAnswer s
 one-answer s =
@@ -39,6 +44,35 @@ not-looked-at s rest exact =
       venue = λ r t e f. e ∙ sym (venue-unread s rest exact) ∙ sym f;
       cells = λ a b e f. e ∙ sym (cells-unread s rest exact) ∙ sym f;
       pair = λ r t e f. e ∙ sym (pair-unread s rest exact) ∙ sym f;
+    }
+
+-- ---- what is accepted
+
+pub accepted : (s : List ℕ) (v : Venue) → venue-read s ≡ Read v → Accepted s v
+unfolding venue-version venue-head
+accepted s v e =
+    let (w, f) = venue-accepted s v e in
+    let fine : shape (v .counts) (v .long) ≡ Fine = subst (λ (u : Venue). shape (u .counts) (u .long) ≡ Fine) f (w .shaped) in
+    let size-is = shaped (v .counts) (v .long) fine .bytes-are in
+    let long : announced s - 7 ≡ v .long = ap (λ (u : Venue). u .long) f in
+    let head = w .head in
+    record {
+      whole = w .there;
+      version = eqb-true _ _ (w .version);
+      length-is = omega arith;
+      shape-is = subst (λ (k : ℕ). shape (v .counts) k ≡ Fine) size-is fine;
+      part = (sym (ap (λ (u : Venue). u .start) f), size-is);
+    }
+
+pub empty-part : (s : List ℕ) → EmptyPart s
+unfolding venue-cells
+empty-part s =
+    record {
+      accepted = λ v e.
+          let h = shaped (v .counts) (length (venue-cells s)) (record-fits s v e .fine) in
+          let some : 1 * 1 ≤ size (v .counts) = mul-le-mul (h .layer-some) (h .z .some) in
+          omega (arith, h .bytes-are);
+      refused = λ r e. rw e;
     }
 
 -- ---- the round trip

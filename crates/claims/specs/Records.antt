@@ -1,5 +1,5 @@
 -- What is claimed of venue and pair records: for all answers that meet the calls' contracts. Assumes nothing.
-use Prim.Native.Nat.{ℕ, _+_}
+use Prim.Native.Nat.{ℕ, _+_, _≤_}
 use mathlib.Core.Path.{_≡_}
 use mathlib.Core.List.{List, [], _∷_, _++_}
 use lib.IntN.{pos}
@@ -7,13 +7,15 @@ use lib.ListN.{length, take, replicate}
 use Rattle.buffers.specs.Numbers.{AllBytes}
 use Rattle.cells.specs.declared.Counts.{Counts}
 use Rattle.cells.specs.declared.Refusal.{Refusal}
+use Rattle.cells.specs.declared.Verdict.the-variants.{Fine}
+use Rattle.grids.specs.Grid.{size, shape}
 use Rattle.records.specs.declared.Venue.{Venue}
 use Rattle.records.specs.declared.VenueRead.{VenueRead}
 use Rattle.records.specs.declared.VenueRead.the-variants.{Read, Refused as NoVenue}
 use Rattle.records.specs.declared.Pair.{Pair}
 use Rattle.records.specs.declared.PairRead.{PairRead}
 use Rattle.records.specs.declared.PairRead.the-variants.{Read as ReadPair}
-use Rattle.records.specs.Records.{length-field, announced, cells-from, venue-read, venue-cells, pair-read, told-venue, told-pair}
+use Rattle.records.specs.Records.{length-field, announced, version-of, cells-from, venue-read, venue-cells, pair-read, told-venue, told-pair}
 use Rattle.venues.specs.declared.Written.{Written}
 use Rattle.venues.specs.declared.Written.the-variants.{Wrote}
 use Rattle.venues.specs.Writing.{written-version, WritesVenue, told-written}
@@ -42,6 +44,18 @@ pub record ToldApart : Type 0 where
   pub venue : (r t : VenueRead) → told-venue r ≡ told-venue t → r ≡ t
   pub pair : (r t : PairRead) → told-pair r ≡ told-pair t → r ≡ t
   pub written : (r t : Written) → told-written r ≡ told-written t → r ≡ t
+
+-- What reading accepts, in document 01's numbers; the part is never empty, so the empty part means refused.
+pub record Accepted (s : List ℕ) (v : Venue) : Type 0 where
+  pub whole : 4 + announced s ≤ length s
+  pub version : version-of s ≡ 1
+  pub length-is : announced s ≡ 7 + size (v .counts)
+  pub shape-is : shape (v .counts) (size (v .counts)) ≡ Fine
+  pub part : (v .start ≡ 11) × (v .long ≡ size (v .counts))
+
+pub record EmptyPart (s : List ℕ) : Type 0 where
+  pub accepted : (v : Venue) → venue-read s ≡ Read v → 1 ≤ length (venue-cells s)
+  pub refused : (r : Refusal) → venue-read s ≡ NoVenue r → venue-cells s ≡ []
 
 -- A venue written and read back is the same counts and the same cells, whatever bytes follow it.
 pub record ReadBack (n : Counts) (cells entry : List ℕ) : Type 0 where
