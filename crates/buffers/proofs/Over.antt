@@ -58,5 +58,6 @@ module _ (at : ℕ) (p s : List ℕ) (fits : at + length p ≤ length s) where
       ∙ ap (λ l. take at s ++ l) (sym (append-assoc p q (drop (at + length (p ++ q)) s)))
 
 -- two stores, one right behind the other
-pub then-over : (at : ℕ) (p q s : List ℕ) {b : ℕ} {m l : List ℕ} → at + length p ≤ length s → m ≡ over at p s → b ≡ at + length p → l ≡ over b q m → l ≡ over at (p ++ q) s
+pub then-over : (at : ℕ) (p q s : List ℕ) {b : ℕ} {m l : List ℕ} → at + length p ≤ length s → m ≡ over at p s → b ≡ at + length p
+    → l ≡ over b q m → l ≡ over at (p ++ q) s
 then-over at p q s {b} fits first e second = second ∙ ap (over b q) first ∙ over-over at p s fits b q e

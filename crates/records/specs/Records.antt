@@ -29,9 +29,11 @@ use Rattle.records.specs.declared.PairRead.the-variants.{Read as ReadPai
 abbrev pub length-field : ℕ
 length-field = 4
 
+-- the length that is announced
 abbrev pub announced : List ℕ → ℕ
 announced s = four-at s 0
 
+-- the byte after it
 abbrev pub version-of : List ℕ → ℕ
 version-of s = getD s length-field 0
 
@@ -52,6 +54,7 @@ venue-version version = eqb version 1
 unfoldable pub venue-head : ℕ → ℕ
 venue-head version = 7
 
+-- where the cells start
 abbrev pub cells-from : ℕ → ℕ
 cells-from version = length-field + venue-head version
 
@@ -59,6 +62,7 @@ cells-from version = length-field + venue-head version
 abbrev pub counts-from : ℕ → ℕ
 counts-from version = cells-from version - 6
 
+-- three counts in two bytes each, from i on
 abbrev pub counts-at : List ℕ → ℕ → Counts
 counts-at s i = record { nx = two-at s i; ny = two-at s (i + 2); nz = two-at s (i + 4) }
 
@@ -79,6 +83,7 @@ venue-check s =
     refuse-when (ltb (announced s) (venue-head (version-of s))) Record then
     shape (venue-in s .counts) (venue-in s .long)
 
+-- the answer, by the verdict on the bytes
 abbrev pub venue-by : Verdict → Venue → VenueRead
 venue-by Fine v = Read v
 venue-by (Refused r) v = NoVenue r
@@ -92,6 +97,7 @@ abbrev pub part-of : VenueRead → List ℕ → List ℕ
 part-of (Read v) s = take (v .long) (drop (v .start) s)
 part-of (NoVenue r) s = []
 
+-- what the partner call returns
 unfoldable pub venue-cells : List ℕ → List ℕ
 venue-cells s = part-of (venue-read s) s
 
@@ -110,6 +116,7 @@ pair-version version = eqb version 1
 unfoldable pub pair-length : ℕ → ℕ
 pair-length version = 13
 
+-- both ends stand after the version
 abbrev pub ends-from : ℕ
 ends-from = length-field + 1
 
@@ -117,9 +124,11 @@ ends-from = length-field + 1
 unfoldable pub signed : ℕ → ℤ
 signed v = cond (ltb v 32768) (pos v) (pos v -ℤ pos 65536)
 
+-- a cell, its three coordinates from i on
 abbrev pub cell-in : List ℕ → ℕ → Cell
 cell-in s i = record { x = signed (two-at s i); y = signed (two-at s (i + 2)); z = signed (two-at s (i + 4)) }
 
+-- P, and Q six bytes further
 abbrev pub pair-in : List ℕ → Pair
 pair-in s = record { p = cell-in s ends-from; q = cell-in s (ends-from + 6) }
 
@@ -130,6 +139,7 @@ pair-check s =
     refuse-when (not (pair-version (version-of s))) Version then
     refuse-when (not (eqb (announced s) (pair-length (version-of s)))) Record
 
+-- the answer, by the verdict on the bytes
 abbrev pub pair-by : Verdict → Pair → PairRead
 pair-by Fine e = ReadPair e
 pair-by (Refused r) e = NoPair r

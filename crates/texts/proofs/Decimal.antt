@@ -29,7 +29,11 @@ in-turns (suc turns) (suc (suc k)) n h f =
     let most = f .1 in
     let large : 10 ≤ n = omega arith in
     let tenth : 10 ^ k ≤ n / 10 = omega arith in
-    rw (le-ltb n 10 large, in-turns turns (suc k) (n / 10) (omega arith) (omega arith, omega arith, λ i. subst (λ (j : ℕ). 10 ^ j ≤ n / 10) (sym (less k)) tenth), glyph-digit (n % 10) (omega arith))
+    rw (
+      le-ltb n 10 large,
+      in-turns turns (suc k) (n / 10) (omega arith) (omega arith, omega arith, λ i. subst (λ (j : ℕ). 10 ^ j ≤ n / 10) (sym (less k)) tenth),
+      glyph-digit (n % 10) (omega arith),
+    )
   where
     less : (j : ℕ) → suc j - 1 ≡ j
     less j = omega arith

@@ -27,7 +27,9 @@ same-piece {at = at} {s = s} {c = c} {l = l} e h = subst (λ (r : List ℕ). Put
 -- ---- the lines, piece by piece
 
 pub hit-pieces : (k : ℕ) (w : Walker) (x y z code reads : ℕ)
-    → parted (decimal k) ++ parted (letter w ∷ []) ++ parted hit-word ++ (parted (decimal x) ++ parted (decimal y) ++ parted (decimal z)) ++ parted (decimal code) ++ ended (decimal reads) ≡ hit-line k w x y z code reads
+    → parted (decimal k) ++ parted (letter w ∷ []) ++ parted hit-word
+    ++ (parted (decimal x) ++ parted (decimal y) ++ parted (decimal z))
+    ++ parted (decimal code) ++ ended (decimal reads) ≡ hit-line k w x y z code reads
 unfolding hit-line
 hit-pieces k w x y z code reads = simp append-assoc
 

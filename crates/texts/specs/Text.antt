@@ -31,31 +31,37 @@ abbrev pub letter : Walker → ℕ
 letter Plain = 80
 letter Adaptive = 65
 
--- `hit`, `clear`, `refused`, `G`
+-- `hit`
 abbrev pub hit-word : List ℕ
 hit-word = 104 ∷ 105 ∷ 116 ∷ []
 
+-- `clear`
 abbrev pub clear-word : List ℕ
 clear-word = 99 ∷ 108 ∷ 101 ∷ 97 ∷ 114 ∷ []
 
+-- `refused`
 abbrev pub refused-word : List ℕ
 refused-word = 114 ∷ 101 ∷ 102 ∷ 117 ∷ 115 ∷ 101 ∷ 100 ∷ []
 
+-- `G`, where the venue itself is refused
 abbrev pub venue-word : List ℕ
 venue-word = 71 ∷ []
 
 -- ---- lines
 
+-- "parted by one space"
 abbrev pub space : ℕ
 space = 32
 
+-- "each line ends with a line feed"
 abbrev pub line-feed : ℕ
 line-feed = 10
 
--- a field before another, and the last field
+-- a field before another
 abbrev pub parted : List ℕ → List ℕ
 parted f = f ++ (space ∷ [])
 
+-- the last field
 abbrev pub ended : List ℕ → List ℕ
 ended f = f ++ (line-feed ∷ [])
 

@@ -40,7 +40,13 @@ pub judged : (s : List ℕ) → length-field + announced s ≤ length s → venu
 unfolding whole venue-check
 judged s there known head =
     let least = head-least (version-of s) in
-    rw (le-ltb (length s) length-field (omega arith), ne-eqb (announced s) 0 (λ e. omega arith), le-ltb (length s) (length-field + announced s) there, known, le-ltb (announced s) (venue-head (version-of s)) head)
+    rw (
+      le-ltb (length s) length-field (omega arith),
+      ne-eqb (announced s) 0 (λ e. omega arith),
+      le-ltb (length s) (length-field + announced s) there,
+      known,
+      le-ltb (announced s) (venue-head (version-of s)) head,
+    )
 
 -- the venue that a written record holds
 abbrev pub venue-of : Counts → Venue

@@ -32,7 +32,11 @@ returns : tie.Need-returns
 returns c =
     let y = c .before .before in
     let x = y .before .before in
-    rw (signed-held _ (x .signed .ensures) (x .before .two-at .ensures), signed-held _ (y .signed2 .ensures) (y .before .two-at2 .ensures), signed-held _ (c .signed3 .ensures) (c .before .two-at3 .ensures))
+    rw (
+      signed-held _ (x .signed .ensures) (x .before .two-at .ensures),
+      signed-held _ (y .signed2 .ensures) (y .before .two-at2 .ensures),
+      signed-held _ (c .signed3 .ensures) (c .before .two-at3 .ensures),
+    )
 
 pub cell-in-spec : {M : Type 1} → statement M
 cell-in-spec =

@@ -20,7 +20,9 @@ returns c =
     let numbered = said .before .before .before .before in
     let start = numbered .before .before .before in
     let room = start .pre in
-    front-line (same-piece (pair-pieces (start .args .k) (start .args .number)) (then-puts (omega (arith, numbered .put-number .ensures .1)) (numbered .put-number .ensures .0) (said .put-refused .ensures)))
+    front-line
+    (same-piece (pair-pieces (start .args .k) (start .args .number))
+    (then-puts (omega (arith, numbered .put-number .ensures .1)) (numbered .put-number .ensures .0) (said .put-refused .ensures)))
 
 pub put-pair-refused-spec : {M : Type 1} → statement M
 put-pair-refused-spec =
