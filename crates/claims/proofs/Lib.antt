@@ -5,3 +5,5 @@ pub mod Lists
 pub mod Grids
 pub mod Story
 pub mod Points
+pub mod Records
+pub mod Texts

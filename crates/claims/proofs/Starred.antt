@@ -1,9 +1,15 @@
 -- Every row of the table of starred cases holds: the definitions compute to what document 01 says. Assumes nothing.
 use mathlib.Core.Path.{refl}
 use Rattle.lines.specs.Lines.{six-line, line-26}
+use Rattle.grids.specs.Grid.{shape}
 use Rattle.grids.specs.Marks.{marked}
+use Rattle.records.specs.Records.{whole, venue-version, venue-head, venue-check, venue-read, venue-cells, signed, pair-version, pair-length, pair-check, pair-read}
 use Rattle.walks.specs.Answers.{plain, adaptive}
-use Rattle.claims.specs.Starred.{Every, table}
+use Rattle.claims.specs.Starred.{Every, record-rows, table}
+
+records-hold : Every record-rows
+unfolding shape whole venue-version venue-head venue-check venue-read venue-cells signed pair-version pair-length pair-check pair-read
+records-hold = ((refl, refl), (refl, tt))
 
 pub starred : Every table
 unfolding six-line line-26 marked plain adaptive
@@ -41,7 +47,7 @@ starred = (
                                 (refl, refl),
                                 (
                                   (refl, refl),
-                                  tt,
+                                  records-hold,
                                 ),
                               ),
                             ),

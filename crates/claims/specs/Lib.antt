@@ -4,3 +4,5 @@ pub mod Lists
 pub mod Grids
 pub mod Story
 pub mod Points
+pub mod Records
+pub mod Texts

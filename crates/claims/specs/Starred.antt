@@ -1,16 +1,20 @@
 -- Document 01, "On both sides of each edge": the starred cases, as one table. Assumes nothing.
-use Prim.Native.Nat.{ℕ}
+use Prim.Native.Nat.{ℕ, _-_}
 use mathlib.Core.Path.{_≡_}
 use mathlib.Core.List.{List, [], _∷_}
+use mathlib.Core.Logic.{inr}
 use lib.IntN.{pos, negℤ}
+use lib.ListN.{length}
 use Rattle.cells.specs.declared.Cell.{Cell}
 use Rattle.cells.specs.declared.Counts.{Counts}
 use Rattle.lines.specs.Preference.{rule-1}
 use Rattle.lines.specs.Lines.{six-line, line-26}
 use Rattle.grids.specs.Marks.{marked}
+use Rattle.records.specs.Records.{venue-read, venue-cells, told-venue, pair-read, told-pair}
 use Rattle.walks.specs.declared.FirstHit.{FirstHit}
 use Rattle.walks.specs.declared.FirstHit.the-variants.{Clear, Hit as Blocked}
 use Rattle.walks.specs.Answers.{plain, adaptive}
+use Rattle.claims.specs.Records.{example-venue, example-cells, example-pair}
 
 -- counts
 abbrev pub counts : ℕ → ℕ → ℕ → Counts
@@ -28,13 +32,15 @@ at-minus x y z = record { x = negℤ (pos x); y = pos y; z = pos z }
 abbrev pub hit : Cell → ℕ → ℕ → ℕ → ℕ → FirstHit
 hit c code num den reads = Blocked (record { cell = c; code = code; place = record { num = num; den = den }; reads = reads })
 
--- a row: the ends P and Q and the cells of the line between them; counts, bytes, and the bytes marked; or a grid, the ends, and what the plain and
--- the adaptive walk answer
+-- a row: the ends P and Q and the cells of the line between them; counts, bytes, and the bytes marked; a grid, the ends, and what the plain and
+-- the adaptive walk answer; a venue's record, its counts and its cells; or a pair's record, P and Q
 pub data Row : Type 0 where
   six : Cell → Cell → List Cell → Row
   twenty-six : Cell → Cell → List Cell → Row
   marks : Counts → List ℕ → List ℕ → Row
   walks : Counts → List ℕ → Cell → Cell → FirstHit → FirstHit → Row
+  venue : List ℕ → Counts → List ℕ → Row
+  pair : List ℕ → Cell → Cell → Row
 
 -- what a row says
 abbrev pub Holds : Row → Type 0
@@ -42,11 +48,20 @@ Holds (six p q l) = six-line rule-1 p q ≡ l
 Holds (twenty-six p q l) = line-26 p q ≡ l
 Holds (marks n l m) = marked 3 n l ≡ m
 Holds (walks n l p q a b) = (plain n l p q ≡ a) × (adaptive n l p q ≡ b)
+Holds (venue s n cells) = (told-venue (venue-read s) ≡ inr (n, length s - length cells, length cells)) × (venue-cells s ≡ cells)
+Holds (pair s p q) = told-pair (pair-read s) ≡ inr (p, q)
 
 -- every row of a table holds
 abbrev pub Every : List Row → Type 0
 Every [] = Unit {0}
 Every (row ∷ rows) = Holds row × Every rows
+
+-- the program's input, `0000000F 01 0004 0002 0001 0000000000020000` and `0000000D 01 0000 0000 0000 0003 0001 0000`
+abbrev pub record-rows : List Row
+record-rows =
+    venue example-venue (counts 4 2 1) example-cells
+    ∷ pair example-pair (at 0 0 0) (at 3 1 0)
+    ∷ []
 
 abbrev pub table : List Row
 table =
@@ -72,4 +87,4 @@ table =
     ∷ walks (counts 6 3 1) (0 ∷ 0 ∷ 0 ∷ 0 ∷ 0 ∷ 0 ∷ 0 ∷ 0 ∷ 2 ∷ 0 ∷ 0 ∷ 0 ∷ 0 ∷ 0 ∷ 0 ∷ 0 ∷ 0 ∷ 0 ∷ []) (at 0 0 0) (at 5 2 0) (hit (at 2 1 0) 2 3 10 4) (hit (at 2 1 0) 2 3 10 3)
     -- missing marks: the adaptive walk is clear and reads more than the plain one
     ∷ walks (counts 3 2 1) (0 ∷ 0 ∷ 0 ∷ 0 ∷ 2 ∷ 0 ∷ []) (at 0 1 0) (at 2 0 0) (hit (at 1 1 0) 2 1 4 2) (Clear 3)
-    ∷ []
+    ∷ record-rows

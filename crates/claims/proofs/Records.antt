@@ -1,0 +1,126 @@
+-- The claims about venue and pair records, each from its law. Assumes nothing.
+use Prim.Native.Nat.{ℕ, _+_, _-_, _*_, _≤_}
+use native.Mathlib.Nat.{mul-le-mul}
+use native.Mathlib.Omega.{arith}
+use mathlib.Core.Path.{_≡_, sym, ap, _∙_, subst}
+use mathlib.Core.List.{List, _++_, append-assoc}
+use lib.ListN.{length, getD, take, drop, take-append-drop}
+use borrow.Author.Tests.{eqb-true}
+use Rattle.cells.specs.declared.Counts.{Counts}
+use Rattle.cells.specs.declared.Verdict.the-variants.{Fine}
+use Rattle.cells.proofs.Signed.{up}
+use Rattle.grids.specs.Grid.{size, shape}
+use Rattle.grids.proofs.Shapes.{shaped}
+use Rattle.records.specs.declared.Pair.{Pair}
+use Rattle.records.specs.declared.Venue.{Venue}
+use Rattle.records.specs.declared.VenueRead.{VenueRead}
+use Rattle.records.specs.declared.VenueRead.the-variants.{Read}
+use Rattle.records.specs.Records.{length-field, announced, cells-from, whole, venue-version, venue-head, venue-check, venue-read, venue-cells, signed, pair-version, pair-length, pair-in, pair-check, pair-read}
+use Rattle.records.proofs.Heads.{venue-accepted}
+use Rattle.records.proofs.Told.{told-venue-one, told-pair-one}
+use Rattle.records.proofs.Following.{venue-unread, cells-unread, pair-unread}
+use Rattle.venues.specs.declared.Written.{Written}
+use Rattle.venues.specs.declared.Written.the-variants.{Wrote}
+use Rattle.venues.specs.Writing.{written-version, head-bytes, write-check, WritesVenue}
+use Rattle.venues.proofs.Told.{told-written-one}
+use Rattle.venues.proofs.RoundTrip.{read-back, cells-back, front-written, record-fits, same-bytes}
+use Rattle.claims.specs.Records.{ReadsVenue, GivesCells, OneAnswer, ToldApart, Accepted, EmptyPart, ReadBack, WrittenBack, NotLookedAt, example-venue, example-cells, example-counts, example-room, minus-one-pair, Refuses, WritesNothing, ReadsUnsigned}
+
+pub one-answer : (s : List ℕ) → OneAnswer s
+one-answer s =
+    record {
+      venue = λ r t e f. e ∙ sym f;
+      cells = λ a b e f. e ∙ sym f;
+      pair = λ r t e f. e ∙ sym f;
+      written = λ n entry r t x y e f. (e .says ∙ sym (f .says), e .holds ∙ sym (f .holds));
+    }
+
+pub answers-told-apart : ToldApart
+answers-told-apart = record { venue = told-venue-one; pair = told-pair-one; written = told-written-one }
+
+pub not-looked-at : (s rest : List ℕ) → length s ≡ length-field + announced s → NotLookedAt s rest
+not-looked-at s rest exact =
+    record {
+      venue = λ r t e f. e ∙ sym (venue-unread s rest exact) ∙ sym f;
+      cells = λ a b e f. e ∙ sym (cells-unread s rest exact) ∙ sym f;
+      pair = λ r t e f. e ∙ sym (pair-unread s rest exact) ∙ sym f;
+    }
+
+-- ---- what is accepted
+
+pub accepted : (s : List ℕ) (v : Venue) → venue-read s ≡ Read v → Accepted s v
+unfolding venue-version venue-head
+accepted s v e =
+    let (w, f) = venue-accepted s v e in
+    let fine : shape (v .counts) (v .long) ≡ Fine = subst (λ (u : Venue). shape (u .counts) (u .long) ≡ Fine) f (w .shaped) in
+    let size-is = shaped (v .counts) (v .long) fine .bytes-are in
+    let long : announced s - 7 ≡ v .long = ap (λ (u : Venue). u .long) f in
+    let head = w .head in
+    record {
+      whole = w .there;
+      version = eqb-true _ _ (w .version);
+      length-is = omega arith;
+      shape-is = subst (λ (k : ℕ). shape (v .counts) k ≡ Fine) size-is fine;
+      part = (sym (ap (λ (u : Venue). u .start) f), size-is);
+    }
+
+pub empty-part : (s : List ℕ) → EmptyPart s
+unfolding venue-cells
+empty-part s =
+    record {
+      accepted = λ v e.
+          let h = shaped (v .counts) (length (venue-cells s)) (record-fits s v e .fine) in
+          let some : 1 * 1 ≤ size (v .counts) = mul-le-mul (h .layer-some) (h .z .some) in
+          omega (arith, h .bytes-are);
+      refused = λ r e. rw e;
+    }
+
+-- ---- the round trip
+
+pub read-back-same : (n : Counts) (cells entry : List ℕ) → ReadBack n cells entry
+read-back-same n cells entry = record { same = same; in-place = in-place }
+  where
+    same : (w : Written) (exit : List ℕ) (k : ℕ) → WritesVenue n cells entry w exit → w ≡ Wrote k →
+        (rest : List ℕ) (r : VenueRead) (part : List ℕ) → ReadsVenue (take k exit ++ rest) r → GivesCells (take k exit ++ rest) part →
+        (r ≡ Read (record { counts = n; start = cells-from written-version; long = length cells })) × (part ≡ cells)
+    same w exit k c e rest r part reads gives =
+        let f = front-written n cells entry exit k (subst (λ (a : Written). WritesVenue n cells entry a exit) e c) in
+        let bytes : take k exit ++ rest ≡ head-bytes written-version n ++ (cells ++ rest) =
+        ap (λ l. l ++ rest) (f .front) ∙ append-assoc (head-bytes written-version n) cells rest in
+        let long : size n ≡ length cells = sym (shaped n (length cells) (f .fine) .bytes-are) in (
+          reads ∙ ap venue-read bytes ∙ read-back n cells rest (f .fine)
+              ∙ ap (λ (l : ℕ). Read (record { counts = n; start = cells-from written-version; long = l })) long,
+          gives ∙ ap venue-cells bytes ∙ cells-back n cells rest (f .fine),
+        )
+
+    in-place : (w : Written) (exit : List ℕ) (k : ℕ) → WritesVenue n cells entry w exit → w ≡ Wrote k →
+        (r : VenueRead) (part : List ℕ) → ReadsVenue exit r → GivesCells exit part →
+        (r ≡ Read (record { counts = n; start = cells-from written-version; long = length cells })) × (part ≡ cells)
+    in-place w exit k c e r part reads gives =
+        let whole = sym (take-append-drop k exit) in
+        same w exit k c e (drop k exit) r part (reads ∙ ap venue-read whole) (gives ∙ ap venue-cells whole)
+
+pub written-back-same : (s : List ℕ) → WrittenBack s
+written-back-same s =
+    record {
+      same = λ bytes v r part reads e gives entry room w exit c.
+          same-bytes s v entry exit w bytes (sym reads ∙ e) room (subst (λ (l : List ℕ). WritesVenue (v .counts) l entry w exit) gives c);
+    }
+
+-- ---- wrong answers
+
+pub no-refuser : Refuses example-venue → ⊥
+unfolding shape whole venue-version venue-head venue-check venue-read
+no-refuser h = let e = h .answers in let z : _≡_ {A = ℕ} 0 1 = cc in omega arith
+
+pub no-idle-writer : WritesNothing example-counts example-cells example-room → ⊥
+unfolding shape venue-head write-check
+no-idle-writer h = let e : _≡_ {A = ℕ} 99 0 = ap (λ (l : List ℕ). getD l 0 0) (h .leaves .holds) in omega arith
+
+pub no-unsigned-reader : ReadsUnsigned → ⊥
+unfolding whole pair-version pair-length signed pair-check pair-read
+no-unsigned-reader h =
+    let e = h .answers in
+    let same : h .ends ≡ pair-in minus-one-pair = cc in
+    let z : _≡_ {A = ℕ} 65535 0 = ap up (sym (h .unsigned) ∙ ap (λ (p : Pair). p .q .x) same) in
+    omega arith

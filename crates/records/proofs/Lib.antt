@@ -1,0 +1,4 @@
+pub mod Heads
+pub mod Complement
+pub mod Following
+pub mod Told

@@ -1,0 +1,104 @@
+-- Document 01, "Records and the program": the program's lines as bytes. "Numbers are decimal without leading zeros, fields are parted by one space,
+-- and each line ends with a line feed." Assumes nothing.
+use Prim.Native.Nat.{ℕ, zero, suc, _+_, _/_, _%_}
+use mathlib.Core.Bool.{cond}
+use mathlib.Core.Path.{_≡_}
+use mathlib.Core.List.{List, [], _∷_, _++_}
+use lib.Dec.{ltb}
+use lib.ListN.{length, drop}
+use Rattle.buffers.specs.Over.{over}
+use Rattle.texts.specs.declared.Walker.{Walker}
+use Rattle.texts.specs.declared.Walker.the-variants.{Plain, Adaptive}
+
+-- ---- fields
+
+-- the byte of a digit: `0` to `9`
+abbrev pub digit : ℕ → ℕ
+digit d = 48 + d
+
+-- a number in decimal: its last digit, and before it the tenth of the number, until one digit is left
+unfoldable pub decimal-in : ℕ → ℕ → List ℕ
+decimal-in zero n = []
+decimal-in (suc turns) n = cond (ltb n 10) (digit n ∷ []) (decimal-in turns (n / 10) ++ (digit (n % 10) ∷ []))
+
+-- more turns than the number says are never needed
+unfoldable pub decimal : ℕ → List ℕ
+unfolding decimal-in
+decimal n = decimal-in (suc n) n
+
+-- "P (plain) or A (adaptive)"
+abbrev pub letter : Walker → ℕ
+letter Plain = 80
+letter Adaptive = 65
+
+-- `hit`
+abbrev pub hit-word : List ℕ
+hit-word = 104 ∷ 105 ∷ 116 ∷ []
+
+-- `clear`
+abbrev pub clear-word : List ℕ
+clear-word = 99 ∷ 108 ∷ 101 ∷ 97 ∷ 114 ∷ []
+
+-- `refused`
+abbrev pub refused-word : List ℕ
+refused-word = 114 ∷ 101 ∷ 102 ∷ 117 ∷ 115 ∷ 101 ∷ 100 ∷ []
+
+-- `G`, where the venue itself is refused
+abbrev pub venue-word : List ℕ
+venue-word = 71 ∷ []
+
+-- ---- lines
+
+-- "parted by one space"
+abbrev pub space : ℕ
+space = 32
+
+-- "each line ends with a line feed"
+abbrev pub line-feed : ℕ
+line-feed = 10
+
+-- a field before another
+abbrev pub parted : List ℕ → List ℕ
+parted f = f ++ (space ∷ [])
+
+-- the last field
+abbrev pub ended : List ℕ → List ℕ
+ended f = f ++ (line-feed ∷ [])
+
+-- a first field and those that follow it
+abbrev pub line : List ℕ → List (List ℕ) → List ℕ
+line f [] = ended f
+line f (g ∷ fields) = parted f ++ line g fields
+
+-- `K P hit x y z code reads`
+unfoldable pub hit-line : ℕ → Walker → ℕ → ℕ → ℕ → ℕ → ℕ → List ℕ
+hit-line k w x y z code reads =
+    line (decimal k) ((letter w ∷ []) ∷ hit-word ∷ decimal x ∷ decimal y ∷ decimal z ∷ decimal code ∷ decimal reads ∷ [])
+
+-- `K A clear reads`
+unfoldable pub clear-line : ℕ → Walker → ℕ → List ℕ
+clear-line k w reads = line (decimal k) ((letter w ∷ []) ∷ clear-word ∷ decimal reads ∷ [])
+
+-- `K refused N`
+unfoldable pub pair-refused-line : ℕ → ℕ → List ℕ
+pair-refused-line k number = line (decimal k) (refused-word ∷ decimal number ∷ [])
+
+-- `G refused N`
+unfoldable pub venue-refused-line : ℕ → List ℕ
+venue-refused-line number = line venue-word (refused-word ∷ decimal number ∷ [])
+
+-- ---- contracts
+
+-- room for every line
+abbrev pub line-room : ℕ
+line-room = 160
+
+-- a line at the front of the lent bytes, the rest as it was; the answer is its length
+pub record PutsLine (l entry : List ℕ) (r : ℕ) (exit : List ℕ) : Type 0 where
+  pub says : r ≡ length l
+  pub holds : exit ≡ l ++ drop (length l) entry
+
+-- a piece from a place on; the answer is the place after it
+pub record Puts (piece : List ℕ) (at : ℕ) (entry : List ℕ) (next : ℕ) (exit : List ℕ) : Type 0 where
+  pub says : next ≡ at + length piece
+  pub holds : exit ≡ over at piece entry
