@@ -24,7 +24,8 @@ use Rattle.sights.specs.Answers.{Said, said}
 use Rattle.sights.proofs.Whole.{whole-exact}
 use Rattle.sights.proofs.Finite.{quotient-no-nan}
 use Rattle.sights.proofs.Numbers.{one-number, number-whole-part, number-found, number-in, cell-not-outside, outside-exactly}
-use Rattle.sights.proofs.Survey.{Ranges, counts-range, placed, point-fine}
+use Rattle.grids.proofs.Shapes.{Counted, counted}
+use Rattle.sights.proofs.Survey.{placed, point-fine}
 use Rattle.sights.proofs.Lookups.{cell-given, cell-found}
 use Rattle.sights.proofs.Answers.{said-one}
 use Rattle.claims.specs.Points.{OneAnswer, Coordinate, InItsCell, Finite, TheCell, Outside, Exact, Shares, Refuted, Every, table, cube, placement, metres, tenths, point, cell-is, refused}
@@ -56,13 +57,13 @@ coordinate-inside : (count : ℕ) (q : Float) (z : ℤ) → count ≤ 1024 → C
 coordinate-inside count q z small k = cell-not-outside q count (k .number) (omega arith) (k .below) (k .there)
 
 -- so a cell with these coordinates is the definition's
-cell-is-at : (n : Counts) (q : Point) (c : cell.Cell) → Ranges n → InItsCell n q c → c ≡ cell-at n q
+cell-is-at : (n : Counts) (q : Point) (c : cell.Cell) → Counted n → InItsCell n q c → c ≡ cell-at n q
 cell-is-at n q c range i = same-cell c (cell-at n q) each
   where
     each : (a : Axis) → on c a ≡ on (cell-at n q) a
-    each X = coordinate-is (n .nx) (q .x) (c .x) (range .x .1) (i .x)
-    each Y = coordinate-is (n .ny) (q .y) (c .y) (range .y .1) (i .y)
-    each Z = coordinate-is (n .nz) (q .z) (c .z) (range .z .1) (i .z)
+    each X = coordinate-is (n .nx) (q .x) (c .x) (range .x .most) (i .x)
+    each Y = coordinate-is (n .ny) (q .y) (c .y) (range .y .most) (i .y)
+    each Z = coordinate-is (n .nz) (q .z) (c .z) (range .z .most) (i .z)
 
 pub the-cell : (n : Counts) (at : Placement) (p : Point) → TheCell n at p
 the-cell n at p = record { given = given; found = found }
@@ -75,10 +76,10 @@ the-cell n at p = record { given = given; found = found }
 
     found : (c : cell.Cell) → Tested n at → Finite p → InItsCell n (quotients at p) c → cell-of n at p ≡ Cell c
     found c t f i =
-        let range = counts-range n (t .counts) in
+        let range = counted n (t .counts) in
         let fine =
-        point-fine P n p (quotients at p) (f .x) (f .y) (f .z) (coordinate-inside (n .nx) _ (c .x) (range .x .1) (i .x))
-        (coordinate-inside (n .ny) _ (c .y) (range .y .1) (i .y)) (coordinate-inside (n .nz) _ (c .z) (range .z .1) (i .z)) in
+        point-fine P n p (quotients at p) (f .x) (f .y) (f .z) (coordinate-inside (n .nx) _ (c .x) (range .x .most) (i .x))
+        (coordinate-inside (n .ny) _ (c .y) (range .y .most) (i .y)) (coordinate-inside (n .nz) _ (c .z) (range .z .most) (i .z)) in
         cell-found n at p t fine ∙ ap Cell (sym (cell-is-at n (quotients at p) c range i))
 
 -- ---- outside, and exact conversion

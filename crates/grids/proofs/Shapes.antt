@@ -11,8 +11,8 @@ use Rattle.cells.specs.declared.Counts.{Counts}
 use Rattle.cells.specs.declared.Refusal.the-variants.{Count}
 use Rattle.cells.specs.declared.Verdict.the-variants.{Fine}
 use Rattle.cells.specs.Checks.{refuse-when}
-use Rattle.cells.proofs.Checks.{fine-first, fine-rest, passed}
-use Rattle.grids.specs.Grid.{bad-count, size, shape}
+use Rattle.cells.proofs.Checks.{fine-first, fine-rest, each-fine, passed}
+use Rattle.grids.specs.Grid.{bad-count, size, count-check, shape}
 
 -- a count is 1 to 1,024
 pub record Good (n : ℕ) : Type 0 where
@@ -40,16 +40,32 @@ pub record Shaped (n : Counts) (bytes : ℕ) : Type 0 where
   pub size-most : size n ≤ 1073741824
   pub layer-some : 1 ≤ n .nx * n .ny
 
+-- counts that passed
+pub record Counted (n : Counts) : Type 0 where
+  pub x : Good (n .nx)
+  pub y : Good (n .ny)
+  pub z : Good (n .nz)
+
+pub counted : (n : Counts) → count-check n ≡ Fine → Counted n
+unfolding count-check
+counted n e =
+    let (x, yz) = each-fine (refuse-when (bad-count (n .nx)) (Count X)) _ e in
+    let (y, z) = each-fine (refuse-when (bad-count (n .ny)) (Count Y)) _ yz in
+    record { x = good-count (n .nx) (passed _ _ x); y = good-count (n .ny) (passed _ _ y); z = good-count (n .nz) (passed _ _ z) }
+
+-- a grid whose shape is fine has passed the test of the counts
+pub shape-counts : (n : Counts) (bytes : ℕ) → shape n bytes ≡ Fine → count-check n ≡ Fine
+unfolding shape
+shape-counts n bytes e = fine-first (count-check n) _ e
+
 pub shaped : (n : Counts) (bytes : ℕ) → shape n bytes ≡ Fine → Shaped n bytes
 unfolding shape
 shaped n bytes e =
-    let past-x = fine-rest (refuse-when (bad-count (n .nx)) (Count X)) _ e in
-    let past-y = fine-rest (refuse-when (bad-count (n .ny)) (Count Y)) _ past-x in
-    let past-z = fine-rest (refuse-when (bad-count (n .nz)) (Count Z)) _ past-y in
-    let gx = good-count (n .nx) (passed _ _ (fine-first (refuse-when (bad-count (n .nx)) (Count X)) _ e)) in
-    let gy = good-count (n .ny) (passed _ _ (fine-first (refuse-when (bad-count (n .ny)) (Count Y)) _ past-x)) in
-    let gz = good-count (n .nz) (passed _ _ (fine-first (refuse-when (bad-count (n .nz)) (Count Z)) _ past-y)) in
-    let b = eqb-true bytes (size n) (not-false _ (passed _ _ past-z)) in
+    let g = counted n (fine-first (count-check n) _ e) in
+    let gx = g .x in
+    let gy = g .y in
+    let gz = g .z in
+    let b = eqb-true bytes (size n) (not-false _ (passed _ _ (fine-rest (count-check n) _ e))) in
     let per : n .nx * n .ny ≤ 1024 * 1024 = mul-le-mul (gx .most) (gy .most) in
     record {
       x = gx;

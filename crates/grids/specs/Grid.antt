@@ -3,7 +3,7 @@ use Prim.Native.Nat.{ℕ, _+_, _*_, _/_, _%_}
 use mathlib.Core.Bool.{Bool, not, _||_}
 use mathlib.Core.List.{List, []}
 use lib.Dec.{ltb, eqb}
-use lib.IntN.{ℤ, pos, negsuc, natAbs}
+use lib.IntN.{ℤ, pos, natAbs}
 use lib.Signed.{ltZ, leZ}
 use lib.ListN.{length, getD, take, drop}
 use Rattle.cells.specs.declared.Axis.the-variants.{X, Y, Z}
@@ -24,13 +24,17 @@ bad-count n = eqb n 0 || ltb 1024 n
 abbrev pub size : Counts → ℕ
 size n = n .nx * n .ny * n .nz
 
--- refusal 2 (x, y, z), then 3
-unfoldable pub shape : Counts → ℕ → Verdict
-shape n bytes =
+-- refusal 2 (x, y, z)
+unfoldable pub count-check : Counts → Verdict
+count-check n =
     refuse-when (bad-count (n .nx)) (Count X) then
     refuse-when (bad-count (n .ny)) (Count Y) then
-    refuse-when (bad-count (n .nz)) (Count Z) then
-    refuse-when (not (eqb bytes (size n))) Bytes
+    refuse-when (bad-count (n .nz)) (Count Z)
+
+-- refusal 2, then 3
+unfoldable pub shape : Counts → ℕ → Verdict
+unfolding count-check
+shape n bytes = count-check n then refuse-when (not (eqb bytes (size n))) Bytes
 
 -- ---- cells and bytes
 

@@ -1,7 +1,7 @@
 // The grid: its shape and its layers. Its definitions (specs/) are those of near marks and their completeness too; their calls are in `marks`.
 ghost use mathlib.Core.Path.{_≡_};
 ghost use lib.ListN.{length};
-ghost use Rattle.grids.specs.Grid.{bad-count, shape, bad-layer, layer-check, layer-part, layer};
+ghost use Rattle.grids.specs.Grid.{count-check, bad-count, shape, bad-layer, layer-check, layer-part, layer};
 use cells::Axis;
 use cells::Counts;
 use cells::Refusal;
@@ -26,9 +26,9 @@ fn bad_count(n: u32) -> bool
     if n == 0 { true } else { 1024 < n }
 }
 
-// Refusals 2 and 3.
-pub fn shape(n: Counts, bytes: usize) -> Verdict
-    ensures { λ r. ⌜ r ≡ shape n bytes ⌝ }
+// Each count 1 to 1,024, or refusal 2 with the first axis that is not.
+pub fn check_counts(n: Counts) -> Verdict
+    ensures { λ r. ⌜ r ≡ count-check n ⌝ }
 {
     if bad_count(n.nx) {
         return Verdict::Refused(Refusal::Count(Axis::X));
@@ -39,10 +39,22 @@ pub fn shape(n: Counts, bytes: usize) -> Verdict
     if bad_count(n.nz) {
         return Verdict::Refused(Refusal::Count(Axis::Z));
     }
-    if bytes == (n.nx as usize) * (n.ny as usize) * (n.nz as usize) {
-        Verdict::Fine
-    } else {
-        Verdict::Refused(Refusal::Bytes)
+    Verdict::Fine
+}
+
+// Counts and bytes that make a grid: refusal 2, then 3.
+pub fn shape(n: Counts, bytes: usize) -> Verdict
+    ensures { λ r. ⌜ r ≡ shape n bytes ⌝ }
+{
+    match check_counts(n) {
+        Verdict::Refused(r) => Verdict::Refused(r),
+        Verdict::Fine => {
+            if bytes == (n.nx as usize) * (n.ny as usize) * (n.nz as usize) {
+                Verdict::Fine
+            } else {
+                Verdict::Refused(Refusal::Bytes)
+            }
+        }
     }
 }
 

@@ -18,8 +18,7 @@ use Rattle.cells.specs.declared.Verdict.{Verdict}
 use Rattle.cells.specs.declared.Verdict.the-variants.{Fine, Refused as Fails}
 use Rattle.cells.specs.Checks.{refuse-when, _then_}
 use Rattle.cells.proofs.Checks.{each-fine, passed}
-use Rattle.grids.specs.Grid.{bad-count, size, shape}
-use Rattle.grids.proofs.Shapes.{good-count}
+use Rattle.grids.proofs.Shapes.{Good, counted}
 use Rattle.sights.specs.declared.Placement.{Placement}
 use Rattle.sights.specs.declared.Point.{Point}
 use Rattle.sights.specs.Quotient.{whole, quotient, outside}
@@ -29,39 +28,6 @@ use Rattle.sights.proofs.Tests.{neither}
 use Rattle.sights.proofs.Finite.{quotient-no-nan}
 use Rattle.sights.proofs.Whole.{at-least}
 use Rattle.sights.proofs.Numbers.{not-outside}
-
--- ---- counts
-
-pub count-range : (n : ℕ) → bad-count n ≡ false → (0 < n) × (n ≤ 1024)
-count-range n h = let g = good-count n h in (g .some, g .most)
-
-pub record Ranges (n : Counts) : Type 0 where
-  pub x : (0 < n .nx) × (n .nx ≤ 1024)
-  pub y : (0 < n .ny) × (n .ny ≤ 1024)
-  pub z : (0 < n .nz) × (n .nz ≤ 1024)
-
-pub counts-range : (n : Counts) → count-check n ≡ Fine → Ranges n
-unfolding count-check
-counts-range n h =
-    let (x, rest) = each-fine _ _ h in
-    let (y, z) = each-fine _ _ rest in
-    record { x = count-range _ (passed _ _ x); y = count-range _ (passed _ _ y); z = count-range _ (passed _ _ z) }
-
--- a grid whose shape is fine has passed the test of the counts
-pub shape-counts : (n : Counts) (bytes : ℕ) → shape n bytes ≡ Fine → count-check n ≡ Fine
-unfolding shape count-check
-shape-counts n bytes h =
-    without-last
-    (refuse-when (bad-count (n .nx)) (Count X))
-    (refuse-when (bad-count (n .ny)) (Count Y))
-    (refuse-when (bad-count (n .nz)) (Count Z))
-    (refuse-when (not (eqb bytes (size n))) Bytes)
-    h
-  where
-    without-last : (u v w last : Verdict) → (u then v then w then last) ≡ Fine → (u then v then w) ≡ Fine
-    without-last (Fails r) v w last h = h
-    without-last Fine (Fails r) w last h = h
-    without-last Fine Fine w last h = each-fine w last h .0
 
 -- ---- placement
 
@@ -86,18 +52,18 @@ placed at h =
 
 -- ---- a point
 
-value-inside : (e : End) (a : Axis) (count : ℕ) (value origin edge : Float) → (0 < count) × (count ≤ 1024) → finite origin ≡ true → finite edge ≡ true
+value-inside : (e : End) (a : Axis) (count : ℕ) (value origin edge : Float) → Good count → finite origin ≡ true → finite edge ≡ true
     → lt (whole 0) edge ≡ true → value-check e a count value (quotient value origin edge) ≡ Fine → Inside count (quotient value origin edge)
 value-inside e a count value origin edge range o f up h =
     let (finite, within) = each-fine _ _ h in
     let number = quotient-no-nan value origin edge (finite-passed _ _ finite) o f up in
     let inside = passed _ _ within in
-    record { some = range .0; small = range .1; from = at-least _ 0 (omega arith) number (not-outside count _ inside .0); within = inside }
+    record { some = range .some; small = range .most; from = at-least _ 0 (omega arith) number (not-outside count _ inside .0); within = inside }
 
 pub point-inside : (e : End) (n : Counts) (at : Placement) (p : Point) → Tested n at → point-check e n p (quotients at p) ≡ Fine → AllInside n (quotients at p)
 unfolding point-check
 point-inside e n at p t h =
-    let range = counts-range n (t .counts) in
+    let range = counted n (t .counts) in
     let l = placed at (t .placed) in
     let (x, rest) = each-fine _ _ h in
     let (y, z) = each-fine _ _ rest in

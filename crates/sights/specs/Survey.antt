@@ -12,23 +12,16 @@ use Rattle.cells.specs.declared.End.the-variants.{P}
 use Rattle.cells.specs.declared.Cell as cell
 use Rattle.cells.specs.declared.Counts.{Counts}
 use Rattle.cells.specs.declared.Part.the-variants.{OriginX, OriginY, OriginZ, Edge}
-use Rattle.cells.specs.declared.Refusal.the-variants.{Count, NotFinite, OffSurvey, Placement as Misplaced}
+use Rattle.cells.specs.declared.Refusal.the-variants.{NotFinite, OffSurvey, Placement as Misplaced}
 use Rattle.cells.specs.declared.Verdict.{Verdict}
 use Rattle.cells.specs.declared.Verdict.the-variants.{Fine, Refused as Fails}
 use Rattle.cells.specs.Checks.{refuse-when, _then_}
-use Rattle.grids.specs.Grid.{bad-count}
+pub use Rattle.grids.specs.Grid.{count-check}
 use Rattle.sights.specs.declared.Placement.{Placement}
 use Rattle.sights.specs.declared.Point.{Point}
 use Rattle.sights.specs.declared.Lookup.{Lookup}
 use Rattle.sights.specs.declared.Lookup.the-variants.{Cell, Refused}
 use Rattle.sights.specs.Quotient.{whole, quotient, outside, cell-number}
-
--- refusal 2 (x, y, z)
-unfoldable pub count-check : Counts → Verdict
-count-check n =
-    refuse-when (bad-count (n .nx)) (Count X) then
-    refuse-when (bad-count (n .ny)) (Count Y) then
-    refuse-when (bad-count (n .nz)) (Count Z)
 
 -- "edge not finite, or edge not above 0"
 abbrev pub bad-edge : Float → Bool

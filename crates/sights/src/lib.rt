@@ -5,10 +5,9 @@ ghost use Prim.Native.Nat.{_+_, _<_};
 ghost use lib.Ieee.{le};
 ghost use lib.Ieee.Scale.{finite};
 ghost use Rattle.cells.specs.Checks.{refuse-when, _then_};
-ghost use Rattle.grids.specs.Grid.{bad-count};
 ghost use Rattle.sights.specs.Quotient.{whole, quotient, outside, cell-number, share-of};
 ghost use Rattle.sights.specs.Search.{Inside, AllInside, Closer};
-ghost use Rattle.sights.specs.Survey.{count-check, bad-edge, placement-check, Tested, quotients, value-check, point-check, cell-at, look-up, cell-of};
+ghost use Rattle.sights.specs.Survey.{bad-edge, placement-check, Tested, quotients, value-check, point-check, cell-at, look-up, cell-of};
 use cells::Axis;
 use cells::Cell;
 use cells::Counts;
@@ -73,22 +72,6 @@ fn is_finite(x: f64) -> bool
 {
     let infinity = 1.0f64 / 0.0;
     if x < infinity { -infinity < x } else { false }
-}
-
-fn bad_count(n: u32) -> bool
-    ensures { λ r. ⌜ r ≡ bad-count n ⌝ }
-{
-    if n == 0 { true } else { 1024 < n }
-}
-
-// Refusal 2: x, y, z.
-pub fn check_counts(n: Counts) -> Verdict
-    ensures { λ r. ⌜ r ≡ count-check n ⌝ }
-{
-    let x = refuse_when(bad_count(n.nx), Refusal::Count(Axis::X));
-    let y = refuse_when(bad_count(n.ny), Refusal::Count(Axis::Y));
-    let z = refuse_when(bad_count(n.nz), Refusal::Count(Axis::Z));
-    first_of(x, first_of(y, z))
 }
 
 fn bad_edge(edge: f64) -> bool
@@ -221,7 +204,7 @@ pub fn look_up(end: End, n: Counts, at: Placement, point: Point) -> Lookup
 pub fn cell_of(n: Counts, at: Placement, point: Point) -> Lookup
     ensures { λ r. ⌜ r ≡ cell-of n at point ⌝ }
 {
-    match first_of(check_counts(n), check_placement(at)) {
+    match first_of(grids::check_counts(n), check_placement(at)) {
         Verdict::Refused(r) => Lookup::Refused(r),
         Verdict::Fine => look_up(End::P, n, at, point),
     }

@@ -1,96 +1,74 @@
--- Each test is the definition's, in its order; the products fit, since by then every count is at most 1,024. Assumes nothing.
-use mathlib.Core.Path.{_≡_, sym, _∙_}
-use mathlib.Core.Bool.{false}
+-- The counts' own test comes first; the products fit, since by then every count is at most 1,024. Assumes nothing.
+use mathlib.Core.Path.{_≡_, sym, ap, _∙_}
 use native.Mathlib.Nat.{mul-le-mul, lt-of-le-of-lt}
-use lib.Dec.{lit<}
-use borrow.Author.Needs.{needs}
+use lib.Dec.{lit<, eqb}
+use mathlib.Core.Bool.{not}
 use borrow.Author.Tests.{eq-eqb, ne-eqb}
-use Rattle.grids.specs.Grid.{bad-count, shape}
-use Rattle.grids.proofs.Shapes.{good-count}
+use Rattle.cells.specs.declared.Refusal.the-variants.{Bytes}
+use Rattle.cells.specs.declared.Verdict.the-variants.{Fine}
+use Rattle.cells.specs.Checks.{refuse-when, _then_}
+use Rattle.grids.specs.Grid.{size, count-check, shape}
+use Rattle.grids.proofs.Shapes.{Counted, counted}
+use borrow.Author.Needs.{needs}
 use Rattle.grids.proofs.shape.Statement.{statement}
 use Rattle.grids.proofs.shape.Tie as tie
 
--- what each test left
-good-x : (c : tie.Else1) → bad-count (c .before .before .args .n .nx) ≡ false
-good-x c = sym (c .before .bad-count .ensures) ∙ c .if1 .left
+check-counts-requires : tie.Need-check-counts-requires
+check-counts-requires c κs = search needs
 
-good-y : (c : tie.Else2) → bad-count (c .before .before .before .before .args .n .ny) ≡ false
-good-y c = sym (c .before .bad-count2 .ensures) ∙ c .if2 .left
+enum-known-r : tie.Need-enum-known-r
+enum-known-r c = search needs
 
-good-z : (c : tie.Else3) → bad-count (c .before .before .before .before .before .before .args .n .nz) ≡ false
-good-z c = sym (c .before .bad-count3 .ensures) ∙ c .if3 .left
+enum-told : tie.Need-enum-told
+enum-told c = search needs
 
-bad-count-requires : tie.Need-bad-count-requires
-bad-count-requires c κs = search needs
+-- where the counts have passed
+fine : (c : tie.After-enum-told) → count-check (c .before .before .before .args .n) ≡ Fine
+fine c = sym (c .before .before .check-counts .ensures) ∙ c .enum-told .given .1
+
+cast-if1 : tie.Need-cast-if1
+cast-if1 c = search needs
+
+cast-if1-2 : tie.Need-cast-if1-2
+cast-if1-2 c = search needs
+
+mul-if1 : tie.Need-mul-if1
+mul-if1 c = let g = counted _ (fine (c .before .before)) in record { fits = lt-of-le-of-lt (mul-le-mul (g .x .most) (g .y .most)) (lit< tt) }
+
+cast-if1-3 : tie.Need-cast-if1-3
+cast-if1-3 c = search needs
+
+mul-if1-2 : tie.Need-mul-if1-2
+mul-if1-2 c =
+    let g = counted _ (fine (c .before .before .before)) in
+    record { fits = lt-of-le-of-lt (mul-le-mul (mul-le-mul (g .x .most) (g .y .most)) (g .z .most)) (lit< tt) }
 
 returns : tie.Need-returns
 unfolding shape
-returns c = rw (sym (c .before .bad-count .ensures) ∙ c .if1 .taken)
-
-bad-count-requires-2 : tie.Need-bad-count-requires-2
-bad-count-requires-2 c κs = search needs
+returns c =
+    let s = c .before .before .before .before in
+    ap (λ v. v then refuse-when (not (eqb (s .args .bytes) (size (s .args .n)))) Bytes) (sym (c .before .r .given .1) ∙ c .before .before .before .check-counts .ensures)
 
 returns-2 : tie.Need-returns-2
 unfolding shape
-returns-2 c = rw (good-x (c .before .before), sym (c .before .bad-count2 .ensures) ∙ c .if2 .taken)
-
-bad-count-requires-3 : tie.Need-bad-count-requires-3
-bad-count-requires-3 c κs = search needs
+returns-2 c = rw (fine (c .before .before .before .before), eq-eqb _ _ (c .if1 .taken))
 
 returns-3 : tie.Need-returns-3
 unfolding shape
-returns-3 c = rw (good-x (c .before .before .before .before), good-y (c .before .before), sym (c .before .bad-count3 .ensures) ∙ c .if3 .taken)
-
-cast-if4 : tie.Need-cast-if4
-cast-if4 c = search needs
-
-cast-if4-2 : tie.Need-cast-if4-2
-cast-if4-2 c = search needs
-
-mul-if4 : tie.Need-mul-if4
-mul-if4 c =
-    let d = c .before .before in
-    record { fits = lt-of-le-of-lt (mul-le-mul (good-count _ (good-x (d .before .before .before .before)) .most) (good-count _ (good-y (d .before .before)) .most)) (lit< tt) }
-
-cast-if4-3 : tie.Need-cast-if4-3
-cast-if4-3 c = search needs
-
-mul-if4-2 : tie.Need-mul-if4-2
-mul-if4-2 c =
-    let d = c .before .before .before in
-    record {
-      fits =
-          lt-of-le-of-lt
-          (mul-le-mul (mul-le-mul (good-count _ (good-x (d .before .before .before .before)) .most) (good-count _ (good-y (d .before .before)) .most)) (good-count _ (good-z d) .most))
-          (lit< tt);
-    }
-
-returns-4 : tie.Need-returns-4
-unfolding shape
-returns-4 c =
-    let d = c .before .before .before .before in
-    rw (good-x (d .before .before .before .before), good-y (d .before .before), good-z d, eq-eqb _ _ (c .if4 .taken))
-
-returns-5 : tie.Need-returns-5
-unfolding shape
-returns-5 c =
-    let d = c .before .before .before .before in
-    rw (good-x (d .before .before .before .before), good-y (d .before .before), good-z d, ne-eqb _ _ (c .if4 .left))
+returns-3 c = rw (fine (c .before .before .before .before), ne-eqb _ _ (c .if1 .left))
 
 pub shape-spec : {M : Type 1} → statement M
 shape-spec =
     tie.close
     (tie.spec
-    bad-count-requires
+    check-counts-requires
+    enum-known-r
+    enum-told
+    cast-if1
+    cast-if1-2
+    mul-if1
+    cast-if1-3
+    mul-if1-2
     returns
-    bad-count-requires-2
     returns-2
-    bad-count-requires-3
-    returns-3
-    cast-if4
-    cast-if4-2
-    mul-if4
-    cast-if4-3
-    mul-if4-2
-    returns-4
-    returns-5)
+    returns-3)
