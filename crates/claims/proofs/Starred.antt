@@ -5,63 +5,14 @@ use Rattle.grids.specs.Grid.{shape}
 use Rattle.grids.specs.Marks.{marked}
 use Rattle.records.specs.Records.{whole, venue-version, venue-head, venue-check, venue-read, venue-cells, signed, pair-version, pair-length, pair-check, pair-read}
 use Rattle.walks.specs.Answers.{plain, adaptive}
-use Rattle.claims.specs.Starred.{Every, record-rows, table}
+use Rattle.claims.specs.Starred.{Every, no-more, _and_, record-rows, table}
 
 records-hold : Every record-rows
 unfolding shape whole venue-version venue-head venue-check venue-read venue-cells signed pair-version pair-length pair-check pair-read
-records-hold = ((refl, refl), (refl, tt))
+records-hold = refl and refl and refl and no-more
 
 pub starred : Every table
 unfolding six-line line-26 marked plain adaptive
-starred = (
-  refl,
-  (
-    refl,
-    (
-      refl,
-      (
-        refl,
-        (
-          refl,
-          (
-            refl,
-            (
-              refl,
-              (
-                refl,
-                (
-                  refl,
-                  (
-                    refl,
-                    (
-                      refl,
-                      (
-                        (refl, refl),
-                        (
-                          (refl, refl),
-                          (
-                            (refl, refl),
-                            (
-                              (refl, refl),
-                              (
-                                (refl, refl),
-                                (
-                                  (refl, refl),
-                                  records-hold,
-                                ),
-                              ),
-                            ),
-                          ),
-                        ),
-                      ),
-                    ),
-                  ),
-                ),
-              ),
-            ),
-          ),
-        ),
-      ),
-    ),
-  ),
-)
+starred =
+    refl and refl and refl and refl and refl and refl and refl and refl and refl and refl and refl and refl and
+    refl and refl and refl and refl and refl and refl and refl and refl and refl and refl and refl and refl and records-hold

@@ -33,8 +33,8 @@ use Rattle.walks.proofs.Numbers.{plain-end, adaptive-end, plain-reads, adaptive
 use Rattle.walks.proofs.Inside.{accepted}
 use Rattle.walks.proofs.Safe.{complete-safe}
 use Rattle.walks.proofs.Places.{never-falls}
-use Rattle.walks.proofs.Story.{answer-at, plain-answer, adaptive-answer, plain-below, adaptive-below, no-earlier, not-invented, ends-alike, reads-no-more, plain-clear, plain-clear-reads, adaptive-clear-most, adaptive-clear-least}
-use Rattle.claims.specs.Story.{SameStory, hits, clears, refusals, OneStory, NoLater, NeverInvented, NothingInTheWay, Reads, MarkedFirst, HitOnce, WrongWalks}
+use Rattle.walks.proofs.Story.{answer-at, plain-answer, adaptive-answer, plain-stops, adaptive-stops, plain-below, adaptive-below, no-earlier, not-invented, ends-alike, reads-no-more, plain-clear, plain-clear-reads, adaptive-clear-most, adaptive-clear-least}
+use Rattle.claims.specs.Story.{SameStory, hits, clears, refusals, OneStory, NoLater, NeverInvented, NothingInTheWay, Reads, WalksEnd, MarkedFirst, HitOnce, WrongWalks}
 
 -- what an answer carries
 hit-or : Hit → FirstHit → Hit
@@ -153,6 +153,9 @@ module _ (n : Counts) (l : List ℕ) (p q : Cell) where
             let (fine, none, many) = clear-told check reads (adaptive-end n l p q) (adaptive-reads n l p q) (ha .says ∙ adaptive-answer n l p q) in
             (omega (arith, adaptive-clear-least n l p q none), omega (arith, adaptive-clear-most n l p q none));
       }
+
+  pub walks-end : WalksEnd n l p q
+  walks-end = record { plain = plain-stops n l p q; adaptive = adaptive-stops n l p q }
 
   pub hit-once : HitOnce n l p q
   hit-once = record { plain = λ r s h k. h .says ∙ sym (k .says); adaptive = λ r s h k. h .says ∙ sym (k .says) }

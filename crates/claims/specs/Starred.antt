@@ -38,8 +38,10 @@ pub data Row : Type 0 where
   six : Cell → Cell → List Cell → Row
   twenty-six : Cell → Cell → List Cell → Row
   marks : Counts → List ℕ → List ℕ → Row
-  walks : Counts → List ℕ → Cell → Cell → FirstHit → FirstHit → Row
+  plainly : Counts → List ℕ → Cell → Cell → FirstHit → Row
+  adaptively : Counts → List ℕ → Cell → Cell → FirstHit → Row
   venue : List ℕ → Counts → List ℕ → Row
+  venue-part : List ℕ → List ℕ → Row
   pair : List ℕ → Cell → Cell → Row
 
 -- what a row says
@@ -47,19 +49,23 @@ abbrev pub Holds : Row → Type 0
 Holds (six p q l) = six-line rule-1 p q ≡ l
 Holds (twenty-six p q l) = line-26 p q ≡ l
 Holds (marks n l m) = marked 3 n l ≡ m
-Holds (walks n l p q a b) = (plain n l p q ≡ a) × (adaptive n l p q ≡ b)
-Holds (venue s n cells) = (told-venue (venue-read s) ≡ inr (n, length s - length cells, length cells)) × (venue-cells s ≡ cells)
+Holds (plainly n l p q a) = plain n l p q ≡ a
+Holds (adaptively n l p q a) = adaptive n l p q ≡ a
+Holds (venue s n cells) = told-venue (venue-read s) ≡ inr (n, length s - length cells, length cells)
+Holds (venue-part s cells) = venue-cells s ≡ cells
 Holds (pair s p q) = told-pair (pair-read s) ≡ inr (p, q)
 
+infixr 20 _and_
 -- every row of a table holds
-abbrev pub Every : List Row → Type 0
-Every [] = Unit {0}
-Every (row ∷ rows) = Holds row × Every rows
+pub data Every : List Row → Type 0 where
+  no-more : Every []
+  _and_ : {row : Row} {rows : List Row} → Holds row → Every rows → Every (row ∷ rows)
 
 -- the program's input, `0000000F 01 0004 0002 0001 0000000000020000` and `0000000D 01 0000 0000 0000 0003 0001 0000`
 abbrev pub record-rows : List Row
 record-rows =
     venue example-venue (counts 4 2 1) example-cells
+    ∷ venue-part example-venue example-cells
     ∷ pair example-pair (at 0 0 0) (at 3 1 0)
     ∷ []
 
@@ -77,14 +83,22 @@ table =
     ∷ twenty-six (at 5 6 7) (at 5 6 7) (at 5 6 7 ∷ [])
     -- the program's venue: its marks; its walks, unmarked and marked
     ∷ marks (counts 4 2 1) (0 ∷ 0 ∷ 0 ∷ 0 ∷ 0 ∷ 2 ∷ 0 ∷ 0 ∷ []) (1 ∷ 1 ∷ 1 ∷ 0 ∷ 1 ∷ 2 ∷ 1 ∷ 0 ∷ [])
-    ∷ walks (counts 4 2 1) (0 ∷ 0 ∷ 0 ∷ 0 ∷ 0 ∷ 2 ∷ 0 ∷ 0 ∷ []) (at 0 0 0) (at 3 1 0) (hit (at 1 1 0) 2 1 2 3) (Clear 4)
-    ∷ walks (counts 4 2 1) (1 ∷ 1 ∷ 1 ∷ 0 ∷ 1 ∷ 2 ∷ 1 ∷ 0 ∷ []) (at 0 0 0) (at 3 1 0) (hit (at 1 1 0) 2 1 2 3) (hit (at 1 1 0) 2 1 2 3)
+    -- a corner touches
+    ∷ marks (counts 2 2 2) (0 ∷ 0 ∷ 0 ∷ 0 ∷ 0 ∷ 0 ∷ 0 ∷ 9 ∷ []) (1 ∷ 1 ∷ 1 ∷ 1 ∷ 1 ∷ 1 ∷ 1 ∷ 9 ∷ [])
+    ∷ plainly (counts 4 2 1) (0 ∷ 0 ∷ 0 ∷ 0 ∷ 0 ∷ 2 ∷ 0 ∷ 0 ∷ []) (at 0 0 0) (at 3 1 0) (hit (at 1 1 0) 2 1 2 3)
+    ∷ adaptively (counts 4 2 1) (0 ∷ 0 ∷ 0 ∷ 0 ∷ 0 ∷ 2 ∷ 0 ∷ 0 ∷ []) (at 0 0 0) (at 3 1 0) (Clear 4)
+    ∷ plainly (counts 4 2 1) (1 ∷ 1 ∷ 1 ∷ 0 ∷ 1 ∷ 2 ∷ 1 ∷ 0 ∷ []) (at 0 0 0) (at 3 1 0) (hit (at 1 1 0) 2 1 2 3)
+    ∷ adaptively (counts 4 2 1) (1 ∷ 1 ∷ 1 ∷ 0 ∷ 1 ∷ 2 ∷ 1 ∷ 0 ∷ []) (at 0 0 0) (at 3 1 0) (hit (at 1 1 0) 2 1 2 3)
     -- equal ends: one cell, one read
-    ∷ walks (counts 4 2 1) (1 ∷ 1 ∷ 1 ∷ 0 ∷ 1 ∷ 2 ∷ 1 ∷ 0 ∷ []) (at 3 1 0) (at 3 1 0) (Clear 1) (Clear 1)
+    ∷ plainly (counts 4 2 1) (1 ∷ 1 ∷ 1 ∷ 0 ∷ 1 ∷ 2 ∷ 1 ∷ 0 ∷ []) (at 3 1 0) (at 3 1 0) (Clear 1)
+    ∷ adaptively (counts 4 2 1) (1 ∷ 1 ∷ 1 ∷ 0 ∷ 1 ∷ 2 ∷ 1 ∷ 0 ∷ []) (at 3 1 0) (at 3 1 0) (Clear 1)
     -- complete marks, both clear, the adaptive walk reads fewer
-    ∷ walks (counts 3 2 1) (0 ∷ 0 ∷ 0 ∷ 0 ∷ 0 ∷ 0 ∷ []) (at 0 0 0) (at 2 1 0) (Clear 4) (Clear 3)
+    ∷ plainly (counts 3 2 1) (0 ∷ 0 ∷ 0 ∷ 0 ∷ 0 ∷ 0 ∷ []) (at 0 0 0) (at 2 1 0) (Clear 4)
+    ∷ adaptively (counts 3 2 1) (0 ∷ 0 ∷ 0 ∷ 0 ∷ 0 ∷ 0 ∷ []) (at 0 0 0) (at 2 1 0) (Clear 3)
     -- missing marks: a long step lands on the hit
-    ∷ walks (counts 6 3 1) (0 ∷ 0 ∷ 0 ∷ 0 ∷ 0 ∷ 0 ∷ 0 ∷ 0 ∷ 2 ∷ 0 ∷ 0 ∷ 0 ∷ 0 ∷ 0 ∷ 0 ∷ 0 ∷ 0 ∷ 0 ∷ []) (at 0 0 0) (at 5 2 0) (hit (at 2 1 0) 2 3 10 4) (hit (at 2 1 0) 2 3 10 3)
+    ∷ plainly (counts 6 3 1) (0 ∷ 0 ∷ 0 ∷ 0 ∷ 0 ∷ 0 ∷ 0 ∷ 0 ∷ 2 ∷ 0 ∷ 0 ∷ 0 ∷ 0 ∷ 0 ∷ 0 ∷ 0 ∷ 0 ∷ 0 ∷ []) (at 0 0 0) (at 5 2 0) (hit (at 2 1 0) 2 3 10 4)
+    ∷ adaptively (counts 6 3 1) (0 ∷ 0 ∷ 0 ∷ 0 ∷ 0 ∷ 0 ∷ 0 ∷ 0 ∷ 2 ∷ 0 ∷ 0 ∷ 0 ∷ 0 ∷ 0 ∷ 0 ∷ 0 ∷ 0 ∷ 0 ∷ []) (at 0 0 0) (at 5 2 0) (hit (at 2 1 0) 2 3 10 3)
     -- missing marks: the adaptive walk is clear and reads more than the plain one
-    ∷ walks (counts 3 2 1) (0 ∷ 0 ∷ 0 ∷ 0 ∷ 2 ∷ 0 ∷ []) (at 0 1 0) (at 2 0 0) (hit (at 1 1 0) 2 1 4 2) (Clear 3)
+    ∷ plainly (counts 3 2 1) (0 ∷ 0 ∷ 0 ∷ 0 ∷ 2 ∷ 0 ∷ []) (at 0 1 0) (at 2 0 0) (hit (at 1 1 0) 2 1 4 2)
+    ∷ adaptively (counts 3 2 1) (0 ∷ 0 ∷ 0 ∷ 0 ∷ 2 ∷ 0 ∷ []) (at 0 1 0) (at 2 0 0) (Clear 3)
     ∷ record-rows

@@ -3,6 +3,7 @@
 use Prim.Native.Nat.{ℕ, _+_, _*_, _≤_}
 use mathlib.Core.Path.{_≡_}
 use mathlib.Core.Bool.{true, false}
+use mathlib.Core.Logic.{_⊎_}
 use mathlib.Core.List.{List, [], _∷_}
 use lib.ListN.{length}
 use Rattle.cells.specs.declared.Cell.{Cell}
@@ -19,7 +20,8 @@ use Rattle.walks.specs.declared.Place.{Place}
 use Rattle.walks.specs.declared.Hit.{Hit}
 use Rattle.walks.specs.declared.FirstHit.{FirstHit}
 use Rattle.walks.specs.declared.FirstHit.the-variants.{Clear, Hit as Blocked, Refused}
-use Rattle.walks.specs.Answers.{PlainHit, AdaptiveHit}
+use Rattle.walks.specs.Walks.{hit-at, plain-walk, adaptive-walk}
+use Rattle.walks.specs.Answers.{last-of, PlainHit, AdaptiveHit}
 use Rattle.claims.specs.Starred.{at}
 
 -- the first answer is the plain walk's, the second the adaptive one's: the same cell, code and place, or both clear, or both refuse alike; and the
@@ -55,6 +57,11 @@ pub record NothingInTheWay (n : Counts) (l : List ℕ) (p q : Cell) : Type 0 whe
 pub record Reads (n : Counts) (l : List ℕ) (p q : Cell) : Type 0 where
   pub plain : (reads : ℕ) → PlainHit n l p q (Clear reads) → reads ≡ total (differences p q) + 1
   pub adaptive : (reads : ℕ) → AdaptiveHit n l p q (Clear reads) → (longest (differences p q) + 1 ≤ reads) × (reads ≤ total (differences p q) + 1)
+
+-- 4. Each walk ends: its last cell is solid, or Q. (The number of steps that bounds its definition is never used up.)
+pub record WalksEnd (n : Counts) (l : List ℕ) (p q : Cell) : Type 0 where
+  pub plain : (hit-at n l (last-of p (plain-walk n l p q)) ≡ true) ⊎ (last-of p (plain-walk n l p q) ≡ q)
+  pub adaptive : (hit-at n l (last-of p (adaptive-walk n l p q)) ≡ true) ⊎ (last-of p (adaptive-walk n l p q) ≡ q)
 
 -- 5. Mark, then walk: after an accepted marking the premise of 1 and 3 holds.
 pub record MarkedFirst (n : Counts) (l exit : List ℕ) : Type 0 where

@@ -17,6 +17,7 @@ use Rattle.lines.specs.Preference.{rule-1}
 use Rattle.lines.specs.Lines.{differences, centres, longest, six-cell, place-26}
 use Rattle.lines.proofs.Steps.{Cmp, here, other, cmp, same-self, bump}
 use Rattle.lines.proofs.Fractions.{place-start, place-suc, place-end}
+use Rattle.lines.proofs.Cells.{six-end}
 use Rattle.lines.proofs.Centres.{centres-good, longest-axis, is-place-26, moved-longest}
 use Rattle.grids.specs.Grid.{byte-of, solid}
 use Rattle.walks.specs.declared.Place.{Place}
@@ -69,6 +70,17 @@ module _ (n : Counts) (l : List ℕ) (p q : Cell) where
   pub adaptive-answer : adaptive n l p q ≡ answer-by (walk-check n (length l) p q) (answer-at (adaptive-end n l p q) (adaptive-reads n l p q))
   unfolding adaptive
   adaptive-answer = ap (answer-by (walk-check n (length l) p q)) (answer-is (adaptive-walk n l p q) _ _ adaptive-below (adaptive-last n l p q p) (adaptive-length n l p q))
+
+  -- ---- no walk runs out: its last cell is solid, or Q
+
+  at-end : (e : ℕ) → stop (solid-at n l p q) N e ≡ true → (hit-at n l (f e) ≡ true) ⊎ (f e ≡ q)
+  at-end e s = ⊎-elim (λ hit. inl hit) (λ last. inr (ap f last ∙ six-end rule-1 p q)) (stopped (solid-at n l p q e) e N s)
+
+  pub plain-stops : (hit-at n l (last-of p (plain-walk n l p q)) ≡ true) ⊎ (last-of p (plain-walk n l p q) ≡ q)
+  plain-stops = rw (plain-last n l p q p) (at-end (plain-end n l p q) (plain-ended .stops))
+
+  pub adaptive-stops : (hit-at n l (last-of p (adaptive-walk n l p q)) ≡ true) ⊎ (last-of p (adaptive-walk n l p q) ≡ q)
+  adaptive-stops = rw (adaptive-last n l p q p) (at-end (adaptive-end n l p q) (adaptive-ended .stops))
 
   -- ---- in any grid
 
