@@ -38,6 +38,16 @@ use Rattle.sights.specs.declared.Placement.{Placement}
 use Rattle.sights.specs.declared.Point.{Point}
 use Rattle.sights.specs.declared.Lookup.{Lookup}
 use Rattle.sights.specs.declared.Lookup.the-variants.{Cell as At, Refused as NotFound}
+use Rattle.oatmarten.specs.declared.OatVenue.{OatVenue}
+use Rattle.oatmarten.specs.declared.OatPair.{OatPair}
+use Rattle.oatmarten.specs.declared.OatWritten.{OatWritten}
+use Rattle.records.specs.declared.VenueRead.{VenueRead}
+use Rattle.records.specs.declared.VenueRead.the-variants.{Read as ReadVenue, Refused as NoVenue}
+use Rattle.records.specs.declared.PairRead.{PairRead}
+use Rattle.records.specs.declared.PairRead.the-variants.{Read as ReadPair, Refused as NoPair}
+use Rattle.venues.specs.declared.Written.{Written}
+use Rattle.venues.specs.declared.Written.the-variants.{Wrote, Refused as NotWritten}
+use Rattle.venues.specs.Writing.{WritesVenue}
 
 -- an end: 1 P, 2 Q
 abbrev pub end-number : End → ℕ
@@ -92,6 +102,51 @@ abbrev pub flat-found : Lookup → OatFound
 flat-found (At c) = record { refusal = 0; end = 0; axis = 0; x = c .x; y = c .y; z = c .z }
 flat-found (NotFound r) = record { refusal = flat-refusal r .number; end = flat-refusal r .end; axis = flat-refusal r .axis; x = pos 0; y = pos 0; z = pos 0 }
 
+abbrev pub flat-venue : VenueRead → OatVenue
+flat-venue (ReadVenue v) =
+    record { refusal = 0; end = 0; axis = 0; nx = v .counts .nx; ny = v .counts .ny; nz = v .counts .nz; offset = v .start; length = v .long }
+flat-venue (NoVenue r) =
+    record {
+      refusal = flat-refusal r .number;
+      end = flat-refusal r .end;
+      axis = flat-refusal r .axis;
+      nx = 0;
+      ny = 0;
+      nz = 0;
+      offset = 0;
+      length = 0;
+    }
+
+abbrev pub flat-pair : PairRead → OatPair
+flat-pair (ReadPair e) =
+    record {
+      refusal = 0;
+      end = 0;
+      axis = 0;
+      px = e .p .x;
+      py = e .p .y;
+      pz = e .p .z;
+      qx = e .q .x;
+      qy = e .q .y;
+      qz = e .q .z;
+    }
+flat-pair (NoPair r) =
+    record {
+      refusal = flat-refusal r .number;
+      end = flat-refusal r .end;
+      axis = flat-refusal r .axis;
+      px = pos 0;
+      py = pos 0;
+      pz = pos 0;
+      qx = pos 0;
+      qy = pos 0;
+      qz = pos 0;
+    }
+
+abbrev pub flat-written : Written → OatWritten
+flat-written (Wrote many) = record { refusal = 0; end = 0; axis = 0; written = many }
+flat-written (NotWritten r) = record { refusal = flat-refusal r .number; end = flat-refusal r .end; axis = flat-refusal r .axis; written = 0 }
+
 -- the placement and the point that C's structs mean
 abbrev pub plain-placement : OatPlacement → Placement
 plain-placement at = record { ox = at .ox; oy = at .oy; oz = at .oz; edge = at .edge }
@@ -118,3 +173,9 @@ pub record FlatMarks (n : Counts) (entry : List ℕ) (r : OatVerdict) (exit : Li
   pub answer : Verdict
   pub meets : Marks n entry answer exit
   pub flat : r ≡ flat-verdict answer
+
+-- the writing call for C, likewise
+pub record FlatWritesVenue (n : Counts) (cells entry : List ℕ) (r : OatWritten) (exit : List ℕ) : Type 0 where
+  pub answer : Written
+  pub meets : WritesVenue n cells entry answer exit
+  pub flat : r ≡ flat-written answer
