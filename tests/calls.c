@@ -46,9 +46,12 @@ oat_verdict oat_mark(oat_counts n, u8 *cells, size len);
 oat_complete_answer oat_complete(oat_counts n, const u8 *cells, size len);
 oat_part oat_layer(oat_counts n, const u8 *cells, size len, i32 z);
 oat_found oat_cell_of(oat_counts n, oat_placement at, oat_point p);
-
-/* helpers that wait for the first call to use them */
-#define LATER __attribute__((unused))
+typedef struct { u32 refusal, end, axis, nx, ny, nz; u64 offset, length; } oat_venue;
+typedef struct { u32 refusal, end, axis; i32 px, py, pz, qx, qy, qz; } oat_pair;
+typedef struct { u32 refusal, end, axis; u64 written; } oat_written;
+oat_venue oat_read_venue(const u8 *bytes, size len);
+oat_pair oat_read_pair(const u8 *bytes, size len);
+oat_written oat_write_venue(oat_counts n, const u8 *cells, size cells_len, u8 *out, size out_len);
 
 static _Noreturn void fail(const char *what) {
     fflush(0);
@@ -161,7 +164,7 @@ static grid lend_grid(void) {
 }
 
 /* room of so many bytes, each holding this value */
-LATER static slice lend_room(size bytes, u8 value) {
+static slice lend_room(size bytes, u8 value) {
     slice s = lend(bytes);
     for (size n = 0; n < bytes; n++) s.at[n] = value;
     return s;
@@ -261,6 +264,40 @@ static void cell(void) {
     say_stray(got.refusal, got.end, got.axis, got.refusal ? (u64)(got.x | got.y | got.z) : 0);
 }
 
+static void rvenue(void) {
+    slice bytes = lend_bytes();
+    only_read(bytes);
+    oat_venue got = oat_read_venue(bytes.at, bytes.bytes);
+    take_back(bytes);
+    if (got.refusal) say_refused(got.refusal, got.end, got.axis);
+    else say("ok %u %u %u 1 %lu %lu", got.nx, got.ny, got.nz, got.offset, got.length);
+    say_stray(got.refusal, got.end, got.axis, got.refusal ? got.nx | got.ny | got.nz | got.offset | got.length : 0);
+}
+
+static void rpair(void) {
+    slice bytes = lend_bytes();
+    only_read(bytes);
+    oat_pair got = oat_read_pair(bytes.at, bytes.bytes);
+    take_back(bytes);
+    if (got.refusal) say_refused(got.refusal, got.end, got.axis);
+    else say("ok %d %d %d %d %d %d 1", got.px, got.py, got.pz, got.qx, got.qy, got.qz);
+    say_stray(got.refusal, got.end, got.axis, got.refusal ? (u64)(got.px | got.py | got.pz | got.qx | got.qy | got.qz) : 0);
+}
+
+static void wvenue(void) {
+    grid g = lend_grid();
+    take_fixed(1);
+    take_fixed(1);
+    slice out = lend_room(take_length(), 99);
+    only_read(g.cells);
+    oat_written got = oat_write_venue(g.n, g.cells.at, g.cells.bytes, out.at, out.bytes);
+    take_back(g.cells);
+    if (got.refusal) say_refused(got.refusal, got.end, got.axis);
+    else say("ok %lu", got.written);
+    say_stray(got.refusal, got.end, got.axis, got.refusal ? got.written : 0);
+    say_bytes(out);
+}
+
 static const struct { const char *name; void (*run)(void); } calls[] = {
     {"six", six},
     {"tw6", tw6},
@@ -268,6 +305,9 @@ static const struct { const char *name; void (*run)(void); } calls[] = {
     {"complete", complete},
     {"layer", layer},
     {"cell", cell},
+    {"rvenue", rvenue},
+    {"rpair", rpair},
+    {"wvenue", wvenue},
 };
 
 /* ---- the lines of the input */
