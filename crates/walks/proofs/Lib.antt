@@ -5,3 +5,5 @@ pub mod Inside
 pub mod Places
 pub mod Safe
 pub mod Story
+pub mod Progress
+pub mod Long

@@ -1,0 +1,58 @@
+-- A walk on its way, as a loop follows it: at number s, r numbers visited before it, with the end and the visits of the whole walk still ahead.
+-- Knows nothing of cells. Assumes nothing.
+use mathlib.Core.Path.{_≡_, refl, sym, ap, _∙_}
+use mathlib.Core.Logic.{_≢_}
+use mathlib.Core.Bool.{Bool, true, false, cond, _||_}
+use Prim.Native.Nat.{ℕ, zero, suc, _+_, _≤_, _<_}
+use native.Mathlib.Omega.{arith}
+use Rattle.walks.proofs.Runs.{stop, ends, visits, Rises, not-stopped}
+
+-- r numbers were visited, s comes next
+pub record OnWay (solid : ℕ → Bool) (N : ℕ) (go : ℕ → ℕ) (s r : ℕ) : Type 0 where
+  pub fuel : ℕ
+  pub most : s ≤ N
+  pub enough : N < s + fuel
+  pub end : ends solid N go fuel s ≡ ends solid N go (N + 1) 0
+  pub reads : r + visits solid N go fuel s ≡ visits solid N go (N + 1) 0
+
+module _ (solid : ℕ → Bool) (N : ℕ) (go : ℕ → ℕ) where
+  -- one turn of the definitions
+  ends-by : (fuel s : ℕ) {b : Bool} → stop solid N s ≡ b → ends solid N go (suc fuel) s ≡ cond b s (ends solid N go fuel (go s))
+  unfolding ends
+  ends-by fuel s h = ap (λ b. cond b s (ends solid N go fuel (go s))) h
+
+  visits-by : (fuel s : ℕ) {b : Bool} → stop solid N s ≡ b → visits solid N go (suc fuel) s ≡ suc (cond b 0 (visits solid N go fuel (go s)))
+  unfolding visits
+  visits-by fuel s h = ap (λ b. suc (cond b 0 (visits solid N go fuel (go s)))) h
+
+  pub on-start : OnWay solid N go 0 0
+  on-start = record { fuel = N + 1; most = omega arith; enough = omega arith; end = refl; reads = omega arith }
+
+  -- where it stops, it ends
+  pub on-stop : (s r : ℕ) → OnWay solid N go s r → stop solid N s ≡ true → (s ≡ ends solid N go (N + 1) 0) × (r + 1 ≡ visits solid N go (N + 1) 0)
+  on-stop s r w h = by (w .fuel) (w .enough) (w .end) (w .reads)
+    where
+      by : (fuel : ℕ) → N < s + fuel → ends solid N go fuel s ≡ ends solid N go (N + 1) 0 → r + visits solid N go fuel s ≡ visits solid N go (N + 1) 0 → (s ≡ ends solid N go (N + 1) 0) × (r + 1 ≡ visits solid N go (N + 1) 0)
+      by zero enough e v = absurd (omega (arith, w .most))
+      by (suc fuel) enough e v = (sym (ends-by fuel s h) ∙ e, ap (λ k. r + k) (sym (visits-by fuel s h)) ∙ v)
+
+  -- else it goes on
+  pub on-turn : Rises N go → (s r : ℕ) → OnWay solid N go s r → stop solid N s ≡ false → OnWay solid N go (go s) (r + 1)
+  on-turn rises s r w h = by (w .fuel) (w .enough) (w .end) (w .reads)
+    where
+      ne : s ≢ N
+      ne = not-stopped (solid s) s N h .1
+
+      lt : s < N
+      lt = omega (arith, w .most, ne)
+
+      by : (fuel : ℕ) → N < s + fuel → ends solid N go fuel s ≡ ends solid N go (N + 1) 0 → r + visits solid N go fuel s ≡ visits solid N go (N + 1) 0 → OnWay solid N go (go s) (r + 1)
+      by zero enough e v = absurd (omega (arith, w .most))
+      by (suc fuel) enough e v =
+          record {
+            fuel = fuel;
+            most = rises .most s lt;
+            enough = omega (arith, rises .up s lt);
+            end = sym (ends-by fuel s h) ∙ e;
+            reads = omega (arith, visits-by fuel s h);
+          }
