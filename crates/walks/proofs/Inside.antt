@@ -60,12 +60,14 @@ between p q count i hp hq le =
     (λ w. parts-inside (towards p q i) count (omega (arith, w .steps i, w .end)) (omega (arith, w .steps i, w .end)))
     (along p q)
 
+-- every place between the ends
+pub cell-inside : (n : Counts) (p q : Cell) → InGrid n p → InGrid n q → (t : Steps) → ((a : Axis) → t a ≤ differences p q a) → InGrid n (cell-of p q t)
+cell-inside n p q hp hq t le =
+    record { inside = λ a. rw (cell-on p q t a) (between (on p a) (on q a) (count-on n a) (t a) (hp .inside a) (hq .inside a) (le a)) }
+
 pub six-inside : (n : Counts) (p q : Cell) → InGrid n p → InGrid n q → (s : ℕ) → s ≤ total (differences p q) → InGrid n (six-cell rule-1 p q s)
 six-inside n p q hp hq s le =
-    let w = place-on (centres rule-1 (differences p q)) (centres-good rule-1 (differences p q)) s le .1 in
-    record {
-      inside = λ a. rw (six-is rule-1 p q s, cell-on p q (place (centres rule-1 (differences p q)) s) a) (between (on p a) (on q a) (count-on n a) (place (centres rule-1 (differences p q)) s a) (hp .inside a) (hq .inside a) (w a));
-    }
+    rw (six-is rule-1 p q s) (cell-inside n p q hp hq (place (centres rule-1 (differences p q)) s) (place-on (centres rule-1 (differences p q)) (centres-good rule-1 (differences p q)) s le .1))
 
 -- ---- ends that passed
 

@@ -1,0 +1,6 @@
+pub mod Held
+pub mod Spots
+pub mod Entering
+pub mod Stops
+pub mod Walking
+pub mod Accepting

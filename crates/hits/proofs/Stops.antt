@@ -1,0 +1,79 @@
+-- Where a walk stopped tells its answer. Assumes nothing.
+use mathlib.Core.Path.{_≡_, refl, sym, ap, ap₂, _∙_, subst}
+use mathlib.Core.Bool.{Bool, cond}
+use mathlib.Core.List.{List}
+use Prim.Native.Nat.{ℕ, _+_, _-_, _≤_, _<_}
+use native.Mathlib.Omega.{arith}
+use lib.IntN.{pos, natAbs}
+use lib.ListN.{length}
+use Rattle.cells.specs.declared.Cell.{Cell}
+use Rattle.cells.specs.declared.Counts.{Counts}
+use Rattle.cells.specs.Touching.{on, apart}
+use Rattle.lines.specs.Steps.{Axis, X, Y, Z, Steps, total}
+use Rattle.lines.specs.Preference.{rule-1}
+use Rattle.lines.specs.Crossings.{place}
+use Rattle.lines.specs.Lines.{differences, cell-of, six-cell}
+use Rattle.lines.specs.Towards.{towards}
+use Rattle.lines.proofs.Cells.{six-is, cell-on}
+use Rattle.lines.proofs.Towards.{towards-start, towards-apart}
+use Rattle.tripod.specs.Tripod.{steps}
+use Rattle.grids.specs.Grid.{cell-at, byte-of, solid, index}
+use Rattle.grids.proofs.Places.{cell-at-index}
+use Rattle.walks.specs.declared.FirstHit.{FirstHit}
+use Rattle.walks.specs.declared.FirstHit.the-variants.{Clear, Hit as Blocked}
+use Rattle.walks.specs.declared.Place.{Place}
+use Rattle.walks.specs.Answers.{entered-at}
+use Rattle.walks.specs.Safe.{InGrid}
+use Rattle.walks.proofs.Inside.{six-inside}
+use Rattle.walks.proofs.Story.{answer-at}
+use Rattle.hits.specs.declared.Route.{Route}
+use Rattle.hits.specs.declared.Stop.{Stop}
+use Rattle.hits.specs.Route.{byte-index, Planned, course, SpotAt, byte-of-spot, Stopped}
+use Rattle.hits.specs.Entered.{entered, answer-from}
+use Rattle.hits.proofs.Held.{inside-nat}
+use Rattle.hits.proofs.Spots.{inside-below, counts-most, byte-is}
+use Rattle.hits.proofs.Entering.{entered-is}
+use native.Mathlib.Nat.{add-zero}
+use lib.Signed.{leZ}
+use mathlib.Core.Path.{fun-ext}
+
+-- the cell of a cell's byte is the cell
+cell-back : (n : Counts) (c : Cell) → InGrid n c → n .nx ≤ 1024 → n .ny ≤ 1024 → n .nz ≤ 1024 → cell-at n (byte-index n c) ≡ c
+cell-back n c h mx my mz =
+    cell-at-index n (natAbs (c .x)) (natAbs (c .y)) (natAbs (c .z)) (inside-below (c .x) (n .nx) (h .inside X)) (inside-below (c .y) (n .ny) (h .inside Y))
+    ∙ (λ i. record { x = sym (inside-nat (c .x) (n .nx) mx (h .inside X)) i; y = sym (inside-nat (c .y) (n .ny) my (h .inside Y)) i; z = sym (inside-nat (c .z) (n .nz) mz (h .inside Z)) i })
+
+-- the steps from P to a place of the line
+pub steps-back : (p q : Cell) (t : Steps) → differences p (cell-of p q t) ≡ t
+steps-back p q t = fun-ext (λ a. ap₂ apart (sym (towards-start (on p a) (on q a))) (cell-on p q t a) ∙ towards-apart (on p a) (on q a) 0 (t a) ∙ less-nothing (t a))
+  where
+    less-nothing : (i : ℕ) → (0 - i) + (i - 0) ≡ i
+    less-nothing i = omega arith
+
+module _ (bytes : ℕ) (k : Route) (plan : Planned bytes k) (l : List ℕ) where
+  abbrev D : Steps
+  D = differences (k .p) (k .q)
+
+  -- a walk that stopped at number e with so many reads answers as the definition does
+  pub stop-answers : (e many : ℕ) (r : Stop) → e ≤ total D → Stopped k e many r → answer-from l k r ≡ answer-at (k .n) l (k .p) (k .q) e many
+  unfolding answer-from
+  stop-answers e many r le h =
+      ap₂ (λ c b. cond (solid b) (Blocked (record { cell = c; code = b; place = entered (steps (k .d)) (differences (k .p) c); reads = r .reads })) (Clear (r .reads))) cell byte
+      ∙ ap₂ (λ a m. cond (solid (byte-of (k .n) l f)) (Blocked (record { cell = f; code = byte-of (k .n) l f; place = a; reads = m })) (Clear m)) entering (h .reads)
+    where
+      f : Cell
+      f = six-cell rule-1 (k .p) (k .q) e
+
+      f-is : f ≡ cell-of (k .p) (k .q) (place (course k) e)
+      f-is = six-is rule-1 (k .p) (k .q) e
+
+      cell : cell-at (k .n) (natAbs (r .spot .at)) ≡ f
+      cell =
+          ap (λ z. cell-at (k .n) (natAbs z)) (h .spot .index ∙ ap (λ c. pos (byte-index (k .n) c)) (sym f-is))
+          ∙ cell-back (k .n) f (six-inside (k .n) (k .p) (k .q) (plan .p-in) (plan .q-in) e le) (plan .shaped .x .most) (plan .shaped .y .most) (plan .shaped .z .most)
+
+      byte : byte-of-spot l (r .spot) ≡ byte-of (k .n) l f
+      byte = byte-is bytes k plan l (place (course k) e) (r .spot) (h .spot) ∙ ap (byte-of (k .n) l) (sym f-is)
+
+      entering : entered (steps (k .d)) (differences (k .p) f) ≡ entered-at (k .p) (k .q) e
+      entering = ap₂ entered (plan .is) (ap (differences (k .p)) f-is ∙ steps-back (k .p) (k .q) (place (course k) e)) ∙ entered-is (k .p) (k .q) e le

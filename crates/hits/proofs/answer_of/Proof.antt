@@ -1,0 +1,86 @@
+-- `hits::answer_of` meets its contract: clear where the byte is not solid, else a hit with the cell of that byte. Assumes nothing.
+use mathlib.Core.Path.{_≡_, sym, ap, _∙_, subst}
+use Prim.Native.Nat.{_<_}
+use native.Mathlib.Nat.{lt-of-lt-of-le}
+use native.Mathlib.Omega.{arith}
+use lib.IntN.{natAbs}
+use lib.ListN.{length}
+use borrow.Author.Needs.{needs}
+use borrow.Author.Tests.{not-true, not-false}
+use Rattle.cells.proofs.Machine.{held}
+use Rattle.lines.specs.Lines.{differences}
+use Rattle.tripod.specs.Tripod.{steps}
+use Rattle.grids.specs.Grid.{solid, cell-at}
+use Rattle.walks.specs.declared.FirstHit.the-variants.{Hit as Blocked}
+use Rattle.hits.specs.Route.{byte-of-spot}
+use Rattle.hits.specs.Entered.{entered, answer-from}
+use Rattle.hits.proofs.Held.{abs-nat, cast-32}
+use Rattle.hits.proofs.Spots.{p-limit, byte-limit}
+use Rattle.hits.proofs.answer_of.Statement.{statement}
+use Rattle.hits.proofs.answer_of.Tie as tie
+
+-- the place of the byte
+at-is : (c : tie.Start) → natAbs (held (c .args .r .spot .at)) ≡ natAbs (c .args .r .spot .at)
+at-is c = let h = c .pre .1 in abs-nat _ (h .index) (h .is) (omega arith)
+
+has-byte : (c : tie.Start) → natAbs (c .args .r .spot .at) < length (c .args .cells .now)
+has-byte c = let h = c .pre .1 in rw (h .is) (h .below)
+
+below : (c : tie.Start) → natAbs (held (c .args .r .spot .at)) < 1073741824
+below c = rw (at-is c) (lt-of-lt-of-le (has-byte c) (c .pre .1 .few))
+
+-- what the test of the byte answered
+solid-is : (c : tie.After-is-solid) → let s = c .before .before .before .before in solid (byte-of-spot (s .args .cells .now) (s .args .r .spot)) ≡ c .is-solid .result
+solid-is c = sym (c .is-solid .ensures ∙ ap solid (c .before .byte-at .ensures))
+
+-- the cell
+cell-is : (c : tie.After-cell-of) → let s = c .before .before .before .before .before .before .before .before in c .cell-of .result ≡ cell-at (s .args .k .n) (natAbs (s .args .r .spot .at))
+cell-is c = let s = c .before .before .before .before .before .before .before .before in c .cell-of .ensures ∙ ap (cell-at (s .args .k .n)) (at-is s)
+
+byte-at-requires : tie.Need-byte-at-requires
+byte-at-requires c κs = search needs
+
+is-solid-requires : tie.Need-is-solid-requires
+is-solid-requires c κs = search needs
+
+returns : tie.Need-returns
+unfolding answer-from
+returns c = rw (solid-is (c .before) ∙ not-true _ (c .if1 .taken))
+
+cast-cell-of : tie.Need-cast-cell-of
+cast-cell-of c = let h = c .before .before .before .before .before .before .before .pre .1 in cast-32 _ (h .index) (h .is) (omega arith)
+
+cell-of-requires : tie.Need-cell-of-requires
+cell-of-requires c κs =
+    let s = c .before .before .before .before .before .before .before in
+    (s .pre .0 .shaped .x, s .pre .0 .shaped .y, below s)
+
+measured-requires : tie.Need-measured-requires
+measured-requires c κs =
+    let s = c .before .before .before .before .before .before .before .before in
+    (p-limit _ _ (s .pre .0), rw (cell-is c) (byte-limit (s .args .k .n) _ (s .pre .0 .shaped) (natAbs (s .args .r .spot .at)) (has-byte s)))
+
+place-after-requires : tie.Need-place-after-requires
+place-after-requires c κs = search needs
+
+returns-2 : tie.Need-returns-2
+unfolding answer-from
+returns-2 c =
+    let s = c .before .before .before .before .before .before .before .before .before .before in
+    let m = c .before .measured .ensures .0 ∙ ap (differences (s .args .k .p)) (cell-is (c .before .before)) in
+    let place = c .place-after .ensures ∙ ap (entered (steps (s .args .k .d))) m in
+    rw (solid-is (c .before .before .before .before .before .before) ∙ not-false _ (c .before .before .before .before .before .if1 .left))
+    (λ i. Blocked (record { cell = cell-is (c .before .before) i; code = c .before .before .before .before .before .before .before .byte-at .ensures i; place = place i; reads = s .args .r .reads }))
+
+pub answer-of-spec : {M : Type 1} → statement M
+answer-of-spec =
+    tie.close
+    (tie.spec
+    byte-at-requires
+    is-solid-requires
+    returns
+    cast-cell-of
+    cell-of-requires
+    measured-requires
+    place-after-requires
+    returns-2)

@@ -1,0 +1,346 @@
+// The first-hit calls: the plain and the adaptive walk through a grid, and where they stop. A walk moves the place of a byte by strides and the
+// decision values of the tripod by sums; what a hit needs is worked out once, where the walk stopped.
+ghost use mathlib.Core.Path.{_≡_};
+ghost use mathlib.Core.Bool.{_&&_};
+ghost use Rattle.lines.specs.Lines.{differences};
+ghost use Prim.Native.Nat.{_+_, _*_, _≤_, _<_};
+ghost use lib.IntN.{natAbs};
+ghost use lib.ListN.{length};
+ghost use Rattle.cells.specs.Checks.{_then_};
+ghost use Rattle.cells.specs.declared.End.the-variants.{P, Q};
+ghost use Rattle.lines.specs.Steps.{at};
+ghost use Rattle.tripod.specs.Tripod.{steps, Short};
+ghost use Rattle.grids.specs.Grid.{solid, cell-at};
+ghost use Rattle.grids.proofs.Shapes.{Good};
+ghost use Rattle.walks.specs.Answers.{off-axis, grid-check, walk-check, PlainHit};
+ghost use Rattle.hits.specs.Route.{byte-index, stride, strides, Enclosed, RouteOf, Planned, SpotAt, HasByte, byte-of-spot, crossed-spot, CanCross};
+ghost use Rattle.hits.specs.Found.{StopsPlain, plain-found};
+ghost use Rattle.hits.specs.Entered.{numerator, behind, x-is-last, last-axis, entered, answer-from};
+use cells::Axis;
+use cells::Cell;
+use cells::Counts;
+use cells::End;
+use cells::Refusal;
+use cells::Verdict;
+use lines::Doubled;
+use lines::Tripod;
+use tripod::Diffs;
+use walks::FirstHit;
+use walks::Hit;
+use walks::Place;
+
+// How far the place of a byte moves with a cell towards Q, on each axis.
+pub struct Strides {
+    pub x: i32,
+    pub y: i32,
+    pub z: i32,
+}
+
+// What stays the same along a walk.
+pub struct Route {
+    pub n: Counts,
+    pub p: Cell,
+    pub q: Cell,
+    pub d: Diffs,
+    pub strides: Strides,
+    pub twice: Doubled,
+}
+
+// A place of a walk: where its byte is, and its decision values.
+pub struct Spot {
+    pub at: i32,
+    pub e: Tripod,
+}
+
+// Where a walk stopped, and how many cells it read.
+pub struct Stop {
+    pub spot: Spot,
+    pub reads: u32,
+}
+
+// The one test of a cell: "byte 2 or more, hit".
+fn is_solid(byte: u8) -> bool
+    ensures { λ r. ⌜ r ≡ solid byte ⌝ }
+{
+    1 < byte
+}
+
+// Whether a coordinate lies outside an axis.
+fn off_axis(v: i32, count: u32) -> bool
+    ensures { λ r. ⌜ r ≡ off-axis v count ⌝ }
+{
+    if v < 0 { true } else { count <= v as u32 }
+}
+
+// An end inside the grid, or refusal 5 with the first axis on which it is not.
+fn check_end(e: End, n: Counts, c: Cell) -> Verdict
+    ensures { λ r. ⌜ r ≡ grid-check e n c ⌝ }
+{
+    if off_axis(c.x, n.nx) {
+        return Verdict::Refused(Refusal::OffGrid(e, Axis::X));
+    }
+    if off_axis(c.y, n.ny) {
+        return Verdict::Refused(Refusal::OffGrid(e, Axis::Y));
+    }
+    if off_axis(c.z, n.nz) {
+        return Verdict::Refused(Refusal::OffGrid(e, Axis::Z));
+    }
+    Verdict::Fine
+}
+
+// Both ends, P before Q.
+fn check_ends(n: Counts, p: Cell, q: Cell) -> Verdict
+    ensures { λ r. ⌜ r ≡ (grid-check P n p then grid-check Q n q) ⌝ }
+{
+    match check_end(End::P, n, p) {
+        Verdict::Refused(r) => Verdict::Refused(r),
+        Verdict::Fine => check_end(End::Q, n, q),
+    }
+}
+
+// Refusals 2, 3, then 5.
+fn check_walk(n: Counts, bytes: usize, p: Cell, q: Cell) -> Verdict
+    ensures { λ r. ⌜ r ≡ walk-check n bytes p q ⌝ }
+{
+    match grids::shape(n, bytes) {
+        Verdict::Refused(r) => Verdict::Refused(r),
+        Verdict::Fine => check_ends(n, p, q),
+    }
+}
+
+// The stride from p towards q on an axis where a cell further on is `width` bytes further on.
+fn stride_to(p: i32, q: i32, width: u32) -> i32
+    requires { ⌜ width ≤ 1048576 ⌝ }
+    ensures { λ r. ⌜ r ≡ stride p q width ⌝ }
+{
+    let forward = width as i32;
+    if p <= q { forward } else { 0 - forward }
+}
+
+// The strides from p towards q.
+fn strides_of(n: Counts, p: Cell, q: Cell) -> Strides
+    requires { ⌜ Enclosed n p × Enclosed n q ⌝ }
+    ensures { λ r. ⌜ r ≡ strides n p q ⌝ }
+{
+    let x = stride_to(p.x, q.x, 1);
+    let y = stride_to(p.y, q.y, n.nx);
+    let z = stride_to(p.z, q.z, n.nx * n.ny);
+    Strides { x: x, y: y, z: z }
+}
+
+// The route from p to q.
+fn route_of(n: Counts, p: Cell, q: Cell) -> Route
+    requires { ⌜ Enclosed n p × Enclosed n q ⌝ }
+    ensures { λ r. ⌜ RouteOf n p q r ⌝ }
+{
+    let d = tripod::measured(p, q);
+    let strides = strides_of(n, p, q);
+    let twice = tripod::twice(d);
+    Route {
+        n: n,
+        p: p,
+        q: q,
+        d: d,
+        strides: strides,
+        twice: twice,
+    }
+}
+
+// The place of a cell's byte.
+fn index_of(n: Counts, c: Cell) -> u32
+    requires { ⌜ Enclosed n c ⌝ }
+    ensures { λ r. ⌜ r ≡ byte-index n c ⌝ }
+{
+    let x = c.x as u32;
+    let y = c.y as u32;
+    let z = c.z as u32;
+    x + n.nx * (y + n.ny * z)
+}
+
+// The spot of P.
+fn first_spot(k: Route) -> Spot
+    requires { ⌜ Enclosed (k .n) (k .p) × Short (k .d) × (steps (k .d) ≡ differences (k .p) (k .q)) ⌝ }
+    ensures { λ r. ⌜ SpotAt k (at 0 0 0) r ⌝ }
+{
+    let e = tripod::first_values(k.d);
+    let index = index_of(k.n, k.p) as i32;
+    Spot { at: index, e: e }
+}
+
+// The byte of a spot.
+fn byte_at(cells: &[u8], s: Spot) -> u8
+    requires { ⌜ HasByte (length (now cells)) s ⌝ }
+    ensures { λ r. ⌜ r ≡ byte-of-spot (now (cells .entry)) s ⌝ }
+{
+    let index = s.at as usize;
+    cells[index]
+}
+
+// The spot across the next face along n.
+fn crossed(s: Spot, k: Route, n: Axis) -> Spot
+    requires { ⌜ CanCross s k ⌝ }
+    ensures { λ r. ⌜ r ≡ crossed-spot k n s ⌝ }
+{
+    let at = s.at;
+    let e = s.e;
+    let strides = k.strides;
+    let twice = k.twice;
+    let moved = tripod::moved(e, twice, n);
+    match n {
+        Axis::X => Spot {
+            at: at + strides.x,
+            e: moved,
+        },
+        Axis::Y => Spot {
+            at: at + strides.y,
+            e: moved,
+        },
+        Axis::Z => Spot {
+            at: at + strides.z,
+            e: moved,
+        },
+    }
+}
+
+// The plain walk: from cell to cell to the first solid one, or to Q.
+fn walk_plain(cells: &[u8], k: Route, start: Spot) -> Stop
+    requires { ⌜ Planned (length (now cells)) k × SpotAt k (at 0 0 0) start ⌝ }
+    ensures { λ r. ⌜ StopsPlain (now (cells .entry)) k r ⌝ }
+{
+    let d = k.d;
+    let last = d.a + d.b + d.c;
+    let mut s = start;
+    let mut m: u32 = 0;
+    while m < last {
+        if is_solid(byte_at(cells, s)) {
+            return Stop {
+                spot: s,
+                reads: m + 1,
+            };
+        }
+        s = crossed(s, k, tripod::next_face(s.e));
+        m += 1;
+    }
+    Stop {
+        spot: s,
+        reads: m + 1,
+    }
+}
+
+// The cell of the byte at i.
+fn cell_of(n: Counts, i: u32) -> Cell
+    requires { ⌜ Good (n .nx) × Good (n .ny) × (i < 1073741824) ⌝ }
+    ensures { λ r. ⌜ r ≡ cell-at n i ⌝ }
+{
+    let x = (i % n.nx) as i32;
+    let y = (i / n.nx % n.ny) as i32;
+    let z = (i / (n.nx * n.ny)) as i32;
+    Cell { x: x, y: y, z: z }
+}
+
+// The upper number of the crossing last made, 0 where there is none.
+fn numerator_of(i: u32) -> u32
+    requires { ⌜ i ≤ 16383 ⌝ }
+    ensures { λ r. ⌜ r ≡ numerator i ⌝ }
+{
+    if i == 0 { 0 } else { 2 * i - 1 }
+}
+
+// Whether a crossing was made at i over 2a, and one at j over 2b lies at no greater fraction.
+fn is_behind(i: u32, a: u32, j: u32, b: u32) -> bool
+    requires { ⌜ (i ≤ 32767) × (a ≤ 16383) × (j ≤ 32767) × (b ≤ 16383) ⌝ }
+    ensures { λ r. ⌜ r ≡ behind i a j b ⌝ }
+{
+    if i == 0 { false } else { j * a <= i * b }
+}
+
+// Of the crossings last made on each axis, the axis of the last.
+fn last_made(d: Diffs, t: Diffs) -> Axis
+    requires { ⌜ Short d × Short t ⌝ }
+    ensures { λ r. ⌜ r ≡ last-axis (steps d) (steps t) ⌝ }
+{
+    let i = numerator_of(t.a);
+    let j = numerator_of(t.b);
+    let k = numerator_of(t.c);
+    let y_before = is_behind(i, d.a, j, d.b);
+    let z_before = is_behind(i, d.a, k, d.c);
+    if both(y_before, z_before) {
+        return Axis::X;
+    }
+    if is_behind(k, d.c, j, d.b) {
+        Axis::Z
+    } else {
+        Axis::Y
+    }
+}
+
+fn both(s: bool, t: bool) -> bool
+    ensures { λ r. ⌜ r ≡ (s && t) ⌝ }
+{
+    if s { t } else { false }
+}
+
+// The number along an axis.
+fn along(d: Diffs, n: Axis) -> u32
+    ensures { λ r. ⌜ r ≡ steps d n ⌝ }
+{
+    match n {
+        Axis::X => d.a,
+        Axis::Y => d.b,
+        Axis::Z => d.c,
+    }
+}
+
+// The place of a hit after t steps of d.
+fn place_after(d: Diffs, t: Diffs) -> Place
+    requires { ⌜ Short d × Short t ⌝ }
+    ensures { λ r. ⌜ r ≡ entered (steps d) (steps t) ⌝ }
+{
+    if t.a + t.b + t.c == 0 {
+        return Place { num: 0, den: 1 };
+    }
+    let n = last_made(d, t);
+    let num = numerator_of(along(t, n));
+    let den = 2 * along(d, n);
+    Place { num: num, den: den }
+}
+
+// The answer of a walk from where it stopped.
+fn answer_of(cells: &[u8], k: Route, r: Stop) -> FirstHit
+    requires { ⌜ Planned (length (now cells)) k × HasByte (length (now cells)) (r .spot) ⌝ }
+    ensures { λ a. ⌜ a ≡ answer-from (now (cells .entry)) k r ⌝ }
+{
+    let spot = r.spot;
+    let code = byte_at(cells, spot);
+    if !is_solid(code) {
+        return FirstHit::Clear(r.reads);
+    }
+    let cell = cell_of(k.n, spot.at as u32);
+    let made = tripod::measured(k.p, cell);
+    let place = place_after(k.d, made);
+    FirstHit::Hit(Hit {
+        cell: cell,
+        code: code,
+        place: place,
+        reads: r.reads,
+    })
+}
+
+// The plain walk from p to q, between ends inside the grid.
+fn plain_answer(cells: &[u8], k: Route) -> FirstHit
+    requires { ⌜ Planned (length (now cells)) k ⌝ }
+    ensures { λ r. ⌜ r ≡ plain-found (now (cells .entry)) k ⌝ }
+{
+    let stop = walk_plain(cells, k, first_spot(k));
+    answer_of(cells, k, stop)
+}
+
+// The first solid cell of the 6-line from p to q.
+pub fn first_plain(n: Counts, cells: &[u8], p: Cell, q: Cell) -> FirstHit
+    ensures { λ r. ⌜ PlainHit n (now (cells .entry)) p q r ⌝ }
+{
+    match check_walk(n, cells.len(), p, q) {
+        Verdict::Refused(r) => FirstHit::Refused(r),
+        Verdict::Fine => plain_answer(cells, route_of(n, p, q)),
+    }
+}
