@@ -4,3 +4,5 @@ pub mod Entering
 pub mod Stops
 pub mod Walking
 pub mod Accepting
+pub mod Leaps
+pub mod Turns

@@ -21,24 +21,21 @@ use Rattle.walks.proofs.Numbers.{last-number, solid-at}
 use Rattle.hits.specs.declared.Route.{Route}
 use Rattle.hits.specs.declared.Spot.{Spot}
 use Rattle.hits.specs.declared.Stop.{Stop}
+use Rattle.hits.specs.declared.Turn.{Turn}
 use Rattle.hits.specs.Route.{Planned, course, SpotAt, byte-of-spot, crossed-spot, Stopped}
+use Rattle.hits.specs.Found.{last, hits, Walking, Stops, Outcome, Crossing, CanWalk, Walked}
 use Rattle.hits.proofs.Spots.{byte-is, six-turn}
-
--- at place number m of a walk that goes by `go`, r cells read before it
-pub record Walking (l : List ℕ) (k : Route) (go : ℕ → ℕ) (m r : ℕ) (s : Spot) : Type 0 where
-  pub spot : SpotAt k (place (course k) m) s
-  pub on : OnWay (solid-at (k .n) l (k .p) (k .q)) (last-number (k .p) (k .q)) go m r
 
 module _ (bytes : ℕ) (k : Route) (plan : Planned bytes k) (l : List ℕ) (go : ℕ → ℕ) where
   abbrev N : ℕ
-  N = last-number (k .p) (k .q)
+  N = last l k
 
-  abbrev hits : ℕ → Bool
-  hits = solid-at (k .n) l (k .p) (k .q)
+  abbrev H : ℕ → Bool
+  H = hits l k
 
   -- from the first spot
   pub walk-starts : (s : Spot) → SpotAt k (at 0 0 0) s → Walking l k go 0 0 s
-  walk-starts s h = record { spot = subst (λ t. SpotAt k t s) (fun-ext no-steps) h; on = on-start hits N go }
+  walk-starts s h = record { spot = subst (λ t. SpotAt k t s) (fun-ext no-steps) h; on = on-start H N go }
     where
       no-steps : (a : Axis) → at 0 0 0 a ≡ place (course k) 0 a
       no-steps X = sym (place-start (course k) X)
@@ -50,7 +47,7 @@ module _ (bytes : ℕ) (k : Route) (plan : Planned bytes k) (l : List ℕ) (go :
   walk-byte m s h = byte-is bytes k plan l (place (course k) m) s h ∙ ap (byte-of (k .n) l) (sym (six-is rule-1 (k .p) (k .q) m))
 
   -- so the test of the byte is the walk's
-  pub walk-test : (m : ℕ) (s : Spot) {b : Bool} → SpotAt k (place (course k) m) s → solid (byte-of-spot l s) ≡ b → hits m ≡ b
+  pub walk-test : (m : ℕ) (s : Spot) {b : Bool} → SpotAt k (place (course k) m) s → solid (byte-of-spot l s) ≡ b → H m ≡ b
   walk-test m s h e = sym (ap solid (walk-byte m s h)) ∙ e
 
   or-true : (b : Bool) → (b || true) ≡ true
@@ -58,25 +55,61 @@ module _ (bytes : ℕ) (k : Route) (plan : Planned bytes k) (l : List ℕ) (go :
   or-true false = refl
 
   -- it stops at a solid byte and at Q
-  pub at-hit : (m r : ℕ) (s : Spot) → Walking l k go m r s → hits m ≡ true → Stopped k (ends hits N go (N + 1) 0) (visits hits N go (N + 1) 0) (record { spot = s; reads = r + 1 })
+  pub at-hit : (m r : ℕ) (s : Spot) → Walking l k go m r s → H m ≡ true → Stops l k go (record { spot = s; reads = r + 1 })
   at-hit m r s w h =
-      let (e, v) = on-stop hits N go m r (w .on) (ap (λ b. b || eqb m N) h) in
+      let (e, v) = on-stop H N go m r (w .on) (ap (λ b. b || eqb m N) h) in
       record { spot = subst (λ n. SpotAt k (place (course k) n) s) e (w .spot); reads = v }
 
-  pub at-end : (m r : ℕ) (s : Spot) → Walking l k go m r s → m ≡ N → Stopped k (ends hits N go (N + 1) 0) (visits hits N go (N + 1) 0) (record { spot = s; reads = r + 1 })
+  pub at-end : (m r : ℕ) (s : Spot) → Walking l k go m r s → m ≡ N → Stops l k go (record { spot = s; reads = r + 1 })
   at-end m r s w h =
-      let (e, v) = on-stop hits N go m r (w .on) (ap (λ b. hits m || b) (eq-eqb m N h) ∙ or-true (hits m)) in
+      let (e, v) = on-stop H N go m r (w .on) (ap (λ b. H m || b) (eq-eqb m N h) ∙ or-true (H m)) in
       record { spot = subst (λ n. SpotAt k (place (course k) n) s) e (w .spot); reads = v }
 
   -- else it goes on
-  pub goes-on : Rises N go → (m r : ℕ) (s : Spot) → Walking l k go m r s → hits m ≡ false → m < N → OnWay hits N go (go m) (r + 1)
-  goes-on rises m r s w h lt = on-turn hits N go rises m r (w .on) (ap₂ _||_ h (ne-eqb m N (λ e. omega arith)))
+  pub goes-on : Rises N go → (m r : ℕ) (s : Spot) → Walking l k go m r s → H m ≡ false → m < N → OnWay H N go (go m) (r + 1)
+  goes-on rises m r s w h lt = on-turn H N go rises m r (w .on) (ap₂ _||_ h (ne-eqb m N (λ e. omega arith)))
 
   -- across the next face
   pub face-turn :
-      Rises N go → (m r : ℕ) (s : Spot) (n : Axis) → Walking l k go m r s → hits m ≡ false → m < N → go m ≡ suc m → NextFace (s .e) n → Walking l k go (m + 1) (r + 1) (crossed-spot k n s)
+      Rises N go → (m r : ℕ) (s : Spot) (n : Axis) → Walking l k go m r s → H m ≡ false → m < N → go m ≡ suc m → NextFace (s .e) n → Walking l k go (m + 1) (r + 1) (crossed-spot k n s)
   face-turn rises m r s n w h lt one face =
       record {
         spot = six-turn bytes k plan m s n lt (w .spot) face;
-        on = subst (λ j. OnWay hits N go j (r + 1)) (one ∙ sym (add-one m)) (goes-on rises m r s w h lt);
+        on = subst (λ j. OnWay H N go j (r + 1)) (one ∙ sym (add-one m)) (goes-on rises m r s w h lt);
       }
+
+-- ---- a number of faces, one at a time
+
+-- after j of them
+pub record Following (l : List ℕ) (k : Route) (start : Spot) (reads faces j : ℕ) (s : Spot) : Type 0 where
+  pub most : j ≤ faces
+  pub follows : (next : ℕ → ℕ) (m : ℕ) → Crossing l k start reads faces next m → Walking l k next (m + j) (reads + j) s
+
+module _ (bytes : ℕ) (k : Route) (plan : Planned bytes k) (l : List ℕ) (start : Spot) (reads faces : ℕ) where
+  -- at other numbers that are the same
+  same-walking : {next : ℕ → ℕ} {s : Spot} (m m′ r r′ : ℕ) → m ≡ m′ → r ≡ r′ → Walking l k next m r s → Walking l k next m′ r′ s
+  same-walking {next} {s} m m′ r r′ e f w = subst (λ j. Walking l k next j r′ s) e (subst (λ j. Walking l k next m j s) f w)
+
+  pub no-face : Following l k start reads faces 0 start
+  no-face = record { most = omega arith; follows = λ next m c. same-walking m (m + 0) reads (reads + 0) (omega arith) (omega arith) (c .walking) }
+
+  pub one-face :
+      (j : ℕ) (s : Spot) (n : Axis) → Following l k start reads faces j s → j < faces → solid (byte-of-spot l s) ≡ false → NextFace (s .e) n →
+      Following l k start reads faces (j + 1) (crossed-spot k n s)
+  one-face j s n h lt clear face =
+      record {
+        most = omega arith;
+        follows = λ next m c.
+            let w = h .follows next m c in
+            same-walking (m + j + 1) (m + (j + 1)) (reads + j + 1) (reads + (j + 1)) (omega arith) (omega arith)
+            (face-turn bytes k plan l next (c .rises) (m + j) (reads + j) s n w (walk-test bytes k plan l next (m + j) s (w .spot) clear) (omega (arith, c .fits)) (c .one (m + j) (omega arith) (omega arith)) face);
+      }
+
+  -- at a solid byte, or after the last
+  pub hit-face : (j : ℕ) (s : Spot) → Following l k start reads faces j s → solid (byte-of-spot l s) ≡ true → Walked l k start reads faces (record { spot = s; reads = reads + j + 1; hit = true })
+  hit-face j s h solid-there =
+      record { leads = λ next m c. let w = h .follows next m c in at-hit bytes k plan l next (m + j) (reads + j) s w (walk-test bytes k plan l next (m + j) s (w .spot) solid-there) }
+
+  pub last-face : (j : ℕ) (s : Spot) → Following l k start reads faces j s → faces ≤ j → Walked l k start reads faces (record { spot = s; reads = reads + j; hit = false })
+  last-face j s h ge =
+      record { leads = λ next m c. same-walking (m + j) (m + faces) (reads + j) (reads + j) (omega (arith, h .most)) refl (h .follows next m c) }

@@ -1,16 +1,75 @@
--- Where each walk stops and what it answers, by the numbers of the 6-line's cells. Assumes nothing.
-use Prim.Native.Nat.{ℕ}
+-- Where each walk is, where it stops and what it answers, by the numbers of the 6-line's cells. Assumes nothing.
+use Prim.Native.Nat.{ℕ, suc, _+_, _≤_, _<_}
+use mathlib.Core.Path.{_≡_}
+use mathlib.Core.Bool.{Bool, true, false}
 use mathlib.Core.List.{List}
+use Rattle.lines.specs.Crossings.{place}
+use Rattle.lines.specs.Lines.{differences, longest}
 use Rattle.walks.specs.declared.FirstHit.{FirstHit}
-use Rattle.walks.proofs.Numbers.{plain-end, plain-reads}
+use Rattle.walks.proofs.Runs.{ends, visits, Rises}
+use Rattle.walks.proofs.Progress.{OnWay}
+use Rattle.walks.proofs.Numbers.{last-number, number-26, solid-at, go}
 use Rattle.walks.proofs.Story.{answer-at}
 use Rattle.hits.specs.declared.Route.{Route}
+use Rattle.hits.specs.declared.Spot.{Spot}
+use Rattle.hits.specs.declared.Turn.{Turn}
 use Rattle.hits.specs.declared.Stop.{Stop}
-use Rattle.hits.specs.Route.{Stopped}
+use Rattle.hits.specs.Route.{course, SpotAt, Stopped}
 
--- the plain walk
-abbrev pub StopsPlain : List ℕ → Route → Stop → Type 0
-StopsPlain l k r = Stopped k (plain-end (k .n) l (k .p) (k .q)) (plain-reads (k .n) l (k .p) (k .q)) r
+module _ (l : List ℕ) (k : Route) where
+  -- the route's last place number, and where the bytes are solid
+  abbrev pub last : ℕ
+  last = last-number (k .p) (k .q)
 
-abbrev pub plain-found : List ℕ → Route → FirstHit
-plain-found l k = answer-at (k .n) l (k .p) (k .q) (plain-end (k .n) l (k .p) (k .q)) (plain-reads (k .n) l (k .p) (k .q))
+  abbrev pub hits : ℕ → Bool
+  hits = solid-at (k .n) l (k .p) (k .q)
+
+  -- the two walks: from number to number, and with long steps
+  abbrev pub adaptively : ℕ → ℕ
+  adaptively = go (k .n) l (k .p) (k .q)
+
+  -- at place number m of a walk that goes by `next`, r cells read before it
+  pub record Walking (next : ℕ → ℕ) (m r : ℕ) (s : Spot) : Type 0 where
+    pub spot : SpotAt k (place (course k) m) s
+    pub on : OnWay hits last next m r
+
+  -- a walk that stopped where it ends
+  abbrev pub Stops : (ℕ → ℕ) → Stop → Type 0
+  Stops next r = Stopped k (ends hits last next (last + 1) 0) (visits hits last next (last + 1) 0) r
+
+  -- after a turn: stopped, or on its way at place number m
+  abbrev pub Outcome : (ℕ → ℕ) → ℕ → Bool → Spot → ℕ → Type 0
+  Outcome next m true s r = Stops next (record { spot = s; reads = r })
+  Outcome next m false s r = Walking next m r s
+
+  -- so many faces to cross from place number m, one at a time
+  pub record Crossing (s : Spot) (reads faces : ℕ) (next : ℕ → ℕ) (m : ℕ) : Type 0 where
+    pub rises : Rises last next
+    pub fits : m + faces ≤ last
+    pub one : (j : ℕ) → m ≤ j → j < m + faces → next j ≡ suc j
+    pub walking : Walking next m reads s
+
+  pub record CanWalk (s : Spot) (reads faces : ℕ) : Type 0 where
+    pub next : ℕ → ℕ
+    pub from : ℕ
+    pub crossing : Crossing s reads faces next from
+
+  pub record Walked (s : Spot) (reads faces : ℕ) (r : Turn) : Type 0 where
+    pub leads : (next : ℕ → ℕ) (m : ℕ) → Crossing s reads faces next m → Outcome next (m + faces) (r .hit) (r .spot) (r .reads)
+
+  -- at 26-line cell m, which is not the last
+  pub record At26 (s : Spot) (reads m : ℕ) : Type 0 where
+    pub below : m < longest (differences (k .p) (k .q))
+    pub walking : Walking adaptively (number-26 (k .p) (k .q) m) reads s
+
+  pub record CanTurn (s : Spot) (reads : ℕ) : Type 0 where
+    pub cell : ℕ
+    pub at : At26 s reads cell
+
+  -- on to 26-line cell m + 1
+  pub record Turned (s : Spot) (reads : ℕ) (r : Turn) : Type 0 where
+    pub leads : (m : ℕ) → At26 s reads m → Outcome adaptively (number-26 (k .p) (k .q) (m + 1)) (r .hit) (r .spot) (r .reads)
+
+  -- what a walk answers
+  abbrev pub found : (ℕ → ℕ) → FirstHit
+  found next = answer-at (k .n) l (k .p) (k .q) (ends hits last next (last + 1) 0) (visits hits last next (last + 1) 0)

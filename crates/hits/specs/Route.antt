@@ -14,7 +14,8 @@ use Rattle.lines.specs.Preference.{rule-1}
 use Rattle.lines.specs.Crossings.{Course, place}
 use Rattle.lines.specs.Lines.{differences, centres, cell-of}
 use Rattle.lines.specs.Decisions.{values, doubled, moved-values}
-use Rattle.tripod.specs.Tripod.{steps, Short, Calm, Even}
+use Rattle.tripod.specs.declared.Moves.{Moves}
+use Rattle.tripod.specs.Tripod.{steps, Short, Calm, Even, moves-on}
 use Rattle.grids.specs.Grid.{index}
 use Rattle.grids.proofs.Shapes.{Shaped}
 use Rattle.walks.specs.Safe.{InGrid}
@@ -97,6 +98,21 @@ pub record CanCross (s : Spot) (k : Route) : Type 0 where
   pub z : Small (k .strides .z)
   pub values : Calm (s .e)
   pub twice : Even (k .twice)
+
+-- the same where it is asked for, and the spot after a long step
+abbrev pub crossed-where : Bool → Route → Axis → Spot → Spot
+crossed-where go k n s = cond go (crossed-spot k n s) s
+
+abbrev pub leapt-spot : Route → Moves → Spot → Spot
+leapt-spot k m s = crossed-where (m .z) k Z (crossed-where (m .y) k Y (crossed-where (m .x) k X s))
+
+-- what a long step asks: it does not pass Q
+pub record CanLeap (s : Spot) (k : Route) (m : Moves) : Type 0 where
+  pub bytes : ℕ
+  pub plan : Planned bytes k
+  pub t : Steps
+  pub spot : SpotAt k t s
+  pub fits : (a : Axis) → t a + moves-on m a ≤ differences (k .p) (k .q) a
 
 -- a walk that ends at place number e after so many reads
 pub record Stopped (k : Route) (e many : ℕ) (r : Stop) : Type 0 where

@@ -2,19 +2,19 @@
 // decision values of the tripod by sums; what a hit needs is worked out once, where the walk stopped.
 ghost use mathlib.Core.Path.{_≡_};
 ghost use mathlib.Core.Bool.{_&&_};
-ghost use Rattle.lines.specs.Lines.{differences};
-ghost use Prim.Native.Nat.{_+_, _*_, _≤_, _<_};
+ghost use Rattle.lines.specs.Lines.{differences, longest};
+ghost use Prim.Native.Nat.{suc, _+_, _*_, _≤_, _<_};
 ghost use lib.IntN.{natAbs};
 ghost use lib.ListN.{length};
 ghost use Rattle.cells.specs.Checks.{_then_};
 ghost use Rattle.cells.specs.declared.End.the-variants.{P, Q};
-ghost use Rattle.lines.specs.Steps.{at};
-ghost use Rattle.tripod.specs.Tripod.{steps, Short};
+ghost use Rattle.lines.specs.Steps.{at, total};
+ghost use Rattle.tripod.specs.Tripod.{steps, Short, bit, moves-on};
 ghost use Rattle.grids.specs.Grid.{solid, cell-at};
 ghost use Rattle.grids.proofs.Shapes.{Good};
-ghost use Rattle.walks.specs.Answers.{off-axis, grid-check, walk-check, PlainHit};
-ghost use Rattle.hits.specs.Route.{byte-index, stride, strides, Enclosed, RouteOf, Planned, SpotAt, HasByte, byte-of-spot, crossed-spot, CanCross};
-ghost use Rattle.hits.specs.Found.{StopsPlain, plain-found};
+ghost use Rattle.walks.specs.Answers.{off-axis, grid-check, walk-check, PlainHit, AdaptiveHit};
+ghost use Rattle.hits.specs.Route.{byte-index, stride, strides, Enclosed, RouteOf, Planned, SpotAt, HasByte, byte-of-spot, crossed-spot, CanCross, crossed-where, leapt-spot, CanLeap};
+ghost use Rattle.hits.specs.Found.{adaptively, Walking, Stops, CanWalk, Walked, CanTurn, Turned, found};
 ghost use Rattle.hits.specs.Entered.{numerator, behind, x-is-last, last-axis, entered, answer-from};
 use cells::Axis;
 use cells::Cell;
@@ -25,6 +25,7 @@ use cells::Verdict;
 use lines::Doubled;
 use lines::Tripod;
 use tripod::Diffs;
+use tripod::Moves;
 use walks::FirstHit;
 use walks::Hit;
 use walks::Place;
@@ -56,6 +57,13 @@ pub struct Spot {
 pub struct Stop {
     pub spot: Spot,
     pub reads: u32,
+}
+
+// Where a turn of a walk led, with the reads on the way there; a hit counts its own.
+pub struct Turn {
+    pub spot: Spot,
+    pub reads: u32,
+    pub hit: bool,
 }
 
 // The one test of a cell: "byte 2 or more, hit".
@@ -202,28 +210,130 @@ fn crossed(s: Spot, k: Route, n: Axis) -> Spot
     }
 }
 
-// The plain walk: from cell to cell to the first solid one, or to Q.
-fn walk_plain(cells: &[u8], k: Route, start: Spot) -> Stop
-    requires { ⌜ Planned (length (now cells)) k × SpotAt k (at 0 0 0) start ⌝ }
-    ensures { λ r. ⌜ StopsPlain (now (cells .entry)) k r ⌝ }
+// The same where it is asked for.
+fn crossed_if(go: bool, s: Spot, k: Route, n: Axis) -> Spot
+    requires { ⌜ CanCross s k ⌝ }
+    ensures { λ r. ⌜ r ≡ crossed-where go k n s ⌝ }
 {
-    let d = k.d;
-    let last = d.a + d.b + d.c;
+    if go { crossed(s, k, n) } else { s }
+}
+
+// The spot after a long step.
+fn leapt(s: Spot, k: Route, m: Moves) -> Spot
+    requires { ⌜ CanLeap s k m ⌝ }
+    ensures { λ r. ⌜ r ≡ leapt-spot k m s ⌝ }
+{
+    let x = crossed_if(m.x, s, k, Axis::X);
+    let y = crossed_if(m.y, x, k, Axis::Y);
+    crossed_if(m.z, y, k, Axis::Z)
+}
+
+// From cell to cell over so many faces, to the first solid one; the last cell is not tested.
+fn walk_faces(cells: &[u8], k: Route, start: Spot, reads: u32, faces: u32) -> Turn
+    requires { ⌜ Planned (length (now cells)) k × CanWalk (now cells) k start reads faces ⌝ }
+    ensures { λ r. ⌜ Walked (now (cells .entry)) k start reads faces r ⌝ }
+{
     let mut s = start;
-    let mut m: u32 = 0;
-    while m < last {
+    let mut j: u32 = 0;
+    while j < faces {
         if is_solid(byte_at(cells, s)) {
-            return Stop {
+            return Turn {
                 spot: s,
-                reads: m + 1,
+                reads: reads + j + 1,
+                hit: true,
             };
         }
         s = crossed(s, k, tripod::next_face(s.e));
-        m += 1;
+        j += 1;
+    }
+    Turn {
+        spot: s,
+        reads: reads + j,
+        hit: false,
+    }
+}
+
+// The plain walk: the 6-line to its first solid cell, or to Q.
+fn walk_plain(cells: &[u8], k: Route, start: Spot) -> Stop
+    requires { ⌜ Planned (length (now cells)) k × SpotAt k (at 0 0 0) start ⌝ }
+    ensures { λ r. ⌜ Stops (now (cells .entry)) k suc r ⌝ }
+{
+    let d = k.d;
+    let t = walk_faces(cells, k, start, 0, d.a + d.b + d.c);
+    let spot = t.spot;
+    if t.hit {
+        return Stop {
+            spot: spot,
+            reads: t.reads,
+        };
     }
     Stop {
-        spot: s,
-        reads: m + 1,
+        spot: spot,
+        reads: t.reads + 1,
+    }
+}
+
+// How many axes a long step moves along.
+fn faces_of(m: Moves) -> u32
+    ensures { λ r. ⌜ r ≡ total (moves-on m) ⌝ }
+{
+    one_if(m.x) + one_if(m.y) + one_if(m.z)
+}
+
+fn one_if(t: bool) -> u32
+    ensures { λ r. ⌜ (r ≡ bit t) × (r ≤ 1) ⌝ }
+{
+    if t { 1 } else { 0 }
+}
+
+// From a cell of the 26-line to the next one: by a long step where the byte is 0, else over the faces between them.
+fn next_26(cells: &[u8], k: Route, long: Axis, s: Spot, reads: u32) -> Turn
+    requires { ⌜ Planned (length (now cells)) k × (steps (k .d) long ≡ longest (steps (k .d))) × CanTurn (now cells) k s reads ⌝ }
+    ensures { λ r. ⌜ Turned (now (cells .entry)) k s reads r ⌝ }
+{
+    let e = s.e;
+    let d = k.d;
+    let moves = tripod::long_moves(e, d, long);
+    if byte_at(cells, s) == 0 {
+        let spot = leapt(s, k, moves);
+        return Turn {
+            spot: spot,
+            reads: reads + 1,
+            hit: false,
+        };
+    }
+    walk_faces(cells, k, s, reads, faces_of(moves))
+}
+
+// The adaptive walk: from cell to cell of the 26-line, with long steps where the byte is 0, to the first solid cell or to Q.
+fn walk_adaptive(cells: &[u8], k: Route, start: Spot) -> Stop
+    requires { ⌜ Planned (length (now cells)) k × SpotAt k (at 0 0 0) start ⌝ }
+    ensures { λ r. ⌜ Stops (now (cells .entry)) k (adaptively (now (cells .entry)) k) r ⌝ }
+{
+    let d = k.d;
+    let long = tripod::longest_axis(d);
+    let last = along(d, long);
+    let mut t = Turn {
+        spot: start,
+        reads: 0,
+        hit: false,
+    };
+    let mut m: u32 = 0;
+    while m < last {
+        t = next_26(cells, k, long, t.spot, t.reads);
+        if t.hit {
+            let spot = t.spot;
+            return Stop {
+                spot: spot,
+                reads: t.reads,
+            };
+        }
+        m += 1;
+    }
+    let spot = t.spot;
+    Stop {
+        spot: spot,
+        reads: t.reads + 1,
     }
 }
 
@@ -326,21 +436,40 @@ fn answer_of(cells: &[u8], k: Route, r: Stop) -> FirstHit
     })
 }
 
-// The plain walk from p to q, between ends inside the grid.
+// What the plain walk finds along a route.
 fn plain_answer(cells: &[u8], k: Route) -> FirstHit
     requires { ⌜ Planned (length (now cells)) k ⌝ }
-    ensures { λ r. ⌜ r ≡ plain-found (now (cells .entry)) k ⌝ }
+    ensures { λ r. ⌜ r ≡ found (now (cells .entry)) k suc ⌝ }
 {
     let stop = walk_plain(cells, k, first_spot(k));
     answer_of(cells, k, stop)
 }
 
-// The first solid cell of the 6-line from p to q.
+// What the adaptive walk finds along a route.
+fn adaptive_answer(cells: &[u8], k: Route) -> FirstHit
+    requires { ⌜ Planned (length (now cells)) k ⌝ }
+    ensures { λ r. ⌜ r ≡ found (now (cells .entry)) k (adaptively (now (cells .entry)) k) ⌝ }
+{
+    let stop = walk_adaptive(cells, k, first_spot(k));
+    answer_of(cells, k, stop)
+}
+
+// The first solid cell of the plain walk from p to q.
 pub fn first_plain(n: Counts, cells: &[u8], p: Cell, q: Cell) -> FirstHit
     ensures { λ r. ⌜ PlainHit n (now (cells .entry)) p q r ⌝ }
 {
     match check_walk(n, cells.len(), p, q) {
         Verdict::Refused(r) => FirstHit::Refused(r),
         Verdict::Fine => plain_answer(cells, route_of(n, p, q)),
+    }
+}
+
+// The first solid cell of the adaptive walk from p to q.
+pub fn first_adaptive(n: Counts, cells: &[u8], p: Cell, q: Cell) -> FirstHit
+    ensures { λ r. ⌜ AdaptiveHit n (now (cells .entry)) p q r ⌝ }
+{
+    match check_walk(n, cells.len(), p, q) {
+        Verdict::Refused(r) => FirstHit::Refused(r),
+        Verdict::Fine => adaptive_answer(cells, route_of(n, p, q)),
     }
 }

@@ -23,7 +23,8 @@ use Rattle.lists.specs.declared.Way.{Way}
 use Rattle.lists.specs.declared.Spot.{Spot}
 use Rattle.lists.specs.Lists.{filled}
 use Rattle.lists.specs.Way.{WayOf, SpotAt, put3, crossed-spot, leapt-spot}
-use Rattle.lists.proofs.Line.{spot-crossed, spot-leapt, leap-to, leap-at}
+use Rattle.tripod.proofs.Leap.{leap-to, leap-at}
+use Rattle.lists.proofs.Line.{spot-crossed, spot-leapt}
 use Rattle.lists.proofs.Front.{front, put-next, front-filled}
 
 -- after m turns m cells are stored, and s is the spot of place m

@@ -11,7 +11,7 @@ use Rattle.cells.specs.Touching.{on, apart}
 use Rattle.cells.specs.Small.{Small}
 use Rattle.cells.proofs.Signed.{up, dn, same-number, one-sided, sum-is, diff-is}
 use Rattle.cells.proofs.Machine.{parts-small}
-use Rattle.lines.specs.Steps.{Axis, X, Y, Z, Steps, same}
+use Rattle.lines.specs.Steps.{Axis, X, Y, Z, Steps}
 use Rattle.lines.specs.Towards.{towards}
 use Rattle.lines.specs.Lines.{differences, cell-of, InLimit}
 use Rattle.lines.specs.Decisions.{values, doubled, moved-values}
@@ -19,9 +19,10 @@ use Rattle.lines.proofs.Steps.{bump}
 use Rattle.lines.proofs.Cells.{limited-difference, same-cell, cell-on}
 use Rattle.lines.proofs.Signs.{step-moves}
 use Rattle.lines.proofs.Towards.{Along, along, either-way}
-use Rattle.tripod.specs.Tripod.{Calm, Even, bit, moves-on}
+use Rattle.tripod.specs.Tripod.{Calm, Even}
 use Rattle.tripod.specs.declared.Moves.{Moves}
 use Rattle.tripod.proofs.Laws.{limit-parts, place-calm, doubled-even}
+use Rattle.tripod.proofs.Leap.{where-to, where-at, leap-to, leap-at}
 use Rattle.lists.specs.declared.Heading.{Heading}
 use Rattle.lists.specs.declared.Way.{Way}
 use Rattle.lists.specs.declared.Spot.{Spot}
@@ -93,32 +94,9 @@ module _ (p q : Cell) (w : Way) (way : WayOf p q w) where
 
 -- ---- a long step
 
--- the place after a step that is made where `go` says so
-abbrev pub where-to : Bool → Axis → Steps → Steps
-where-to go n t = cond go (bump t n) t
-
-pub where-at : (go : Bool) (n : Axis) (t : Steps) (a : Axis) → where-to go n t a ≡ t a + bit go * same n a
-where-at true n t a = omega arith
-where-at false n t a = omega arith
-
 pub spot-where : (p q : Cell) (w : Way) → WayOf p q w → (go : Bool) (t : Steps) (s : Spot) (n : Axis) → SpotAt p q t s → SpotAt p q (where-to go n t) (crossed-where go w n s)
 spot-where p q w way true t s n h = spot-crossed p q w way t s n h
 spot-where p q w way false t s n h = h
-
--- the three steps of a long one
-abbrev pub leap-to : Moves → Steps → Steps
-leap-to m t = where-to (m .z) Z (where-to (m .y) Y (where-to (m .x) X t))
-
-pub leap-at : (m : Moves) (t : Steps) (a : Axis) → leap-to m t a ≡ t a + moves-on m a
-leap-at m t a = parts ∙ sums a
-  where
-    parts : leap-to m t a ≡ t a + bit (m .x) * same X a + bit (m .y) * same Y a + bit (m .z) * same Z a
-    parts = omega (arith, where-at (m .x) X t a, where-at (m .y) Y (where-to (m .x) X t) a, where-at (m .z) Z (where-to (m .y) Y (where-to (m .x) X t)) a)
-
-    sums : (a : Axis) → t a + bit (m .x) * same X a + bit (m .y) * same Y a + bit (m .z) * same Z a ≡ t a + moves-on m a
-    sums X = omega arith
-    sums Y = omega arith
-    sums Z = omega arith
 
 pub spot-leapt : (p q : Cell) (w : Way) → WayOf p q w → (m : Moves) (t : Steps) (s : Spot) → SpotAt p q t s → SpotAt p q (leap-to m t) (leapt-spot w m s)
 spot-leapt p q w way m t s h =

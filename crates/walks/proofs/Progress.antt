@@ -11,6 +11,7 @@ use Rattle.walks.proofs.Runs.{stop, ends, visits, Rises, not-stopped}
 pub record OnWay (solid : ℕ → Bool) (N : ℕ) (go : ℕ → ℕ) (s r : ℕ) : Type 0 where
   pub fuel : ℕ
   pub most : s ≤ N
+  pub few : r ≤ s
   pub enough : N < s + fuel
   pub end : ends solid N go fuel s ≡ ends solid N go (N + 1) 0
   pub reads : r + visits solid N go fuel s ≡ visits solid N go (N + 1) 0
@@ -26,7 +27,7 @@ module _ (solid : ℕ → Bool) (N : ℕ) (go : ℕ → ℕ) where
   visits-by fuel s h = ap (λ b. suc (cond b 0 (visits solid N go fuel (go s)))) h
 
   pub on-start : OnWay solid N go 0 0
-  on-start = record { fuel = N + 1; most = omega arith; enough = omega arith; end = refl; reads = omega arith }
+  on-start = record { fuel = N + 1; most = omega arith; few = omega arith; enough = omega arith; end = refl; reads = omega arith }
 
   -- where it stops, it ends
   pub on-stop : (s r : ℕ) → OnWay solid N go s r → stop solid N s ≡ true → (s ≡ ends solid N go (N + 1) 0) × (r + 1 ≡ visits solid N go (N + 1) 0)
@@ -52,6 +53,7 @@ module _ (solid : ℕ → Bool) (N : ℕ) (go : ℕ → ℕ) where
           record {
             fuel = fuel;
             most = rises .most s lt;
+            few = omega (arith, w .few, rises .up s lt);
             enough = omega (arith, rises .up s lt);
             end = sym (ends-by fuel s h) ∙ e;
             reads = omega (arith, visits-by fuel s h);

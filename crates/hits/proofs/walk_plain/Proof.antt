@@ -1,124 +1,69 @@
--- `hits::walk_plain` meets its contract. The invariant: s is the spot of place number m, and no place before it was solid; a turn crosses the next
--- face. The measure is how many crossings are left. Assumes nothing.
-use mathlib.Core.Path.{_≡_, refl, sym, ap, _∙_, subst}
-use Prim.Native.Nat.{ℕ, suc, _+_, _-_, _≤_, _<_}
-use native.Mathlib.Omega.{arith, both-ways}
-use lib.ListN.{length}
+-- `hits::walk_plain` meets its contract: every face of the route is crossed, or the walk stopped before. Assumes nothing.
+use mathlib.Core.Path.{_≡_, sym, ap}
+use Prim.Native.Nat.{ℕ, suc, _+_, _≤_}
+use native.Mathlib.Omega.{arith}
 use borrow.Author.Needs.{needs}
-use Rattle.lines.specs.Steps.{total}
-use Rattle.lines.specs.Lines.{differences}
-use Rattle.grids.specs.Grid.{solid}
-use Rattle.walks.proofs.Runs.{by-one}
-use Rattle.walks.proofs.Numbers.{last-number, solid-at}
-use Rattle.hits.proofs.Spots.{spot-byte, can-cross, place-within}
-use Rattle.hits.proofs.Walking.{Walking, walk-starts, walk-test, at-hit, at-end, face-turn}
+use Rattle.lines.specs.Steps.{X, Y, Z, total}
+use Rattle.walks.proofs.Numbers.{last-number}
+use Rattle.hits.specs.Found.{Outcome, Walking}
+use Rattle.hits.proofs.Spots.{short-at}
+use Rattle.hits.proofs.Walking.{at-end}
+use Rattle.hits.proofs.Turns.{outcome-stopped, outcome-walking, all-faces}
 use Rattle.hits.proofs.walk_plain.Statement.{statement}
 use Rattle.hits.proofs.walk_plain.Tie as tie
 
-abbrev Inv-loop : tie.InvT-loop
-Inv-loop cells k last s₀ m₀ s m = Walking cells k suc m m s
+-- how many faces there are
+faces : (c : tie.Start) → let k = c .args .k in k .d .a + k .d .b + k .d .c ≡ last-number (k .p) (k .q)
+faces c = ap total (c .pre .0 .is)
 
-abbrev μ-loop : tie.MeasureT-loop
-μ-loop cells k last s₀ m₀ s m = last - m
+add-walk-faces : tie.Need-add-walk-faces
+add-walk-faces c = search needs
 
-add-last : tie.Need-add-last Inv-loop μ-loop
-add-last c = search needs
+add-walk-faces-2 : tie.Need-add-walk-faces-2
+add-walk-faces-2 c = search needs
 
-add-last-2 : tie.Need-add-last-2 Inv-loop μ-loop
-add-last-2 c = search needs
+walk-faces-requires : tie.Need-walk-faces-requires
+walk-faces-requires c κs =
+    let s = c .before .before .before .before in
+    (s .pre .0, record { next = suc; from = 0; crossing = all-faces _ (s .args .k) (s .pre .0) (s .args .cells .now) (s .args .start) _ (s .pre .1) (faces s) })
 
-loop-holds : tie.Need-loop-holds Inv-loop μ-loop
-loop-holds c = let s = c .before .before .before .before in walk-starts _ (s .args .k) (s .pre .0) (s .args .cells .now) suc _ (s .pre .1)
-
--- how many crossings there are
-crossings : (c : tie.Start Inv-loop μ-loop) → let k = c .args .k in last-number (k .p) (k .q) ≡ k .d .a + k .d .b + k .d .c
-crossings c = sym (ap total (c .pre .0 .is))
-
-byte-at-requires : tie.Need-byte-at-requires Inv-loop μ-loop
-byte-at-requires c κs =
-    let l = c .before in
-    let s = l .before .before .before .before .before in
-    spot-byte _ _ (s .pre .0) _ _ (place-within _ _ (s .pre .0) (l .loop .m) (l .loop .inv .on .most)) (l .loop .inv .spot)
-
-is-solid-requires : tie.Need-is-solid-requires Inv-loop μ-loop
-is-solid-requires c κs = search needs
-
--- what the test of the byte says of place number m
-tested : (c : tie.After-is-solid Inv-loop μ-loop) →
-    let l = c .before .before .before in
-    let s = l .before .before .before .before .before in
+-- what the faces came to
+came : (c : tie.After-walk-faces) →
+    let s = c .before .before .before .before .before in
     let k = s .args .k in
-    solid-at (k .n) (s .args .cells .now) (k .p) (k .q) (l .loop .m) ≡ c .is-solid .result
-tested c =
-    let l = c .before .before .before in
-    let s = l .before .before .before .before .before in
-    walk-test _ (s .args .k) (s .pre .0) (s .args .cells .now) suc (l .loop .m) _ (l .loop .inv .spot) (sym (c .is-solid .ensures ∙ ap solid (c .before .byte-at .ensures)))
+    let r = c .walk-faces .result in
+    Outcome (s .args .cells .now) k suc (0 + (k .d .a + k .d .b + k .d .c)) (r .hit) (r .spot) (r .reads)
+came c =
+    let s = c .before .before .before .before .before in
+    c .walk-faces .ensures .leads suc 0 (all-faces _ (s .args .k) (s .pre .0) (s .args .cells .now) (s .args .start) _ (s .pre .1) (faces s))
 
-add-t12 : tie.Need-add-t12 Inv-loop μ-loop
-add-t12 c = search needs
-
-returns : tie.Need-returns Inv-loop μ-loop
+returns : tie.Need-returns
 returns c =
-    let l = c .before .before .before .before in
-    let s = l .before .before .before .before .before in
-    at-hit _ (s .args .k) (s .pre .0) (s .args .cells .now) suc (l .loop .m) _ _ (l .loop .inv) (tested (c .before) ∙ c .if1 .taken)
+    let s = c .before .before .before .before .before .before .before in
+    outcome-stopped (s .args .cells .now) (s .args .k) suc _ _ _ _ (came (c .before .before)) (c .if1 .taken)
 
-next-face-requires : tie.Need-next-face-requires Inv-loop μ-loop
-next-face-requires c κs = search needs
-
-crossed-requires : tie.Need-crossed-requires Inv-loop μ-loop
-crossed-requires c κs =
-    let l = c .before .before .before .before .before in
-    let s = l .before .before .before .before .before in
-    can-cross _ _ (s .pre .0) _ _ (place-within _ _ (s .pre .0) (l .loop .m) (l .loop .inv .on .most)) (l .loop .inv .spot)
-
-add-m : tie.Need-add-m Inv-loop μ-loop
-add-m c = search needs
-
-loop-less : tie.Need-loop-less Inv-loop μ-loop
-loop-less c = search needs
-
-loop-again : tie.Need-loop-again Inv-loop μ-loop
-loop-again c =
-    let l = c .before .before .before .before .before .before in
-    let s = l .before .before .before .before .before in
+-- not stopped, it is at the last place
+walking : (c : tie.Else1) →
+    let s = c .before .before .before .before .before .before .before in
     let k = s .args .k in
-    subst (Walking (s .args .cells .now) k suc (l .loop .m + 1) (l .loop .m + 1)) (sym (c .crossed .ensures))
-    (face-turn _ k (s .pre .0) (s .args .cells .now) suc (by-one (last-number (k .p) (k .q))) (l .loop .m) (l .loop .m) _ _ (l .loop .inv)
-    (tested (c .before .before .before) ∙ c .before .before .if1 .left)
-    (omega (arith, crossings s, c .before .before .before .before .before .loop-test .taken)) refl (c .before .next-face .ensures))
+    let r = c .before .before .walk-faces .result in
+    Walking (s .args .cells .now) k suc (0 + (k .d .a + k .d .b + k .d .c)) (r .reads) (r .spot)
+walking c =
+    let s = c .before .before .before .before .before .before .before in
+    outcome-walking (s .args .cells .now) (s .args .k) suc _ _ _ _ (came (c .before .before)) (c .if1 .left)
 
-add-t8 : tie.Need-add-t8 Inv-loop μ-loop
-add-t8 c =
-    let l = c .before in
-    let s = l .before .before .before .before .before in
-    let h = s .pre .0 .short in
-    record { fits = omega (arith, crossings s, l .loop .inv .on .most, h .a, h .b, h .c) }
+add-t7 : tie.Need-add-t7
+add-t7 c =
+    let s = c .before .before .before .before .before .before .before .before in
+    let w = walking (c .before) in
+    record { fits = omega (arith, w .on .few, w .on .most, short-at _ (s .args .k) (s .pre .0) X, short-at _ (s .args .k) (s .pre .0) Y, short-at _ (s .args .k) (s .pre .0) Z) }
 
-returns-2 : tie.Need-returns-2 Inv-loop μ-loop
+returns-2 : tie.Need-returns-2
 returns-2 c =
-    let l = c .before in
-    let s = l .before .before .before .before .before in
-    at-end _ (s .args .k) (s .pre .0) (s .args .cells .now) suc (l .loop .m) _ _ (l .loop .inv)
-    (both-ways _ _ (l .loop .inv .on .most) (omega (arith, crossings s, c .loop-test .left)))
+    let s = c .before .before .before .before .before .before .before .before in
+    at-end _ (s .args .k) (s .pre .0) (s .args .cells .now) suc _ _ _ (walking (c .before)) (omega (arith, faces s))
 
 pub walk-plain-spec : {M : Type 1} → statement M
 walk-plain-spec =
     tie.close
-    (tie.spec
-    Inv-loop
-    μ-loop
-    add-last
-    add-last-2
-    loop-holds
-    byte-at-requires
-    is-solid-requires
-    add-t12
-    returns
-    next-face-requires
-    crossed-requires
-    add-m
-    loop-less
-    loop-again
-    add-t8
-    returns-2)
+    (tie.spec add-walk-faces add-walk-faces-2 walk-faces-requires returns add-t7 returns-2)
