@@ -1,22 +1,21 @@
 -- The place of a hit: of the crossings last made, the one that is last in the order is that by which the 6-line entered the cell. Assumes nothing.
-use mathlib.Core.Path.{_≡_, refl, sym, ap, ap₂, _∙_, subst}
+use mathlib.Core.Path.{_≡_, refl, ap, _∙_}
 use mathlib.Core.Bool.{Bool, true, false, cond, _&&_}
 use Prim.Native.Nat.{ℕ, zero, suc, _+_, _-_, _*_, _≤_, _<_}
 use native.Mathlib.Omega.{arith}
 use native.Mathlib.Decide.{decLt}
-use lib.Dec.{ltb, leb, eqb}
-use borrow.Author.Tests.{ltb-true, leb-true, leb-false, lt-ltb, le-ltb, le-leb, eq-eqb, ne-eqb}
+use lib.Dec.{ltb, leb}
+use borrow.Author.Tests.{ltb-true, leb-true, lt-ltb, le-leb, eq-eqb, ne-eqb}
 use Rattle.cells.specs.declared.Cell.{Cell}
 use Rattle.cells.proofs.Touching.{and-both}
 use Rattle.lines.specs.Steps.{Axis, X, Y, Z, Steps, total, same}
 use Rattle.lines.specs.Preference.{rule-1}
 use Rattle.lines.specs.Crossings.{Course, next, place, LastMade}
 use Rattle.lines.specs.Lines.{differences, centres}
-use Rattle.lines.proofs.Fractions.{Before, before-true, place-start, place-total, entered-by-last}
+use Rattle.lines.proofs.Fractions.{Before, before-true, place-total, entered-by-last}
 use Rattle.lines.proofs.Centres.{centres-good}
 use Rattle.walks.specs.Answers.{entered-at}
-use Rattle.walks.specs.declared.Place.{Place}
-use Rattle.hits.specs.Entered.{numerator, behind, x-is-last, last-axis, place-along, entered}
+use Rattle.hits.specs.Entered.{numerator, behind, last-axis, place-along, entered}
 
 -- the upper number of crossing i, counted from 0
 numerator-suc : (i : ℕ) → numerator (suc i) ≡ 1 + 2 * i

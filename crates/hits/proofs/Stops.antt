@@ -1,40 +1,35 @@
 -- Where a walk stopped tells its answer. Assumes nothing.
-use mathlib.Core.Path.{_≡_, refl, sym, ap, ap₂, _∙_, subst}
-use mathlib.Core.Bool.{Bool, cond}
+use mathlib.Core.Path.{_≡_, sym, ap, ap₂, _∙_}
+use mathlib.Core.Bool.{cond}
 use mathlib.Core.List.{List}
-use Prim.Native.Nat.{ℕ, _+_, _-_, _≤_, _<_}
+use Prim.Native.Nat.{ℕ, _+_, _-_, _≤_}
 use native.Mathlib.Omega.{arith}
 use lib.IntN.{pos, natAbs}
-use lib.ListN.{length}
 use Rattle.cells.specs.declared.Cell.{Cell}
 use Rattle.cells.specs.declared.Counts.{Counts}
 use Rattle.cells.specs.Touching.{on, apart}
-use Rattle.lines.specs.Steps.{Axis, X, Y, Z, Steps, total}
+use Rattle.lines.specs.Steps.{X, Y, Z, Steps, total}
 use Rattle.lines.specs.Preference.{rule-1}
 use Rattle.lines.specs.Crossings.{place}
 use Rattle.lines.specs.Lines.{differences, cell-of, six-cell}
-use Rattle.lines.specs.Towards.{towards}
 use Rattle.lines.proofs.Cells.{six-is, cell-on}
 use Rattle.lines.proofs.Towards.{towards-start, towards-apart}
 use Rattle.tripod.specs.Tripod.{steps}
 use Rattle.grids.specs.Grid.{cell-at, byte-of, solid, index}
 use Rattle.grids.proofs.Places.{cell-at-index}
-use Rattle.walks.specs.declared.FirstHit.{FirstHit}
 use Rattle.walks.specs.declared.FirstHit.the-variants.{Clear, Hit as Blocked}
-use Rattle.walks.specs.declared.Place.{Place}
 use Rattle.walks.specs.Answers.{entered-at}
 use Rattle.walks.specs.Safe.{InGrid}
 use Rattle.walks.proofs.Inside.{six-inside}
 use Rattle.walks.proofs.Story.{answer-at}
-use Rattle.hits.specs.declared.Route.{Route}
+use Rattle.routes.specs.declared.Route.{Route}
 use Rattle.hits.specs.declared.Stop.{Stop}
-use Rattle.hits.specs.Route.{byte-index, Planned, course, SpotAt, byte-of-spot, Stopped}
+use Rattle.hits.specs.Found.{Stopped}
+use Rattle.routes.specs.Route.{byte-index, Planned, course, byte-of-spot}
 use Rattle.hits.specs.Entered.{entered, answer-from}
-use Rattle.hits.proofs.Held.{inside-nat}
-use Rattle.hits.proofs.Spots.{inside-below, counts-most, byte-is}
+use Rattle.routes.proofs.Held.{inside-nat}
+use Rattle.routes.proofs.Spots.{inside-below, byte-is}
 use Rattle.hits.proofs.Entering.{entered-is}
-use native.Mathlib.Nat.{add-zero}
-use lib.Signed.{leZ}
 use mathlib.Core.Path.{fun-ext}
 
 -- the cell of a cell's byte is the cell

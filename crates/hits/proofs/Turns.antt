@@ -6,26 +6,25 @@ use mathlib.Core.List.{List}
 use Prim.Native.Nat.{ℕ, suc, _+_, _≤_, _<_}
 use native.Mathlib.Omega.{arith}
 use native.Mathlib.Nat.{eq-or-lt-of-le}
-use lib.Dec.{eqb}
 use borrow.Author.Tests.{eq-eqb, ne-eqb}
-use Rattle.lines.specs.Steps.{Axis, X, Y, Z, Steps, at, total}
+use Rattle.lines.specs.Steps.{X, Y, Z, Steps, at, total}
 use Rattle.lines.specs.Preference.{rule-1}
-use Rattle.lines.specs.Lines.{differences, longest, six-cell, place-26}
+use Rattle.lines.specs.Lines.{differences, longest, six-cell}
 use Rattle.lines.proofs.Centres.{within-26, grows-26, moved-start, moved-end, longest-most}
 use Rattle.tripod.specs.declared.Moves.{Moves}
-use Rattle.tripod.specs.Tripod.{steps, LongMoves, moves-on}
+use Rattle.tripod.specs.Tripod.{LongMoves, moves-on}
 use Rattle.grids.specs.Grid.{byte-of, solid, clear}
 use Rattle.walks.proofs.Runs.{by-one}
 use Rattle.walks.proofs.Progress.{OnWay}
 use Rattle.walks.proofs.Numbers.{number-26, go-rises}
 use Rattle.walks.proofs.Long.{go-long, go-face, go-between}
-use Rattle.hits.specs.declared.Route.{Route}
-use Rattle.hits.specs.declared.Spot.{Spot}
+use Rattle.routes.specs.declared.Route.{Route}
+use Rattle.routes.specs.declared.Spot.{Spot}
 use Rattle.hits.specs.declared.Turn.{Turn}
-use Rattle.hits.specs.Route.{Planned, SpotAt, byte-of-spot, leapt-spot, CanLeap}
-use Rattle.hits.specs.Found.{last, hits, adaptively, Walking, Stops, Outcome, Crossing, CanWalk, Walked, At26, Turned}
+use Rattle.routes.specs.Route.{Planned, SpotAt, byte-of-spot, leapt-spot, CanLeap}
+use Rattle.hits.specs.Found.{last, hits, adaptively, Walking, Stops, Outcome, Crossing, Walked, At26}
 use Rattle.hits.proofs.Walking.{walk-starts, walk-byte, walk-test, goes-on}
-use Rattle.hits.proofs.Leaps.{can-leap, faces-between, leap-26}
+use Rattle.routes.proofs.Leaps.{can-leap, faces-between, leap-26}
 
 -- ---- what a turn came to
 

@@ -1,30 +1,27 @@
 -- A walk as its loop follows it: the spot of place number m, with so many reads behind it. Assumes nothing.
 use mathlib.Core.Path.{_≡_, refl, sym, ap, ap₂, _∙_, subst, fun-ext}
-use mathlib.Core.Bool.{Bool, true, false, cond, _||_}
+use mathlib.Core.Bool.{Bool, true, false, _||_}
 use mathlib.Core.List.{List}
 use Prim.Native.Nat.{ℕ, suc, _+_, _≤_, _<_}
 use native.Mathlib.Omega.{arith}
 use native.Mathlib.Numerals.{add-one}
 use lib.Dec.{eqb}
 use borrow.Author.Tests.{eq-eqb, ne-eqb}
-use Rattle.lines.specs.Steps.{Axis, X, Y, Z, Steps, at, total}
+use Rattle.lines.specs.Steps.{Axis, X, Y, Z, at}
 use Rattle.lines.specs.Preference.{rule-1}
 use Rattle.lines.specs.Crossings.{place}
-use Rattle.lines.specs.Lines.{differences, cell-of, six-cell}
+use Rattle.lines.specs.Lines.{six-cell}
 use Rattle.lines.proofs.Cells.{six-is}
 use Rattle.lines.proofs.Fractions.{place-start}
 use Rattle.tripod.specs.Tripod.{NextFace}
 use Rattle.grids.specs.Grid.{byte-of, solid}
-use Rattle.walks.proofs.Runs.{stop, ends, visits, by-one, Rises}
+use Rattle.walks.proofs.Runs.{Rises}
 use Rattle.walks.proofs.Progress.{OnWay, on-start, on-stop, on-turn}
-use Rattle.walks.proofs.Numbers.{last-number, solid-at}
-use Rattle.hits.specs.declared.Route.{Route}
-use Rattle.hits.specs.declared.Spot.{Spot}
-use Rattle.hits.specs.declared.Stop.{Stop}
-use Rattle.hits.specs.declared.Turn.{Turn}
-use Rattle.hits.specs.Route.{Planned, course, SpotAt, byte-of-spot, crossed-spot, Stopped}
-use Rattle.hits.specs.Found.{last, hits, Walking, Stops, Outcome, Crossing, CanWalk, Walked}
-use Rattle.hits.proofs.Spots.{byte-is, six-turn}
+use Rattle.routes.specs.declared.Route.{Route}
+use Rattle.routes.specs.declared.Spot.{Spot}
+use Rattle.routes.specs.Route.{Planned, course, SpotAt, byte-of-spot, crossed-spot}
+use Rattle.hits.specs.Found.{last, hits, Walking, Stops, Crossing, Walked}
+use Rattle.routes.proofs.Spots.{byte-is, six-turn}
 
 module _ (bytes : ℕ) (k : Route) (plan : Planned bytes k) (l : List ℕ) (go : ℕ → ℕ) where
   abbrev N : ℕ

@@ -4,7 +4,6 @@ use mathlib.Core.Bool.{Bool, cond, _&&_}
 use mathlib.Core.List.{List}
 use lib.Dec.{ltb, leb, eqb}
 use lib.IntN.{natAbs}
-use lib.ListN.{getD}
 use Rattle.cells.specs.declared.Cell.{Cell}
 use Rattle.lines.specs.Steps.{Axis, X, Y, Z, Steps, total}
 use Rattle.lines.specs.Lines.{differences}
@@ -13,9 +12,9 @@ use Rattle.grids.specs.Grid.{cell-at, solid}
 use Rattle.walks.specs.declared.Place.{Place}
 use Rattle.walks.specs.declared.FirstHit.{FirstHit}
 use Rattle.walks.specs.declared.FirstHit.the-variants.{Clear, Hit as Blocked}
-use Rattle.hits.specs.declared.Route.{Route}
+use Rattle.routes.specs.declared.Route.{Route}
 use Rattle.hits.specs.declared.Stop.{Stop}
-use Rattle.hits.specs.Route.{byte-of-spot}
+use Rattle.routes.specs.Route.{byte-of-spot}
 
 -- the upper number of the crossing last made, "2i-1"; 0 where there is none
 abbrev pub numerator : ℕ → ℕ

@@ -10,11 +10,16 @@ use Rattle.walks.proofs.Runs.{ends, visits, Rises}
 use Rattle.walks.proofs.Progress.{OnWay}
 use Rattle.walks.proofs.Numbers.{last-number, number-26, solid-at, go}
 use Rattle.walks.proofs.Story.{answer-at}
-use Rattle.hits.specs.declared.Route.{Route}
-use Rattle.hits.specs.declared.Spot.{Spot}
+use Rattle.routes.specs.declared.Route.{Route}
+use Rattle.routes.specs.declared.Spot.{Spot}
 use Rattle.hits.specs.declared.Turn.{Turn}
 use Rattle.hits.specs.declared.Stop.{Stop}
-use Rattle.hits.specs.Route.{course, SpotAt, Stopped}
+use Rattle.routes.specs.Route.{course, SpotAt}
+
+-- a walk that ends at place number e after so many reads
+pub record Stopped (k : Route) (e many : ℕ) (r : Stop) : Type 0 where
+  pub spot : SpotAt k (place (course k) e) (r .spot)
+  pub reads : r .reads ≡ many
 
 module _ (l : List ℕ) (k : Route) where
   -- the route's last place number, and where the bytes are solid

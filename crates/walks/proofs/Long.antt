@@ -1,19 +1,18 @@
 -- The steps of the adaptive walk by the cells of the 26-line: a long step from one to the next where the byte is 0, else from number to number.
 -- Assumes nothing.
 use mathlib.Core.Path.{_≡_, refl, sym, ap, ap₂, _∙_}
-use mathlib.Core.Logic.{⊎-elim, _≢_}
-use mathlib.Core.Bool.{Bool, true, false, cond}
+use mathlib.Core.Logic.{⊎-elim}
+use mathlib.Core.Bool.{true, false, cond}
 use mathlib.Core.List.{List}
-use mathlib.Core.Option.{Option, none, some}
+use mathlib.Core.Option.{some}
 use Prim.Native.Nat.{ℕ, zero, suc, _+_, _≤_, _<_}
 use native.Mathlib.Omega.{arith, both-ways}
 use native.Mathlib.Nat.{eq-or-lt-of-le}
 use native.Mathlib.Numerals.{add-one}
 use Rattle.cells.specs.declared.Cell.{Cell}
 use Rattle.cells.specs.declared.Counts.{Counts}
-use Rattle.lines.specs.Steps.{Axis, X, Y, Z, Steps, total}
 use Rattle.lines.specs.Preference.{rule-1}
-use Rattle.lines.specs.Lines.{differences, longest, six-cell, cell-26, place-26}
+use Rattle.lines.specs.Lines.{differences, longest, six-cell, cell-26}
 use Rattle.lines.proofs.Steps.{lt-or-ge}
 use Rattle.lines.proofs.Centres.{grows-26}
 use Rattle.lines.proofs.Cells.{six-different, six-at-26}

@@ -1,5 +1,5 @@
 -- `hits::answer_of` meets its contract: clear where the byte is not solid, else a hit with the cell of that byte. Assumes nothing.
-use mathlib.Core.Path.{_≡_, sym, ap, _∙_, subst}
+use mathlib.Core.Path.{_≡_, sym, ap, _∙_}
 use Prim.Native.Nat.{_<_}
 use native.Mathlib.Nat.{lt-of-lt-of-le}
 use native.Mathlib.Omega.{arith}
@@ -12,10 +12,10 @@ use Rattle.lines.specs.Lines.{differences}
 use Rattle.tripod.specs.Tripod.{steps}
 use Rattle.grids.specs.Grid.{solid, cell-at}
 use Rattle.walks.specs.declared.FirstHit.the-variants.{Hit as Blocked}
-use Rattle.hits.specs.Route.{byte-of-spot}
+use Rattle.routes.specs.Route.{byte-of-spot}
 use Rattle.hits.specs.Entered.{entered, answer-from}
-use Rattle.hits.proofs.Held.{abs-nat, cast-32}
-use Rattle.hits.proofs.Spots.{p-limit, byte-limit}
+use Rattle.routes.proofs.Held.{abs-nat, cast-32}
+use Rattle.routes.proofs.Spots.{p-limit, byte-limit}
 use Rattle.hits.proofs.answer_of.Statement.{statement}
 use Rattle.hits.proofs.answer_of.Tie as tie
 

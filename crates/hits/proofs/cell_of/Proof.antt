@@ -1,11 +1,7 @@
 -- `hits::cell_of` meets its contract: a place below 2^30 has small quotients and rests. Assumes nothing.
-use mathlib.Core.Path.{_≡_, _∙_, sym}
-use Prim.Native.Nat.{ℕ, _*_, _/_, _%_, _^_, _≤_, _<_}
-use native.Mathlib.Nat.{mul-le-mul, mod-lt, div-le-self, lt-of-le-of-lt}
+use Prim.Native.Nat.{_*_, _/_, _%_, _^_, _≤_, _<_}
+use native.Mathlib.Nat.{mul-le-mul, mod-lt, div-le-self}
 use native.Mathlib.Omega.{arith}
-use lib.IntN.{pos}
-use mir.Syntax.{w32}
-use mir.Val.{toZ}
 use borrow.Author.Needs.{needs}
 use Rattle.cells.proofs.Machine.{nat-fits, nat-held}
 use Rattle.hits.proofs.cell_of.Statement.{statement}

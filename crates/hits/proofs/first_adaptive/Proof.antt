@@ -1,12 +1,12 @@
 -- `hits::first_adaptive` meets its contract: a refusal is the verdict's, and an accepted walk answers by its end. Assumes nothing.
-use mathlib.Core.Path.{_≡_, sym, ap, _∙_}
+use mathlib.Core.Path.{_≡_, sym, _∙_}
 use lib.ListN.{length}
 use borrow.Author.Needs.{needs}
 use Rattle.cells.specs.declared.Verdict.the-variants.{Fine}
 use Rattle.walks.specs.Answers.{walk-check}
 use Rattle.walks.proofs.Numbers.{adaptive-end, adaptive-reads}
 use Rattle.walks.proofs.Story.{answer-at, adaptive-answer}
-use Rattle.hits.proofs.Accepting.{ends-enclosed, route-planned, of-route, answer-fine, answer-refused}
+use Rattle.routes.proofs.Accepting.{ends-enclosed, route-planned, of-route, answer-fine, answer-refused}
 use Rattle.hits.proofs.first_adaptive.Statement.{statement}
 use Rattle.hits.proofs.first_adaptive.Tie as tie
 

@@ -3,7 +3,6 @@ use mathlib.Core.Path.{_≡_, sym, ap₂, _∙_}
 use mathlib.Core.Bool.{_&&_}
 use borrow.Author.Needs.{needs}
 use Rattle.tripod.specs.Tripod.{steps}
-use Rattle.lines.specs.Steps.{Y, Z}
 use Rattle.hits.specs.Entered.{numerator, behind, x-is-last}
 use Rattle.hits.proofs.last_made.Statement.{statement}
 use Rattle.hits.proofs.last_made.Tie as tie

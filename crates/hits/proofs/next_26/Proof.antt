@@ -1,14 +1,14 @@
 -- `hits::next_26` meets its contract: a long step where the byte is 0, else as many faces as the long step would cross. Assumes nothing.
-use mathlib.Core.Path.{_≡_, sym, ap, _∙_, subst}
-use Prim.Native.Nat.{ℕ, _+_, _≤_}
+use mathlib.Core.Path.{_≡_, sym, _∙_, subst}
+use Prim.Native.Nat.{_+_}
 use native.Mathlib.Omega.{arith}
 use borrow.Author.Needs.{needs}
-use Rattle.lines.specs.Steps.{X, Y, Z, total}
+use Rattle.lines.specs.Steps.{X, Y, Z}
 use Rattle.lines.specs.Lines.{differences}
-use Rattle.tripod.specs.Tripod.{LongMoves, moves-on}
-use Rattle.hits.specs.Route.{byte-of-spot, leapt-spot}
+use Rattle.tripod.specs.Tripod.{LongMoves}
+use Rattle.routes.specs.Route.{byte-of-spot}
 use Rattle.hits.specs.Found.{Walking, Walked, CanWalk, adaptively}
-use Rattle.hits.proofs.Spots.{spot-byte, can-cross, place-within, short-at}
+use Rattle.routes.proofs.Spots.{spot-byte, can-cross, place-within, short-at}
 use Rattle.hits.proofs.Turns.{may-leap, long-step, near-faces, near-turn}
 use Rattle.hits.proofs.next_26.Statement.{statement}
 use Rattle.hits.proofs.next_26.Tie as tie

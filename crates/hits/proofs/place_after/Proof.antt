@@ -1,5 +1,5 @@
 -- `hits::place_after` meets its contract: with no step made the cell is P, else the last crossing made is that of the axis found. Assumes nothing.
-use mathlib.Core.Path.{_≡_, ap, _∙_}
+use mathlib.Core.Path.{ap, _∙_}
 use Prim.Native.Nat.{_*_}
 use native.Mathlib.Omega.{arith}
 use borrow.Author.Needs.{needs}

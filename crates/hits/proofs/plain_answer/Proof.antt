@@ -2,7 +2,7 @@
 use mathlib.Core.Path.{_∙_}
 use borrow.Author.Needs.{needs}
 use Rattle.walks.proofs.Story.{plain-below}
-use Rattle.hits.proofs.Spots.{spot-byte, place-within}
+use Rattle.routes.proofs.Spots.{spot-byte, place-within}
 use Rattle.hits.proofs.Stops.{stop-answers}
 use Rattle.hits.proofs.plain_answer.Statement.{statement}
 use Rattle.hits.proofs.plain_answer.Tie as tie

@@ -1,15 +1,14 @@
 -- `hits::walk_faces` meets its contract. The invariant: s is j faces further on, and no cell before it was solid; a turn crosses the next face.
 -- The measure is how many faces are left. Assumes nothing.
-use mathlib.Core.Path.{_≡_, refl, sym, ap, _∙_, subst}
-use Prim.Native.Nat.{ℕ, suc, _+_, _-_, _≤_, _<_}
+use mathlib.Core.Path.{_≡_, sym, ap, _∙_, subst}
+use Prim.Native.Nat.{_+_, _-_, _≤_}
 use native.Mathlib.Omega.{arith}
-use lib.ListN.{length}
 use borrow.Author.Needs.{needs}
-use Rattle.lines.specs.Steps.{X, Y, Z, total}
+use Rattle.lines.specs.Steps.{X, Y, Z}
 use Rattle.grids.specs.Grid.{solid}
-use Rattle.hits.specs.Route.{byte-of-spot}
-use Rattle.hits.specs.Found.{last, Walking}
-use Rattle.hits.proofs.Spots.{spot-byte, can-cross, place-within, short-at}
+use Rattle.routes.specs.Route.{byte-of-spot}
+use Rattle.hits.specs.Found.{Walking}
+use Rattle.routes.proofs.Spots.{spot-byte, can-cross, place-within, short-at}
 use Rattle.hits.proofs.Walking.{Following, no-face, one-face, hit-face, last-face}
 use Rattle.hits.proofs.walk_faces.Statement.{statement}
 use Rattle.hits.proofs.walk_faces.Tie as tie

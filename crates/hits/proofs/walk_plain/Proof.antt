@@ -1,12 +1,12 @@
 -- `hits::walk_plain` meets its contract: every face of the route is crossed, or the walk stopped before. Assumes nothing.
-use mathlib.Core.Path.{_≡_, sym, ap}
-use Prim.Native.Nat.{ℕ, suc, _+_, _≤_}
+use mathlib.Core.Path.{_≡_, ap}
+use Prim.Native.Nat.{suc, _+_}
 use native.Mathlib.Omega.{arith}
 use borrow.Author.Needs.{needs}
 use Rattle.lines.specs.Steps.{X, Y, Z, total}
 use Rattle.walks.proofs.Numbers.{last-number}
 use Rattle.hits.specs.Found.{Outcome, Walking}
-use Rattle.hits.proofs.Spots.{short-at}
+use Rattle.routes.proofs.Spots.{short-at}
 use Rattle.hits.proofs.Walking.{at-end}
 use Rattle.hits.proofs.Turns.{outcome-stopped, outcome-walking, all-faces}
 use Rattle.hits.proofs.walk_plain.Statement.{statement}

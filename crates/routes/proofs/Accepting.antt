@@ -1,0 +1,49 @@
+-- A call that passed its tests has a route between two cells of the grid; what was found along it is the call's answer. Assumes nothing.
+use mathlib.Core.Path.{_≡_, sym, ap, ap₂, _∙_, subst}
+use Prim.Native.Nat.{ℕ}
+use Rattle.cells.specs.declared.Cell.{Cell}
+use Rattle.cells.specs.declared.Counts.{Counts}
+use Rattle.cells.specs.declared.Refusal.{Refusal}
+use Rattle.cells.specs.declared.Verdict.{Verdict}
+use Rattle.cells.specs.declared.Verdict.the-variants.{Fine, Refused}
+use Rattle.lines.specs.Lines.{differences}
+use Rattle.lines.specs.Decisions.{doubled}
+use Rattle.grids.proofs.Shapes.{Shaped, shaped}
+use Rattle.walks.specs.declared.FirstHit.{FirstHit}
+use Rattle.walks.specs.declared.FirstHit.the-variants.{Refused as NotWalked}
+use Rattle.walks.specs.Answers.{walk-check, answer-by}
+use Rattle.walks.specs.Safe.{InGrid}
+use Rattle.walks.proofs.Inside.{accepted}
+use Rattle.routes.specs.declared.Route.{Route}
+use Rattle.routes.specs.Route.{strides, Enclosed, RouteOf, Planned}
+
+module _ (n : Counts) (bytes : ℕ) (p q : Cell) (fine : walk-check n bytes p q ≡ Fine) where
+  has-shape : Shaped n bytes
+  has-shape = shaped n bytes (accepted n bytes p q fine .shaped)
+
+  pub ends-enclosed : Enclosed n p × Enclosed n q
+  ends-enclosed =
+      (record { bytes = bytes; shaped = has-shape; inside = accepted n bytes p q fine .p-in }, record { bytes = bytes; shaped = has-shape; inside = accepted n bytes p q fine .q-in })
+
+  pub route-planned : (k : Route) → RouteOf n p q k → Planned bytes k
+  route-planned k r =
+      record {
+        shaped = subst (λ m. Shaped m bytes) (sym (r .grid)) has-shape;
+        p-in = subst (λ m. InGrid m (k .p)) (sym (r .grid)) (subst (InGrid n) (sym (r .start)) (accepted n bytes p q fine .p-in));
+        q-in = subst (λ m. InGrid m (k .q)) (sym (r .grid)) (subst (InGrid n) (sym (r .end)) (accepted n bytes p q fine .q-in));
+        is = r .is ∙ ap₂ differences (sym (r .start)) (sym (r .end));
+        short = r .short;
+        moves = r .moves ∙ ap (λ m. strides m p q) (sym (r .grid)) ∙ ap₂ (strides (k .n)) (sym (r .start)) (sym (r .end));
+        twice = r .twice ∙ ap₂ (λ a b. doubled (differences a b)) (sym (r .start)) (sym (r .end));
+      }
+
+-- what is said of a route's grid and ends is said of those of the call
+pub of-route : {A : Type 0} (n : Counts) (p q : Cell) (k : Route) → RouteOf n p q k → (f : Counts → Cell → Cell → A) → f (k .n) (k .p) (k .q) ≡ f n p q
+of-route n p q k r f = ap (λ m. f m (k .p) (k .q)) (r .grid) ∙ ap₂ (f n) (r .start) (r .end)
+
+-- the answer, by the verdict
+pub answer-fine : {v : Verdict} (a : FirstHit) → v ≡ Fine → a ≡ answer-by v a
+answer-fine a e = ap (λ v. answer-by v a) (sym e)
+
+pub answer-refused : {v : Verdict} (r : Refusal) (a : FirstHit) → v ≡ Refused r → NotWalked r ≡ answer-by v a
+answer-refused r a e = ap (λ v. answer-by v a) (sym e)

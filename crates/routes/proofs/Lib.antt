@@ -1,0 +1,4 @@
+pub mod Held
+pub mod Spots
+pub mod Leaps
+pub mod Accepting

@@ -1,0 +1,45 @@
+-- `routes::first_spot` meets its contract: the place of P's byte is below 2^30, and with no step taken the values are the first. Assumes nothing.
+use mathlib.Core.Path.{_≡_, refl, sym, ap, _∙_}
+use Prim.Native.Nat.{_^_, _<_}
+use native.Mathlib.Omega.{arith}
+use lib.IntN.{pos}
+use borrow.Author.Needs.{needs}
+use Rattle.cells.proofs.Machine.{nat-fits, nat-held}
+use Rattle.lines.specs.Steps.{Axis, X, Y, Z, at}
+use Rattle.lines.specs.Decisions.{values}
+use Rattle.lines.proofs.Cells.{cell-start}
+use Rattle.routes.specs.Route.{byte-index}
+use Rattle.routes.proofs.Spots.{byte-below}
+use Rattle.routes.proofs.first_spot.Statement.{statement}
+use Rattle.routes.proofs.first_spot.Tie as tie
+
+no-steps : (a : Axis) → at 0 0 0 a ≡ 0
+no-steps X = refl
+no-steps Y = refl
+no-steps Z = refl
+
+below : (c : tie.After-index-of) → c .index-of .result < 2 ^ 31
+below c =
+    let s = c .before .before in
+    let h = s .pre .0 in
+    omega (arith, c .index-of .ensures, byte-below (s .args .k .n) (h .bytes) (h .shaped) (s .args .k .p) (h .inside), h .shaped .bytes-are, h .shaped .size-most)
+
+first-values-requires : tie.Need-first-values-requires
+first-values-requires c κs = search needs
+
+index-of-requires : tie.Need-index-of-requires
+index-of-requires c κs = search needs
+
+cast-index : tie.Need-cast-index
+cast-index c = nat-fits _ (below c)
+
+returns : tie.Need-returns
+returns c =
+    let k = c .before .before .args .k in
+    record {
+      index = nat-held _ (below c) ∙ ap pos (c .index-of .ensures) ∙ ap (λ d. pos (byte-index (k .n) d)) (sym (cell-start (k .p) (k .q) (at 0 0 0) no-steps));
+      value = c .before .first-values .ensures ∙ ap (λ D. values D (at 0 0 0)) (c .before .before .pre .2);
+    }
+
+pub first-spot-spec : {M : Type 1} → statement M
+first-spot-spec = tie.close (tie.spec first-values-requires index-of-requires cast-index returns)

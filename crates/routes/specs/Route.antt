@@ -1,0 +1,114 @@
+-- What the code keeps along a walk, and what its steps ask and promise. Assumes nothing.
+use Prim.Native.Nat.{ℕ, _+_, _*_, _≤_, _<_}
+use mathlib.Core.Path.{_≡_}
+use mathlib.Core.Bool.{Bool, cond}
+use mathlib.Core.List.{List}
+use lib.IntN.{ℤ, pos, natAbs, _+ℤ_, _-ℤ_}
+use lib.Signed.{leZ}
+use lib.ListN.{getD}
+use Rattle.cells.specs.declared.Cell.{Cell}
+use Rattle.cells.specs.declared.Counts.{Counts}
+use Rattle.cells.specs.Small.{Small}
+use Rattle.lines.specs.Steps.{Axis, X, Y, Z, Steps}
+use Rattle.lines.specs.Preference.{rule-1}
+use Rattle.lines.specs.Crossings.{Course}
+use Rattle.lines.specs.Lines.{differences, centres, cell-of}
+use Rattle.lines.specs.Decisions.{values, doubled, moved-values}
+use Rattle.tripod.specs.declared.Moves.{Moves}
+use Rattle.tripod.specs.Tripod.{steps, Short, Calm, Even, moves-on}
+use Rattle.grids.specs.Grid.{index}
+use Rattle.grids.proofs.Shapes.{Shaped}
+use Rattle.walks.specs.Safe.{InGrid}
+use Rattle.routes.specs.declared.Strides.{Strides}
+use Rattle.routes.specs.declared.Route.{Route}
+use Rattle.routes.specs.declared.Spot.{Spot}
+
+-- the place of a cell's byte
+abbrev pub byte-index : Counts → Cell → ℕ
+byte-index n c = index n (natAbs (c .x)) (natAbs (c .y)) (natAbs (c .z))
+
+-- how far that place moves with a cell towards q, on an axis where a cell further on is `width` bytes further on
+abbrev pub stride : ℤ → ℤ → ℕ → ℤ
+stride p q width = cond (leZ p q) (pos width) (pos 0 -ℤ pos width)
+
+abbrev pub strides : Counts → Cell → Cell → Strides
+strides n p q = record { x = stride (p .x) (q .x) 1; y = stride (p .y) (q .y) (n .nx); z = stride (p .z) (q .z) (n .nx * n .ny) }
+
+abbrev pub stride-on : Strides → Axis → ℤ
+stride-on h X = h .x
+stride-on h Y = h .y
+stride-on h Z = h .z
+
+-- a cell of a grid
+pub record Enclosed (n : Counts) (c : Cell) : Type 0 where
+  pub bytes : ℕ
+  pub shaped : Shaped n bytes
+  pub inside : InGrid n c
+
+-- the route from p to q
+pub record RouteOf (n : Counts) (p q : Cell) (k : Route) : Type 0 where
+  pub grid : k .n ≡ n
+  pub start : k .p ≡ p
+  pub end : k .q ≡ q
+  pub is : steps (k .d) ≡ differences p q
+  pub short : Short (k .d)
+  pub moves : k .strides ≡ strides n p q
+  pub twice : k .twice ≡ doubled (differences p q)
+
+-- a route between two cells of a grid of so many bytes
+pub record Planned (bytes : ℕ) (k : Route) : Type 0 where
+  pub shaped : Shaped (k .n) bytes
+  pub p-in : InGrid (k .n) (k .p)
+  pub q-in : InGrid (k .n) (k .q)
+  pub is : steps (k .d) ≡ differences (k .p) (k .q)
+  pub short : Short (k .d)
+  pub moves : k .strides ≡ strides (k .n) (k .p) (k .q)
+  pub twice : k .twice ≡ doubled (differences (k .p) (k .q))
+
+-- the order of its crossings, and how many there are
+abbrev pub course : Route → Course
+course k = centres rule-1 (differences (k .p) (k .q))
+
+-- the spot of a place of the route
+pub record SpotAt (k : Route) (t : Steps) (s : Spot) : Type 0 where
+  pub index : s .at ≡ pos (byte-index (k .n) (cell-of (k .p) (k .q) t))
+  pub value : s .e ≡ values (differences (k .p) (k .q)) t
+
+-- a spot that has a byte
+pub record HasByte (bytes : ℕ) (s : Spot) : Type 0 where
+  pub index : ℕ
+  pub is : s .at ≡ pos index
+  pub below : index < bytes
+  pub few : bytes ≤ 1073741824
+
+-- its byte
+abbrev pub byte-of-spot : List ℕ → Spot → ℕ
+byte-of-spot l s = getD l (natAbs (s .at)) 0
+
+-- the spot across the next face along n
+abbrev pub crossed-spot : Route → Axis → Spot → Spot
+crossed-spot k n s = record { at = s .at +ℤ stride-on (k .strides) n; e = moved-values (k .twice) n (s .e) }
+
+-- what a step asks: every sum fits
+pub record CanCross (s : Spot) (k : Route) : Type 0 where
+  pub at : Small (s .at)
+  pub x : Small (k .strides .x)
+  pub y : Small (k .strides .y)
+  pub z : Small (k .strides .z)
+  pub values : Calm (s .e)
+  pub twice : Even (k .twice)
+
+-- the same where it is asked for, and the spot after a long step
+abbrev pub crossed-where : Bool → Route → Axis → Spot → Spot
+crossed-where go k n s = cond go (crossed-spot k n s) s
+
+abbrev pub leapt-spot : Route → Moves → Spot → Spot
+leapt-spot k m s = crossed-where (m .z) k Z (crossed-where (m .y) k Y (crossed-where (m .x) k X s))
+
+-- what a long step asks: it does not pass Q
+pub record CanLeap (s : Spot) (k : Route) (m : Moves) : Type 0 where
+  pub bytes : ℕ
+  pub plan : Planned bytes k
+  pub t : Steps
+  pub spot : SpotAt k t s
+  pub fits : (a : Axis) → t a + moves-on m a ≤ differences (k .p) (k .q) a
