@@ -51,6 +51,9 @@ typedef struct { u32 refusal, end, axis; i32 px, py, pz, qx, qy, qz; } oat_pair;
 typedef struct { u32 refusal, end, axis; u64 written; } oat_written;
 oat_venue oat_read_venue(const u8 *bytes, size len);
 oat_pair oat_read_pair(const u8 *bytes, size len);
+typedef struct { u32 refusal, end, axis, hit; i32 x, y, z; u32 code, num, den, reads; } oat_hit;
+oat_hit oat_plain(oat_counts n, const u8 *cells, size len, oat_cell p, oat_cell q);
+oat_hit oat_adaptive(oat_counts n, const u8 *cells, size len, oat_cell p, oat_cell q);
 oat_written oat_write_venue(oat_counts n, const u8 *cells, size cells_len, u8 *out, size out_len);
 
 static _Noreturn void fail(const char *what) {
@@ -244,6 +247,26 @@ static void layer(void) {
     say_stray(got.refusal, got.end, got.axis, got.refusal ? got.offset + got.length : 0);
 }
 
+static void first_hit(oat_hit walk(oat_counts, const u8 *, size, oat_cell, oat_cell)) {
+    grid g = lend_grid();
+    oat_cell p = take_cell(), q = take_cell();
+    take_fixed(0);
+    take_fixed(1);
+    only_read(g.cells);
+    oat_hit got = walk(g.n, g.cells.at, g.cells.bytes, p, q);
+    take_back(g.cells);
+    if (got.refusal) say_refused(got.refusal, got.end, got.axis);
+    else if (got.hit == 1) say("hit %d %d %d %u %u %u %u", got.x, got.y, got.z, got.code, got.num, got.den, got.reads);
+    else say(got.hit ? "?" : "clear %u", got.reads);
+    u64 values = got.hit == 1 ? 0 : (u32)(got.x | got.y | got.z) | got.code | got.num | got.den;
+    if (got.refusal) values |= got.hit | got.reads;
+    if (values) say(" stray %lu", values);
+    say_stray(got.refusal, got.end, got.axis, 0);
+}
+
+static void plain(void) { first_hit(oat_plain); }
+static void adapt(void) { first_hit(oat_adaptive); }
+
 static oat_placement take_placement(void) {
     double ox = take_f64(), oy = take_f64(), oz = take_f64(), edge = take_f64();
     return (oat_placement){ox, oy, oz, edge};
@@ -301,6 +324,8 @@ static void wvenue(void) {
 static const struct { const char *name; void (*run)(void); } calls[] = {
     {"six", six},
     {"tw6", tw6},
+    {"plain", plain},
+    {"adapt", adapt},
     {"mark", mark},
     {"complete", complete},
     {"layer", layer},

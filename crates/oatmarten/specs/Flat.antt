@@ -48,6 +48,9 @@ use Rattle.records.specs.declared.PairRead.the-variants.{Read as ReadPair, Refu
 use Rattle.venues.specs.declared.Written.{Written}
 use Rattle.venues.specs.declared.Written.the-variants.{Wrote, Refused as NotWritten}
 use Rattle.venues.specs.Writing.{WritesVenue}
+use Rattle.walks.specs.declared.FirstHit.{FirstHit}
+use Rattle.walks.specs.declared.FirstHit.the-variants.{Clear, Hit as Blocked, Refused as NotWalked}
+use Rattle.oatmarten.specs.declared.OatHit.{OatHit}
 
 -- an end: 1 P, 2 Q
 abbrev pub end-number : End → ℕ
@@ -146,6 +149,42 @@ flat-pair (NoPair r) =
 abbrev pub flat-written : Written → OatWritten
 flat-written (Wrote many) = record { refusal = 0; end = 0; axis = 0; written = many }
 flat-written (NotWritten r) = record { refusal = flat-refusal r .number; end = flat-refusal r .end; axis = flat-refusal r .axis; written = 0 }
+
+-- a walk that hit nothing, or that was not made
+abbrev pub no-hit : ℕ → ℕ → ℕ → ℕ → OatHit
+no-hit number end axis many =
+    record {
+      refusal = number;
+      end = end;
+      axis = axis;
+      hit = 0;
+      x = pos 0;
+      y = pos 0;
+      z = pos 0;
+      code = 0;
+      num = 0;
+      den = 0;
+      reads = many;
+    }
+
+-- a walk: hit 1 where it hit, 0 where it is clear
+abbrev pub flat-hit : FirstHit → OatHit
+flat-hit (Blocked h) =
+    record {
+      refusal = 0;
+      end = 0;
+      axis = 0;
+      hit = 1;
+      x = h .cell .x;
+      y = h .cell .y;
+      z = h .cell .z;
+      code = h .code;
+      num = h .place .num;
+      den = h .place .den;
+      reads = h .reads;
+    }
+flat-hit (Clear many) = no-hit 0 0 0 many
+flat-hit (NotWalked r) = no-hit (flat-refusal r .number) (flat-refusal r .end) (flat-refusal r .axis) 0
 
 -- the placement and the point that C's structs mean
 abbrev pub plain-placement : OatPlacement → Placement

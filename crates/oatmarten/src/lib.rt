@@ -5,9 +5,11 @@ ghost use Rattle.lines.specs.Preference.{rule-1};
 ghost use lib.ListN.{length};
 ghost use Rattle.grids.specs.Grid.{layer-part};
 ghost use Rattle.grids.specs.Marks.{completeness};
+ghost use Rattle.walks.specs.declared.FirstHit.the-variants.{Hit as Blocked};
 ghost use Rattle.sights.specs.Survey.{cell-of};
 ghost use Rattle.records.specs.Records.{venue-read, pair-read};
-ghost use Rattle.oatmarten.specs.Flat.{end-number, axis-number, part-number, flat-refusal, flat-listed, flat-verdict, flat-complete, flat-part, plain, plain-counts, plain-placement, plain-point, flat-found, flat-venue, flat-pair, flat-written, FlatLists, FlatMarks, FlatWritesVenue};
+ghost use Rattle.walks.specs.Answers.{adaptive, plain as plainly};
+ghost use Rattle.oatmarten.specs.Flat.{end-number, axis-number, part-number, flat-refusal, flat-listed, flat-verdict, flat-complete, flat-part, plain, plain-counts, plain-placement, plain-point, flat-found, flat-venue, flat-pair, flat-written, no-hit, flat-hit, FlatLists, FlatMarks, FlatWritesVenue};
 use cells::Axis;
 use cells::Cell;
 use cells::Counts;
@@ -24,6 +26,8 @@ use sights::Lookup;
 use sights::Placement;
 use sights::Point;
 use venues::Written;
+use walks::FirstHit;
+use walks::Hit;
 
 // A cell.
 #[repr(C)]
@@ -140,6 +144,22 @@ pub struct OatWritten {
     pub end: u32,
     pub axis: u32,
     pub written: u64,
+}
+
+// The answer of a first-hit call; hit: 0 clear, 1 a hit at a cell, with its code and its place num over den.
+#[repr(C)]
+pub struct OatHit {
+    pub refusal: u32,
+    pub end: u32,
+    pub axis: u32,
+    pub hit: u32,
+    pub x: i32,
+    pub y: i32,
+    pub z: i32,
+    pub code: u32,
+    pub num: u32,
+    pub den: u32,
+    pub reads: u32,
 }
 
 // A refusal's number, end and axis as numbers.
@@ -576,4 +596,78 @@ pub extern "C" fn oat_write_venue(n: OatCounts, cells: &[u8], out: &mut [u8]) ->
 {
     let grid = counts(n);
     flat_written(venues::write_venue(grid, cells, out))
+}
+
+// A walk that hit nothing, or that was not made.
+fn no_hit(number: u32, end: u32, axis: u32, many: u32) -> OatHit
+    ensures { λ r. ⌜ r ≡ no-hit number end axis many ⌝ }
+{
+    OatHit {
+        refusal: number,
+        end: end,
+        axis: axis,
+        hit: 0,
+        x: 0,
+        y: 0,
+        z: 0,
+        code: 0,
+        num: 0,
+        den: 0,
+        reads: many,
+    }
+}
+
+fn flat_block(h: Hit) -> OatHit
+    ensures { λ r. ⌜ r ≡ flat-hit (Blocked h) ⌝ }
+{
+    let c = h.cell;
+    let place = h.place;
+    OatHit {
+        refusal: 0,
+        end: 0,
+        axis: 0,
+        hit: 1,
+        x: c.x,
+        y: c.y,
+        z: c.z,
+        code: h.code as u32,
+        num: place.num,
+        den: place.den,
+        reads: h.reads,
+    }
+}
+
+fn flat_hit(h: FirstHit) -> OatHit
+    ensures { λ r. ⌜ r ≡ flat-hit h ⌝ }
+{
+    match h {
+        FirstHit::Hit(b) => flat_block(b),
+        FirstHit::Clear(many) => no_hit(0, 0, 0, many),
+        FirstHit::Refused(r) => {
+            let f = flatten(r);
+            no_hit(f.number, f.end, f.axis, 0)
+        }
+    }
+}
+
+// The first solid cell of the plain walk.
+#[no_mangle]
+pub extern "C" fn oat_plain(n: OatCounts, cells: &[u8], p: OatCell, q: OatCell) -> OatHit
+    ensures { λ r. ⌜ r ≡ flat-hit (plainly (plain-counts n) (now (cells .entry)) (plain p) (plain q)) ⌝ }
+{
+    let grid = counts(n);
+    let from = cell(p);
+    let to = cell(q);
+    flat_hit(hits::first_plain(grid, cells, from, to))
+}
+
+// The first solid cell of the adaptive walk.
+#[no_mangle]
+pub extern "C" fn oat_adaptive(n: OatCounts, cells: &[u8], p: OatCell, q: OatCell) -> OatHit
+    ensures { λ r. ⌜ r ≡ flat-hit (adaptive (plain-counts n) (now (cells .entry)) (plain p) (plain q)) ⌝ }
+{
+    let grid = counts(n);
+    let from = cell(p);
+    let to = cell(q);
+    flat_hit(hits::first_adaptive(grid, cells, from, to))
 }
