@@ -1,4 +1,3 @@
-pub mod Entering
 pub mod Stops
 pub mod Walking
 pub mod Turns

@@ -26,10 +26,11 @@ use Rattle.routes.specs.declared.Route.{Route}
 use Rattle.hits.specs.declared.Stop.{Stop}
 use Rattle.hits.specs.Found.{Stopped}
 use Rattle.routes.specs.Route.{byte-index, Planned, course, byte-of-spot}
-use Rattle.hits.specs.Entered.{entered, answer-from}
+use Rattle.places.specs.Entered.{entered}
+use Rattle.hits.specs.Answer.{answer-from}
 use Rattle.routes.proofs.Held.{inside-nat}
 use Rattle.routes.proofs.Spots.{inside-below, byte-is}
-use Rattle.hits.proofs.Entering.{entered-is}
+use Rattle.places.proofs.Entering.{entered-is}
 use mathlib.Core.Path.{fun-ext}
 
 -- the cell of a cell's byte is the cell

@@ -1,29 +1,25 @@
 // The first-hit calls: the plain and the adaptive walk through a grid. A walk goes from spot to spot of its route; what a hit needs is worked out
 // once, where the walk stopped.
 ghost use mathlib.Core.Path.{_≡_};
-ghost use mathlib.Core.Bool.{_&&_};
-ghost use Prim.Native.Nat.{suc, _≤_, _<_};
+ghost use Prim.Native.Nat.{suc, _≤_};
 ghost use lib.ListN.{length};
 ghost use Rattle.lines.specs.Lines.{longest};
 ghost use Rattle.lines.specs.Steps.{at, total};
-ghost use Rattle.tripod.specs.Tripod.{steps, Short, bit, moves-on};
-ghost use Rattle.grids.specs.Grid.{solid, cell-at};
-ghost use Rattle.grids.proofs.Shapes.{Good};
+ghost use Rattle.tripod.specs.Tripod.{steps, bit, moves-on};
+ghost use Rattle.grids.specs.Grid.{solid};
 ghost use Rattle.walks.specs.Answers.{PlainHit, AdaptiveHit};
 ghost use Rattle.routes.specs.Route.{Planned, SpotAt, HasByte};
 ghost use Rattle.hits.specs.Found.{adaptively, Stops, CanWalk, Walked, CanTurn, Turned, found};
-ghost use Rattle.hits.specs.Entered.{numerator, behind, last-axis, entered, answer-from};
+ghost use Rattle.hits.specs.Answer.{answer-from};
 use cells::Axis;
 use cells::Cell;
 use cells::Counts;
 use cells::Verdict;
 use routes::Route;
 use routes::Spot;
-use tripod::Diffs;
 use tripod::Moves;
 use walks::FirstHit;
 use walks::Hit;
-use walks::Place;
 
 // Where a walk stopped, and how many cells it read.
 pub struct Stop {
@@ -129,7 +125,7 @@ fn walk_adaptive(cells: &[u8], k: Route, start: Spot) -> Stop
 {
     let d = k.d;
     let long = tripod::longest_axis(d);
-    let last = along(d, long);
+    let last = places::along(d, long);
     let mut t = Turn {
         spot: start,
         reads: 0,
@@ -154,84 +150,6 @@ fn walk_adaptive(cells: &[u8], k: Route, start: Spot) -> Stop
     }
 }
 
-// The cell of the byte at i.
-fn cell_of(n: Counts, i: u32) -> Cell
-    requires { ⌜ Good (n .nx) × Good (n .ny) × (i < 1073741824) ⌝ }
-    ensures { λ r. ⌜ r ≡ cell-at n i ⌝ }
-{
-    let x = (i % n.nx) as i32;
-    let y = (i / n.nx % n.ny) as i32;
-    let z = (i / (n.nx * n.ny)) as i32;
-    Cell { x: x, y: y, z: z }
-}
-
-// The upper number of the crossing last made, 0 where there is none.
-fn numerator_of(i: u32) -> u32
-    requires { ⌜ i ≤ 16383 ⌝ }
-    ensures { λ r. ⌜ r ≡ numerator i ⌝ }
-{
-    if i == 0 { 0 } else { 2 * i - 1 }
-}
-
-// Whether a crossing was made at i over 2a, and one at j over 2b lies at no greater fraction.
-fn is_behind(i: u32, a: u32, j: u32, b: u32) -> bool
-    requires { ⌜ (i ≤ 32767) × (a ≤ 16383) × (j ≤ 32767) × (b ≤ 16383) ⌝ }
-    ensures { λ r. ⌜ r ≡ behind i a j b ⌝ }
-{
-    if i == 0 { false } else { j * a <= i * b }
-}
-
-// Of the crossings last made on each axis, the axis of the last.
-fn last_made(d: Diffs, t: Diffs) -> Axis
-    requires { ⌜ Short d × Short t ⌝ }
-    ensures { λ r. ⌜ r ≡ last-axis (steps d) (steps t) ⌝ }
-{
-    let i = numerator_of(t.a);
-    let j = numerator_of(t.b);
-    let k = numerator_of(t.c);
-    let y_before = is_behind(i, d.a, j, d.b);
-    let z_before = is_behind(i, d.a, k, d.c);
-    if both(y_before, z_before) {
-        return Axis::X;
-    }
-    if is_behind(k, d.c, j, d.b) {
-        Axis::Z
-    } else {
-        Axis::Y
-    }
-}
-
-fn both(s: bool, t: bool) -> bool
-    ensures { λ r. ⌜ r ≡ (s && t) ⌝ }
-{
-    if s { t } else { false }
-}
-
-// The number along an axis.
-fn along(d: Diffs, n: Axis) -> u32
-    ensures { λ r. ⌜ r ≡ steps d n ⌝ }
-{
-    match n {
-        Axis::X => d.a,
-        Axis::Y => d.b,
-        Axis::Z => d.c,
-    }
-}
-
-// The place of a hit after t steps of d.
-fn place_after(d: Diffs, t: Diffs) -> Place
-    requires { ⌜ Short d × Short t ⌝ }
-    ensures { λ r. ⌜ r ≡ entered (steps d) (steps t) ⌝ }
-{
-    if t.a + t.b + t.c == 0 {
-        return Place { num: 0, den: 1 };
-    }
-    let n = last_made(d, t);
-    let num = numerator_of(along(t, n));
-    let den = 2 * along(d, n);
-    Place { num: num, den: den }
-}
-
 // The answer of a walk from where it stopped.
 fn answer_of(cells: &[u8], k: Route, r: Stop) -> FirstHit
     requires { ⌜ Planned (length (now cells)) k × HasByte (length (now cells)) (r .spot) ⌝ }
@@ -242,9 +160,9 @@ fn answer_of(cells: &[u8], k: Route, r: Stop) -> FirstHit
     if !is_solid(code) {
         return FirstHit::Clear(r.reads);
     }
-    let cell = cell_of(k.n, spot.at as u32);
+    let cell = places::cell_of(k.n, spot.at as u32);
     let made = tripod::measured(k.p, cell);
-    let place = place_after(k.d, made);
+    let place = places::place_after(k.d, made);
     FirstHit::Hit(Hit {
         cell: cell,
         code: code,

@@ -13,7 +13,8 @@ use Rattle.tripod.specs.Tripod.{steps}
 use Rattle.grids.specs.Grid.{solid, cell-at}
 use Rattle.walks.specs.declared.FirstHit.the-variants.{Hit as Blocked}
 use Rattle.routes.specs.Route.{byte-of-spot}
-use Rattle.hits.specs.Entered.{entered, answer-from}
+use Rattle.places.specs.Entered.{entered}
+use Rattle.hits.specs.Answer.{answer-from}
 use Rattle.routes.proofs.Held.{abs-nat, cast-32}
 use Rattle.routes.proofs.Spots.{p-limit, byte-limit}
 use Rattle.hits.proofs.answer_of.Statement.{statement}

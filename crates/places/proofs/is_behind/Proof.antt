@@ -1,10 +1,10 @@
--- `hits::is_behind` meets its contract: the products are below 2^30. Assumes nothing.
+-- `places::is_behind` meets its contract: the products are below 2^30. Assumes nothing.
 use Prim.Native.Nat.{_*_, _≤_}
 use native.Mathlib.Nat.{mul-le-mul}
 use native.Mathlib.Omega.{arith}
 use borrow.Author.Tests.{lt-ltb, le-ltb}
-use Rattle.hits.proofs.is_behind.Statement.{statement}
-use Rattle.hits.proofs.is_behind.Tie as tie
+use Rattle.places.proofs.is_behind.Statement.{statement}
+use Rattle.places.proofs.is_behind.Tie as tie
 
 mul-result : tie.Need-mul-result
 mul-result c =

@@ -1,11 +1,11 @@
--- `hits::last_made` meets its contract: each way out has the tests that led there. Assumes nothing.
+-- `places::last_made` meets its contract: each way out has the tests that led there. Assumes nothing.
 use mathlib.Core.Path.{_≡_, sym, ap₂, _∙_}
 use mathlib.Core.Bool.{_&&_}
 use borrow.Author.Needs.{needs}
 use Rattle.tripod.specs.Tripod.{steps}
-use Rattle.hits.specs.Entered.{numerator, behind, x-is-last}
-use Rattle.hits.proofs.last_made.Statement.{statement}
-use Rattle.hits.proofs.last_made.Tie as tie
+use Rattle.places.specs.Entered.{numerator, behind, x-is-last}
+use Rattle.places.proofs.last_made.Statement.{statement}
+use Rattle.places.proofs.last_made.Tie as tie
 
 -- what the tests answered
 x-last : (c : tie.After-both) → let a = c .before .before .before .before .before .before .args in c .both .result ≡ x-is-last (steps (a .d)) (steps (a .t))

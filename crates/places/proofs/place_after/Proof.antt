@@ -1,4 +1,4 @@
--- `hits::place_after` meets its contract: with no step made the cell is P, else the last crossing made is that of the axis found. Assumes nothing.
+-- `places::place_after` meets its contract: with no step made the cell is P, else the last crossing made is that of the axis found. Assumes nothing.
 use mathlib.Core.Path.{ap, _∙_}
 use Prim.Native.Nat.{_*_}
 use native.Mathlib.Omega.{arith}
@@ -6,9 +6,9 @@ use borrow.Author.Needs.{needs}
 use borrow.Author.Tests.{eq-eqb, ne-eqb}
 use Rattle.tripod.specs.Tripod.{steps}
 use Rattle.tripod.proofs.Laws.{short-at}
-use Rattle.hits.specs.Entered.{numerator, entered}
-use Rattle.hits.proofs.place_after.Statement.{statement}
-use Rattle.hits.proofs.place_after.Tie as tie
+use Rattle.places.specs.Entered.{numerator, entered}
+use Rattle.places.proofs.place_after.Statement.{statement}
+use Rattle.places.proofs.place_after.Tie as tie
 
 add-if1 : tie.Need-add-if1
 add-if1 c = search needs

@@ -15,7 +15,7 @@ use Rattle.lines.specs.Lines.{differences, centres}
 use Rattle.lines.proofs.Fractions.{Before, before-true, place-total, entered-by-last}
 use Rattle.lines.proofs.Centres.{centres-good}
 use Rattle.walks.specs.Answers.{entered-at}
-use Rattle.hits.specs.Entered.{numerator, behind, last-axis, place-along, entered}
+use Rattle.places.specs.Entered.{numerator, behind, last-axis, place-along, entered}
 
 -- the upper number of crossing i, counted from 0
 numerator-suc : (i : ℕ) → numerator (suc i) ≡ 1 + 2 * i

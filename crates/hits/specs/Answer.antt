@@ -1,0 +1,24 @@
+-- The answer of a walk, from the spot where it stopped. Assumes nothing.
+use Prim.Native.Nat.{ℕ}
+use mathlib.Core.Bool.{cond}
+use mathlib.Core.List.{List}
+use lib.IntN.{natAbs}
+use Rattle.cells.specs.declared.Cell.{Cell}
+use Rattle.lines.specs.Lines.{differences}
+use Rattle.tripod.specs.Tripod.{steps}
+use Rattle.grids.specs.Grid.{cell-at, solid}
+use Rattle.walks.specs.declared.FirstHit.{FirstHit}
+use Rattle.walks.specs.declared.FirstHit.the-variants.{Clear, Hit as Blocked}
+use Rattle.routes.specs.declared.Route.{Route}
+use Rattle.hits.specs.declared.Stop.{Stop}
+use Rattle.routes.specs.Route.{byte-of-spot}
+use Rattle.places.specs.Entered.{entered}
+
+-- the answer of a walk from where it stopped
+unfoldable pub answer-from : List ℕ → Route → Stop → FirstHit
+unfolding entered
+answer-from l k r =
+    let c : Cell = cell-at (k .n) (natAbs (r .spot .at)) in
+    cond (solid (byte-of-spot l (r .spot)))
+    (Blocked (record { cell = c; code = byte-of-spot l (r .spot); place = entered (steps (k .d)) (differences (k .p) c); reads = r .reads }))
+    (Clear (r .reads))

@@ -1,0 +1,91 @@
+// The cell and the place of a hit, worked out once, where a walk stopped.
+ghost use mathlib.Core.Path.{_≡_};
+ghost use mathlib.Core.Bool.{_&&_};
+ghost use Prim.Native.Nat.{_≤_, _<_};
+ghost use Rattle.tripod.specs.Tripod.{steps, Short};
+ghost use Rattle.grids.specs.Grid.{cell-at};
+ghost use Rattle.grids.proofs.Shapes.{Good};
+ghost use Rattle.places.specs.Entered.{numerator, behind, last-axis, entered};
+use cells::Axis;
+use cells::Cell;
+use cells::Counts;
+use tripod::Diffs;
+use walks::Place;
+
+// The cell of the byte at i.
+pub fn cell_of(n: Counts, i: u32) -> Cell
+    requires { ⌜ Good (n .nx) × Good (n .ny) × (i < 1073741824) ⌝ }
+    ensures { λ r. ⌜ r ≡ cell-at n i ⌝ }
+{
+    let x = (i % n.nx) as i32;
+    let y = (i / n.nx % n.ny) as i32;
+    let z = (i / (n.nx * n.ny)) as i32;
+    Cell { x: x, y: y, z: z }
+}
+
+// The upper number of the crossing last made, 0 where there is none.
+fn numerator_of(i: u32) -> u32
+    requires { ⌜ i ≤ 16383 ⌝ }
+    ensures { λ r. ⌜ r ≡ numerator i ⌝ }
+{
+    if i == 0 { 0 } else { 2 * i - 1 }
+}
+
+// Whether a crossing was made at i over 2a, and one at j over 2b lies at no greater fraction.
+fn is_behind(i: u32, a: u32, j: u32, b: u32) -> bool
+    requires { ⌜ (i ≤ 32767) × (a ≤ 16383) × (j ≤ 32767) × (b ≤ 16383) ⌝ }
+    ensures { λ r. ⌜ r ≡ behind i a j b ⌝ }
+{
+    if i == 0 { false } else { j * a <= i * b }
+}
+
+// Of the crossings last made on each axis, the axis of the last.
+fn last_made(d: Diffs, t: Diffs) -> Axis
+    requires { ⌜ Short d × Short t ⌝ }
+    ensures { λ r. ⌜ r ≡ last-axis (steps d) (steps t) ⌝ }
+{
+    let i = numerator_of(t.a);
+    let j = numerator_of(t.b);
+    let k = numerator_of(t.c);
+    let y_before = is_behind(i, d.a, j, d.b);
+    let z_before = is_behind(i, d.a, k, d.c);
+    if both(y_before, z_before) {
+        return Axis::X;
+    }
+    if is_behind(k, d.c, j, d.b) {
+        Axis::Z
+    } else {
+        Axis::Y
+    }
+}
+
+fn both(s: bool, t: bool) -> bool
+    ensures { λ r. ⌜ r ≡ (s && t) ⌝ }
+{
+    if s { t } else { false }
+}
+
+// The number along an axis.
+pub fn along(d: Diffs, n: Axis) -> u32
+    ensures { λ r. ⌜ r ≡ steps d n ⌝ }
+{
+    match n {
+        Axis::X => d.a,
+        Axis::Y => d.b,
+        Axis::Z => d.c,
+    }
+}
+
+// The place of a hit after t steps of d.
+pub fn place_after(d: Diffs, t: Diffs) -> Place
+    requires { ⌜ Short d × Short t ⌝ }
+    ensures { λ r. ⌜ r ≡ entered (steps d) (steps t) ⌝ }
+{
+    if t.a + t.b + t.c == 0 {
+        return Place { num: 0, den: 1 };
+    }
+    let n = last_made(d, t);
+    let num = numerator_of(along(t, n));
+    let den = 2 * along(d, n);
+    Place { num: num, den: den }
+}
