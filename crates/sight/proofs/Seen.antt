@@ -1,0 +1,42 @@
+-- The sight answer from what is computed on the way: the two lookups f and t, and what the walk h says. Assumes nothing.
+use Prim.Native.Nat.{ℕ}
+use mathlib.Core.Path.{_≡_, refl, sym, ap, ap₂, _∙_}
+use mathlib.Core.List.{List}
+use lib.ListN.{length}
+use Rattle.cells.specs.declared.Cell as cell
+use Rattle.cells.specs.declared.Counts.{Counts}
+use Rattle.cells.specs.declared.End.the-variants.{P, Q}
+use Rattle.cells.specs.declared.Refusal.{Refusal}
+use Rattle.grids.specs.Grid.{shape}
+use Rattle.walks.specs.declared.FirstHit.{FirstHit}
+use Rattle.walks.specs.Answers.{adaptive}
+use Rattle.sights.specs.declared.Lookup.{Lookup}
+use Rattle.sights.specs.declared.Lookup.the-variants.{Cell, Refused as NoCell}
+use Rattle.sights.specs.declared.Placement.{Placement}
+use Rattle.sights.specs.declared.Point.{Point}
+use Rattle.sights.specs.Survey.{placement-check, look-up}
+use Rattle.sight.specs.declared.Sight.the-variants.{Refused}
+use Rattle.sight.specs.Sight.{told-by, seen, if-fine, looked, sight}
+
+module _ (n : Counts) (l : List ℕ) (at : Placement) (camera ball : Point) where
+  pub looked-is : looked n l at camera ball ≡ seen n l (look-up P n at camera) (look-up Q n at ball)
+  unfolding looked
+  looked-is = refl
+
+  pub sight-is : sight n l at camera ball ≡ if-fine (shape n (length l)) (if-fine (placement-check at) (looked n l at camera ball))
+  unfolding sight
+  sight-is = refl
+
+  from-lookups : {f t u v : Lookup} → f ≡ look-up P n at camera → f ≡ u → t ≡ look-up Q n at ball → t ≡ v → looked n l at camera ball ≡ seen n l u v
+  from-lookups hf f-is ht t-is = looked-is ∙ ap₂ (seen n l) (sym hf ∙ f-is) (sym ht ∙ t-is)
+
+  pub camera-refused : {f : Lookup} {r : Refusal} → f ≡ look-up P n at camera → f ≡ NoCell r → looked n l at camera ball ≡ Refused r
+  camera-refused hf f-is = from-lookups hf f-is refl refl
+
+  pub ball-refused : {f t : Lookup} {c : cell.Cell} {r : Refusal} →
+      f ≡ look-up P n at camera → f ≡ Cell c → t ≡ look-up Q n at ball → t ≡ NoCell r → looked n l at camera ball ≡ Refused r
+  ball-refused hf f-is ht t-is = from-lookups hf f-is ht t-is
+
+  pub walked : {f t : Lookup} {c b : cell.Cell} {h : FirstHit} →
+      f ≡ look-up P n at camera → f ≡ Cell c → t ≡ look-up Q n at ball → t ≡ Cell b → h ≡ adaptive n l c b → looked n l at camera ball ≡ told-by h
+  walked hf f-is ht t-is h-is = from-lookups hf f-is ht t-is ∙ ap told-by (sym h-is)

@@ -1,0 +1,62 @@
+-- Document 01: the sight answer from camera to ball. Refusals 2, 3, 7, the camera's 8 and 9, then the ball's. Assumes nothing.
+use Prim.Native.Nat.{ℕ}
+use mathlib.Core.Path.{_≡_}
+use mathlib.Core.List.{List}
+use mathlib.Core.Logic.{_⊎_, inl, inr}
+use lib.ListN.{length}
+use Rattle.cells.specs.declared.Cell as cell
+use Rattle.cells.specs.declared.Counts.{Counts}
+use Rattle.cells.specs.declared.End.the-variants.{P, Q}
+use Rattle.cells.specs.declared.Verdict.{Verdict}
+use Rattle.cells.specs.declared.Verdict.the-variants.{Fine, Refused as Fails}
+use Rattle.cells.specs.Refusals.{Told, told}
+use Rattle.grids.specs.Grid.{shape}
+use Rattle.walks.specs.declared.FirstHit.{FirstHit}
+use Rattle.walks.specs.declared.FirstHit.the-variants.{Clear as Open, Hit, Refused as NotWalked}
+use Rattle.walks.specs.Answers.{adaptive}
+use Rattle.sights.specs.declared.Lookup.{Lookup}
+use Rattle.sights.specs.declared.Lookup.the-variants.{Cell, Refused as NoCell}
+use Rattle.sights.specs.declared.Placement.{Placement}
+use Rattle.sights.specs.declared.Point.{Point}
+use Rattle.sights.specs.Quotient.{share-of}
+use Rattle.sights.specs.Survey.{placement-check, look-up}
+use Rattle.sight.specs.declared.Block.{Block}
+use Rattle.sight.specs.declared.Sight.{Sight}
+use Rattle.sight.specs.declared.Sight.the-variants.{Clear, Blocked, Refused}
+
+-- what the adaptive walk says: "clear, or blocked with the share of the way as one f64, the cell, code and reads"
+abbrev pub told-by : FirstHit → Sight
+told-by (Open reads) = Clear
+told-by (Hit h) = Blocked (record { share = share-of (h .place .num) (h .place .den); cell = h .cell; code = h .code; reads = h .reads })
+told-by (NotWalked r) = Refused r
+
+-- from the two lookups: "where the camera's point has no cell, its refusal is the answer and the ball is not looked at"
+abbrev pub seen : Counts → List ℕ → Lookup → Lookup → Sight
+seen n l (NoCell r) ball = Refused r
+seen n l (Cell c) (NoCell r) = Refused r
+seen n l (Cell c) (Cell b) = told-by (adaptive n l c b)
+
+-- an answer that is given only where the tests before it are passed
+abbrev pub if-fine : Verdict → Sight → Sight
+if-fine Fine s = s
+if-fine (Fails r) s = Refused r
+
+-- the two lookups, camera P and ball Q, counts and placement being tested
+unfoldable pub looked : Counts → List ℕ → Placement → Point → Point → Sight
+unfolding look-up adaptive
+looked n l at camera ball = seen n l (look-up P n at camera) (look-up Q n at ball)
+
+-- "2, 3, 7 (origin x, y, z, edge), camera x (8, then 9), y, z, then the ball"
+unfoldable pub sight : Counts → List ℕ → Placement → Point → Point → Sight
+unfolding looked shape placement-check
+sight n l at camera ball = if-fine (shape n (length l)) (if-fine (placement-check at) (looked n l at camera ball))
+
+-- the contract of the sight call
+pub record Sees (n : Counts) (l : List ℕ) (at : Placement) (camera ball : Point) (r : Sight) : Type 0 where
+  pub says : r ≡ sight n l at camera ball
+
+-- each case of the answer: what is said of a refusal, nothing, or the block's values
+abbrev pub told-sight : Sight → Told ⊎ (Unit {0} ⊎ Block)
+told-sight (Refused r) = inl (told r)
+told-sight Clear = inr (inl tt)
+told-sight (Blocked b) = inr (inr b)

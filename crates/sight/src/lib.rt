@@ -1,0 +1,94 @@
+// The sight answer: is anything in the way from a camera to the ball? Two lookups, then the adaptive walk.
+ghost use mathlib.Core.Path.{_≡_};
+ghost use lib.ListN.{length};
+ghost use Rattle.cells.specs.declared.Verdict.the-variants.{Fine};
+ghost use Rattle.grids.specs.Grid.{count-check};
+ghost use Rattle.sights.specs.Survey.{Tested, placement-check};
+ghost use Rattle.sight.specs.Sight.{told-by, if-fine, looked, Sees};
+use cells::Cell;
+use cells::Counts;
+use cells::End;
+use cells::Refusal;
+use cells::Verdict;
+use sights::Lookup;
+use sights::Placement;
+use sights::Point;
+use walks::FirstHit;
+
+// What is in the way: the share of the way to it, its cell and code, and how many cells were read.
+pub struct Block {
+    pub share: f64,
+    pub cell: Cell,
+    pub code: u8,
+    pub reads: u32,
+}
+
+// The sight answer.
+pub enum Sight {
+    Clear,
+    Blocked(Block),
+    Refused(Refusal),
+}
+
+// What a walk tells of the sight.
+fn told_by(h: FirstHit) -> Sight
+    ensures { λ r. ⌜ r ≡ told-by h ⌝ }
+{
+    match h {
+        FirstHit::Clear(_) => Sight::Clear,
+        FirstHit::Refused(r) => Sight::Refused(r),
+        FirstHit::Hit(hit) => {
+            let cell = hit.cell;
+            let place = hit.place;
+            Sight::Blocked(Block {
+                share: sights::share(place.num, place.den),
+                cell: cell,
+                code: hit.code,
+                reads: hit.reads,
+            })
+        }
+    }
+}
+
+// Where counts and placement passed their tests: the camera's refusal first, then the ball's.
+fn look(n: Counts, cells: &[u8], at: Placement, camera: Point, ball: Point) -> Sight
+    requires { ⌜ Tested n at ⌝ }
+    ensures { λ r. ⌜ r ≡ looked n (now (cells .entry)) at camera ball ⌝ }
+{
+    let from = sights::look_up(End::P, n, at, camera);
+    let Lookup::Cell(p) = from else {
+        return match from {
+            Lookup::Refused(r) => Sight::Refused(r),
+            Lookup::Cell(_) => Sight::Clear,
+        };
+    };
+    let to = sights::look_up(End::Q, n, at, ball);
+    let Lookup::Cell(q) = to else {
+        return match to {
+            Lookup::Refused(r) => Sight::Refused(r),
+            Lookup::Cell(_) => Sight::Clear,
+        };
+    };
+    told_by(hits::first_adaptive(n, cells, p, q))
+}
+
+// Where the counts passed their test: refusal 7, then the lookups.
+fn look_from(n: Counts, cells: &[u8], at: Placement, camera: Point, ball: Point) -> Sight
+    requires { ⌜ count-check n ≡ Fine ⌝ }
+    ensures { λ r. ⌜ r ≡ if-fine (placement-check at) (looked n (now (cells .entry)) at camera ball) ⌝ }
+{
+    match sights::check_placement(at) {
+        Verdict::Refused(r) => Sight::Refused(r),
+        Verdict::Fine => look(n, cells, at, camera, ball),
+    }
+}
+
+// Whether anything is in the way from the camera to the ball.
+pub fn see(n: Counts, cells: &[u8], at: Placement, camera: Point, ball: Point) -> Sight
+    ensures { λ r. ⌜ Sees n (now (cells .entry)) at camera ball r ⌝ }
+{
+    match grids::shape(n, cells.len()) {
+        Verdict::Refused(r) => Sight::Refused(r),
+        Verdict::Fine => look_from(n, cells, at, camera, ball),
+    }
+}
