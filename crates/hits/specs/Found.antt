@@ -22,14 +22,15 @@ pub record Stopped (k : Route) (e many : ℕ) (r : Stop) : Type 0 where
   pub reads : r .reads ≡ many
 
 module _ (l : List ℕ) (k : Route) where
-  -- the route's last place number, and where the bytes are solid
+  -- the route's last place number
   abbrev pub last : ℕ
   last = last-number (k .p) (k .q)
 
+  -- where the bytes are solid
   abbrev pub hits : ℕ → Bool
   hits = solid-at (k .n) l (k .p) (k .q)
 
-  -- the two walks: from number to number, and with long steps
+  -- the adaptive walk's step from number to number; the plain walk's is `suc`
   abbrev pub adaptively : ℕ → ℕ
   adaptively = go (k .n) l (k .p) (k .q)
 
@@ -54,11 +55,13 @@ module _ (l : List ℕ) (k : Route) where
     pub one : (j : ℕ) → m ≤ j → j < m + faces → next j ≡ suc j
     pub walking : Walking next m reads s
 
+  -- some walk has them to cross
   pub record CanWalk (s : Spot) (reads faces : ℕ) : Type 0 where
     pub next : ℕ → ℕ
     pub from : ℕ
     pub crossing : Crossing s reads faces next from
 
+  -- and whichever it is, it was followed
   pub record Walked (s : Spot) (reads faces : ℕ) (r : Turn) : Type 0 where
     pub leads : (next : ℕ → ℕ) (m : ℕ) → Crossing s reads faces next m → Outcome next (m + faces) (r .hit) (r .spot) (r .reads)
 
@@ -67,6 +70,7 @@ module _ (l : List ℕ) (k : Route) where
     pub below : m < longest (differences (k .p) (k .q))
     pub walking : Walking adaptively (number-26 (k .p) (k .q) m) reads s
 
+  -- it is at some such cell
   pub record CanTurn (s : Spot) (reads : ℕ) : Type 0 where
     pub cell : ℕ
     pub at : At26 s reads cell

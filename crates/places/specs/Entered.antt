@@ -13,17 +13,19 @@ numerator i = 2 * i - 1
 abbrev pub behind : ℕ → ℕ → ℕ → ℕ → Bool
 behind i a j b = ltb 0 i && leb (j * a) (i * b)
 
--- of equal fractions that of x is the last, then that of z
+-- the last crossing made is that of x: of equal fractions that of x is the last
 abbrev pub x-is-last : Steps → Steps → Bool
 x-is-last D t =
     behind (numerator (t X)) (D X) (numerator (t Y)) (D Y) && behind (numerator (t X)) (D X) (numerator (t Z)) (D Z)
 
+-- the axis of the last crossing made: of equal fractions x, then z, then y
 abbrev pub last-axis : Steps → Steps → Axis
 last-axis D t = cond (x-is-last D t) X (cond (behind (numerator (t Z)) (D Z) (numerator (t Y)) (D Y)) Z Y)
 
--- "0 over 1 if the cell is P, else 2i-1 over 2D"
+-- "2i-1 over 2D"
 abbrev pub place-along : Steps → Steps → Axis → Place
 place-along D t a = record { num = numerator (t a); den = 2 * D a }
 
+-- "0 over 1 if the cell is P, else 2i-1 over 2D of the crossing by which the 6-line enters that cell", from the steps t made
 unfoldable pub entered : Steps → Steps → Place
 entered D t = cond (eqb (total t) 0) (record { num = 0; den = 1 }) (place-along D t (last-axis D t))

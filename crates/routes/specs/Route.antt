@@ -31,9 +31,11 @@ byte-index n c = index n (natAbs (c .x)) (natAbs (c .y)) (natAbs (c .z))
 abbrev pub stride : ℤ → ℤ → ℕ → ℤ
 stride p q width = cond (leZ p q) (pos width) (pos 0 -ℤ pos width)
 
+-- on each axis: x fastest, then y, then z
 abbrev pub strides : Counts → Cell → Cell → Strides
 strides n p q = record { x = stride (p .x) (q .x) 1; y = stride (p .y) (q .y) (n .nx); z = stride (p .z) (q .z) (n .nx * n .ny) }
 
+-- the stride along an axis
 abbrev pub stride-on : Strides → Axis → ℤ
 stride-on h X = h .x
 stride-on h Y = h .y
@@ -65,7 +67,7 @@ pub record Planned (bytes : ℕ) (k : Route) : Type 0 where
   pub moves : k .strides ≡ strides (k .n) (k .p) (k .q)
   pub twice : k .twice ≡ doubled (differences (k .p) (k .q))
 
--- the order of its crossings, and how many there are
+-- the order of its crossings
 abbrev pub course : Route → Course
 course k = centres rule-1 (differences (k .p) (k .q))
 
@@ -98,10 +100,11 @@ pub record CanCross (s : Spot) (k : Route) : Type 0 where
   pub values : Calm (s .e)
   pub twice : Even (k .twice)
 
--- the same where it is asked for, and the spot after a long step
+-- the same where it is asked for
 abbrev pub crossed-where : Bool → Route → Axis → Spot → Spot
 crossed-where go k n s = cond go (crossed-spot k n s) s
 
+-- the spot after a long step
 abbrev pub leapt-spot : Route → Moves → Spot → Spot
 leapt-spot k m s = crossed-where (m .z) k Z (crossed-where (m .y) k Y (crossed-where (m .x) k X s))
 
