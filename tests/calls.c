@@ -54,6 +54,8 @@ oat_pair oat_read_pair(const u8 *bytes, size len);
 typedef struct { u32 refusal, end, axis, hit; i32 x, y, z; u32 code, num, den, reads; } oat_hit;
 oat_hit oat_plain(oat_counts n, const u8 *cells, size len, oat_cell p, oat_cell q);
 oat_hit oat_adaptive(oat_counts n, const u8 *cells, size len, oat_cell p, oat_cell q);
+typedef struct { u32 refusal, end, axis, blocked; double share; i32 x, y, z; u32 code, reads; } oat_sight_answer;
+oat_sight_answer oat_sight(oat_counts n, const u8 *cells, size len, oat_placement at, oat_point camera, oat_point ball);
 oat_written oat_write_venue(oat_counts n, const u8 *cells, size cells_len, u8 *out, size out_len);
 
 static _Noreturn void fail(const char *what) {
@@ -287,6 +289,26 @@ static void cell(void) {
     say_stray(got.refusal, got.end, got.axis, got.refusal ? (u64)(got.x | got.y | got.z) : 0);
 }
 
+static u64 bits_of(double value) { return ((union { double value; u64 bits; }){value}).bits; }
+
+static void sight(void) {
+    grid g = lend_grid();
+    oat_placement at = take_placement();
+    oat_point camera = take_point(), ball = take_point();
+    take_fixed(0);
+    take_fixed(1);
+    only_read(g.cells);
+    oat_sight_answer got = oat_sight(g.n, g.cells.at, g.cells.bytes, at, camera, ball);
+    take_back(g.cells);
+    if (got.refusal) say_refused(got.refusal, got.end, got.axis);
+    else if (got.blocked == 1) say("blocked %lu %d %d %d %u %u", bits_of(got.share), got.x, got.y, got.z, got.code, got.reads);
+    else say(got.blocked ? "?" : "clear");
+    u64 values = got.blocked == 1 ? 0 : bits_of(got.share) | (u32)(got.x | got.y | got.z) | got.code | got.reads;
+    if (got.refusal) values |= got.blocked;
+    if (values) say(" stray %lu", values);
+    say_stray(got.refusal, got.end, got.axis, 0);
+}
+
 static void rvenue(void) {
     slice bytes = lend_bytes();
     only_read(bytes);
@@ -330,6 +352,7 @@ static const struct { const char *name; void (*run)(void); } calls[] = {
     {"complete", complete},
     {"layer", layer},
     {"cell", cell},
+    {"sight", sight},
     {"rvenue", rvenue},
     {"rpair", rpair},
     {"wvenue", wvenue},

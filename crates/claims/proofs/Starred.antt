@@ -1,18 +1,24 @@
 -- Every row of the table of starred cases holds: the definitions compute to what document 01 says. Assumes nothing.
 use mathlib.Core.Path.{refl}
+use lib.Ieee.{le, lt, ofInt, ofBits, div, sub}
 use Rattle.lines.specs.Lines.{six-line, line-26}
 use Rattle.grids.specs.Grid.{shape}
 use Rattle.grids.specs.Marks.{marked}
 use Rattle.records.specs.Records.{whole, venue-version, venue-head, venue-check, venue-read, venue-cells, signed, pair-version, pair-length, pair-check, pair-read}
 use Rattle.walks.specs.Answers.{plain, adaptive}
-use Rattle.claims.specs.Starred.{Every, no-more, _and_, record-rows, table}
+use Rattle.sight.specs.Sight.{sight}
+use Rattle.claims.specs.Starred.{Every, no-more, _and_, record-rows, sight-rows, table}
 
 records-hold : Every record-rows
 unfolding shape whole venue-version venue-head venue-check venue-read venue-cells signed pair-version pair-length pair-check pair-read
 records-hold = refl and refl and refl and no-more
 
+sights-hold : Every sight-rows
+unfolding sight le lt ofInt ofBits div sub
+sights-hold = refl and records-hold
+
 pub starred : Every table
 unfolding six-line line-26 marked plain adaptive
 starred =
     refl and refl and refl and refl and refl and refl and refl and refl and refl and refl and refl and refl and
-    refl and refl and refl and refl and refl and refl and refl and refl and refl and refl and refl and refl and records-hold
+    refl and refl and refl and refl and refl and refl and refl and refl and refl and refl and refl and refl and sights-hold

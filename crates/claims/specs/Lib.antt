@@ -4,5 +4,6 @@ pub mod Lists
 pub mod Grids
 pub mod Story
 pub mod Points
+pub mod Sights
 pub mod Records
 pub mod Texts

@@ -4,6 +4,7 @@ use mathlib.Core.Path.{_≡_}
 use mathlib.Core.List.{List, [], _∷_}
 use mathlib.Core.Logic.{inr}
 use lib.IntN.{pos, negℤ}
+use lib.Ieee.{Float, binary64, div, ofBits}
 use lib.ListN.{length}
 use Rattle.cells.specs.declared.Cell.{Cell}
 use Rattle.cells.specs.declared.Counts.{Counts}
@@ -14,6 +15,11 @@ use Rattle.records.specs.Records.{venue-read, venue-cells, told-venue, pair-rea
 use Rattle.walks.specs.declared.FirstHit.{FirstHit}
 use Rattle.walks.specs.declared.FirstHit.the-variants.{Clear, Hit as Blocked}
 use Rattle.walks.specs.Answers.{plain, adaptive}
+use Rattle.sights.specs.declared.Placement.{Placement}
+use Rattle.sights.specs.declared.Point.{Point}
+use Rattle.sights.specs.Quotient.{whole}
+use Rattle.sight.specs.declared.Sight.the-variants.{Blocked as InTheWay}
+use Rattle.sight.specs.Sight.{sight}
 use Rattle.claims.specs.Records.{example-venue, example-cells, example-pair}
 
 -- counts
@@ -32,8 +38,16 @@ at-minus x y z = record { x = negℤ (pos x); y = pos y; z = pos z }
 abbrev pub hit : Cell → ℕ → ℕ → ℕ → ℕ → FirstHit
 hit c code num den reads = Blocked (record { cell = c; code = code; place = record { num = num; den = den }; reads = reads })
 
+-- k metres, and k halves of a metre
+abbrev pub whole-metres : ℕ → Float
+whole-metres k = whole k
+
+abbrev pub half-metres : ℕ → Float
+half-metres k = div binary64 (whole k) (whole 2)
+
 -- a row: the ends P and Q and the cells of the line between them; counts, bytes, and the bytes marked; a grid, the ends, and what the plain and
--- the adaptive walk answer; a venue's record, its counts and its cells; or a pair's record, P and Q
+-- the adaptive walk answer; a venue's record, its counts and its cells; a pair's record, P and Q; or a grid,
+-- its placement, camera and ball, and the 64 bits of the share, the cell, code and reads of what is in the way
 pub data Row : Type 0 where
   six : Cell → Cell → List Cell → Row
   twenty-six : Cell → Cell → List Cell → Row
@@ -43,6 +57,7 @@ pub data Row : Type 0 where
   venue : List ℕ → Counts → List ℕ → Row
   venue-part : List ℕ → List ℕ → Row
   pair : List ℕ → Cell → Cell → Row
+  sees : Counts → List ℕ → Placement → Point → Point → ℕ → Cell → ℕ → ℕ → Row
 
 -- what a row says
 abbrev pub Holds : Row → Type 0
@@ -53,6 +68,8 @@ Holds (plainly n l p q a) = plain n l p q ≡ a
 Holds (adaptively n l p q a) = adaptive n l p q ≡ a
 Holds (venue s n cells) = told-venue (venue-read s) ≡ inr (n, length s - length cells, length cells)
 Holds (venue-part s cells) = venue-cells s ≡ cells
+Holds (sees n l place camera ball share c code reads) =
+    sight n l place camera ball ≡ InTheWay (record { share = ofBits binary64 share; cell = c; code = code; reads = reads })
 Holds (pair s p q) = told-pair (pair-read s) ≡ inr (p, q)
 
 infixr 20 _and_
@@ -68,6 +85,14 @@ record-rows =
     ∷ venue-part example-venue example-cells
     ∷ pair example-pair (at 0 0 0) (at 3 1 0)
     ∷ []
+
+-- the marked program's venue, its origin 0, its edge 1 metre, from the middle of (0,0,0) to the middle of (3,1,0): share 0.5
+abbrev pub sight-rows : List Row
+sight-rows =
+    sees (counts 4 2 1) (1 ∷ 1 ∷ 1 ∷ 0 ∷ 1 ∷ 2 ∷ 1 ∷ 0 ∷ []) (record { ox = whole-metres 0; oy = whole-metres 0; oz = whole-metres 0; edge = whole-metres 1 })
+    (record { x = half-metres 1; y = half-metres 1; z = half-metres 1 }) (record { x = half-metres 7; y = half-metres 3; z = half-metres 1 })
+    0x3fe0_0000_0000_0000 (at 1 1 0) 2 3
+    ∷ record-rows
 
 abbrev pub table : List Row
 table =
@@ -101,4 +126,4 @@ table =
     -- missing marks: the adaptive walk is clear and reads more than the plain one
     ∷ plainly (counts 3 2 1) (0 ∷ 0 ∷ 0 ∷ 0 ∷ 2 ∷ 0 ∷ []) (at 0 1 0) (at 2 0 0) (hit (at 1 1 0) 2 1 4 2)
     ∷ adaptively (counts 3 2 1) (0 ∷ 0 ∷ 0 ∷ 0 ∷ 2 ∷ 0 ∷ []) (at 0 1 0) (at 2 0 0) (Clear 3)
-    ∷ record-rows
+    ∷ sight-rows

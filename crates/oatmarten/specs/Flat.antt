@@ -51,6 +51,11 @@ use Rattle.venues.specs.Writing.{WritesVenue}
 use Rattle.walks.specs.declared.FirstHit.{FirstHit}
 use Rattle.walks.specs.declared.FirstHit.the-variants.{Clear, Hit as Blocked, Refused as NotWalked}
 use Rattle.oatmarten.specs.declared.OatHit.{OatHit}
+use Rattle.sight.specs.declared.Block.{Block}
+use Rattle.sight.specs.declared.Sight.{Sight}
+use Rattle.sight.specs.declared.Sight.the-variants.{Clear as Seen, Blocked as InTheWay, Refused as NotSeen}
+use Rattle.oatmarten.specs.declared.OatSight.{OatSight}
+use Rattle.sights.specs.Quotient.{whole}
 
 -- an end: 1 P, 2 Q
 abbrev pub end-number : End → ℕ
@@ -185,6 +190,40 @@ flat-hit (Blocked h) =
     }
 flat-hit (Clear many) = no-hit 0 0 0 many
 flat-hit (NotWalked r) = no-hit (flat-refusal r .number) (flat-refusal r .end) (flat-refusal r .axis) 0
+
+-- a sight with nothing in the way, or that was refused
+abbrev pub unblocked : ℕ → ℕ → ℕ → OatSight
+unblocked number end axis =
+    record {
+      refusal = number;
+      end = end;
+      axis = axis;
+      blocked = 0;
+      share = whole 0;
+      x = pos 0;
+      y = pos 0;
+      z = pos 0;
+      code = 0;
+      reads = 0;
+    }
+
+-- a sight: blocked 1 where something is in the way, 0 where it is clear
+abbrev pub flat-sight : Sight → OatSight
+flat-sight (InTheWay b) =
+    record {
+      refusal = 0;
+      end = 0;
+      axis = 0;
+      blocked = 1;
+      share = b .share;
+      x = b .cell .x;
+      y = b .cell .y;
+      z = b .cell .z;
+      code = b .code;
+      reads = b .reads;
+    }
+flat-sight Seen = unblocked 0 0 0
+flat-sight (NotSeen r) = unblocked (flat-refusal r .number) (flat-refusal r .end) (flat-refusal r .axis)
 
 -- the placement and the point that C's structs mean
 abbrev pub plain-placement : OatPlacement → Placement

@@ -7,9 +7,11 @@ ghost use Rattle.grids.specs.Grid.{layer-part};
 ghost use Rattle.grids.specs.Marks.{completeness};
 ghost use Rattle.walks.specs.declared.FirstHit.the-variants.{Hit as Blocked};
 ghost use Rattle.sights.specs.Survey.{cell-of};
+ghost use Rattle.sight.specs.Sight.{sight};
+ghost use Rattle.sight.specs.declared.Sight.the-variants.{Blocked as InTheWay};
 ghost use Rattle.records.specs.Records.{venue-read, pair-read};
 ghost use Rattle.walks.specs.Answers.{adaptive, plain as plainly};
-ghost use Rattle.oatmarten.specs.Flat.{end-number, axis-number, part-number, flat-refusal, flat-listed, flat-verdict, flat-complete, flat-part, plain, plain-counts, plain-placement, plain-point, flat-found, flat-venue, flat-pair, flat-written, no-hit, flat-hit, FlatLists, FlatMarks, FlatWritesVenue};
+ghost use Rattle.oatmarten.specs.Flat.{end-number, axis-number, part-number, flat-refusal, flat-listed, flat-verdict, flat-complete, flat-part, plain, plain-counts, plain-placement, plain-point, flat-found, flat-venue, flat-pair, flat-written, no-hit, flat-hit, unblocked, flat-sight, FlatLists, FlatMarks, FlatWritesVenue};
 use cells::Axis;
 use cells::Cell;
 use cells::Counts;
@@ -22,6 +24,8 @@ use grids::LayerPart;
 use lists::Listed;
 use records::PairRead;
 use records::VenueRead;
+use sight::Block;
+use sight::Sight;
 use sights::Lookup;
 use sights::Placement;
 use sights::Point;
@@ -159,6 +163,21 @@ pub struct OatHit {
     pub code: u32,
     pub num: u32,
     pub den: u32,
+    pub reads: u32,
+}
+
+// The sight answer; blocked: 0 clear, 1 something in the way at a cell, with the share of the way to it.
+#[repr(C)]
+pub struct OatSight {
+    pub refusal: u32,
+    pub end: u32,
+    pub axis: u32,
+    pub blocked: u32,
+    pub share: f64,
+    pub x: i32,
+    pub y: i32,
+    pub z: i32,
+    pub code: u32,
     pub reads: u32,
 }
 
@@ -670,4 +689,71 @@ pub extern "C" fn oat_adaptive(n: OatCounts, cells: &[u8], p: OatCell, q: OatCel
     let from = cell(p);
     let to = cell(q);
     flat_hit(hits::first_adaptive(grid, cells, from, to))
+}
+
+// A sight with nothing in the way, or that was refused.
+fn unblocked(number: u32, end: u32, axis: u32) -> OatSight
+    ensures { λ r. ⌜ r ≡ unblocked number end axis ⌝ }
+{
+    OatSight {
+        refusal: number,
+        end: end,
+        axis: axis,
+        blocked: 0,
+        share: 0u32 as f64,
+        x: 0,
+        y: 0,
+        z: 0,
+        code: 0,
+        reads: 0,
+    }
+}
+
+fn flat_blocked(b: Block) -> OatSight
+    ensures { λ r. ⌜ r ≡ flat-sight (InTheWay b) ⌝ }
+{
+    let c = b.cell;
+    OatSight {
+        refusal: 0,
+        end: 0,
+        axis: 0,
+        blocked: 1,
+        share: b.share,
+        x: c.x,
+        y: c.y,
+        z: c.z,
+        code: b.code as u32,
+        reads: b.reads,
+    }
+}
+
+fn flat_sight(s: Sight) -> OatSight
+    ensures { λ r. ⌜ r ≡ flat-sight s ⌝ }
+{
+    match s {
+        Sight::Blocked(b) => flat_blocked(b),
+        Sight::Clear => unblocked(0, 0, 0),
+        Sight::Refused(r) => {
+            let f = flatten(r);
+            unblocked(f.number, f.end, f.axis)
+        }
+    }
+}
+
+// Whether anything is in the way from the camera to the ball.
+#[no_mangle]
+pub extern "C" fn oat_sight(
+    n: OatCounts,
+    cells: &[u8],
+    at: OatPlacement,
+    camera: OatPoint,
+    ball: OatPoint,
+) -> OatSight
+    ensures { λ r. ⌜ r ≡ flat-sight (sight (plain-counts n) (now (cells .entry)) (plain-placement at) (plain-point camera) (plain-point ball)) ⌝ }
+{
+    let grid = counts(n);
+    let place = placement(at);
+    let from = point(camera);
+    let to = point(ball);
+    flat_sight(sight::see(grid, cells, place, from, to))
 }

@@ -1,0 +1,125 @@
+-- The claims about the sight call, from its definition and the claims about the adaptive walk. Assumes nothing.
+use Prim.Native.Nat.{ℕ}
+use mathlib.Core.Path.{_≡_, refl, sym, ap, ap₂, _∙_}
+use mathlib.Core.List.{List}
+use mathlib.Core.Logic.{_⊎_, inl, inr}
+use mathlib.Core.Option.{Option, some, Option·map, Option·some-injective}
+use native.Mathlib.Omega.{arith}
+use lib.Ieee.{le, lt, ofInt, div, sub}
+use lib.ListN.{length}
+use Rattle.cells.specs.declared.Cell as cell
+use Rattle.cells.specs.declared.Counts.{Counts}
+use Rattle.cells.specs.declared.End.the-variants.{P, Q}
+use Rattle.cells.specs.declared.Refusal.{Refusal}
+use Rattle.cells.specs.declared.Verdict.{Verdict}
+use Rattle.cells.specs.declared.Verdict.the-variants.{Fine, Refused as Fails}
+use Rattle.cells.specs.Refusals.{Told}
+use Rattle.cells.proofs.Refusals.{untold, told-back}
+use Rattle.grids.specs.Grid.{shape}
+use Rattle.walks.specs.declared.FirstHit.{FirstHit}
+use Rattle.walks.specs.declared.FirstHit.the-variants.{Clear as Open, Hit, Refused as NotWalked}
+use Rattle.walks.specs.Answers.{adaptive}
+use Rattle.sights.specs.declared.Lookup.{Lookup}
+use Rattle.sights.specs.declared.Lookup.the-variants.{Cell, Refused as NoCell}
+use Rattle.sights.specs.declared.Placement.{Placement}
+use Rattle.sights.specs.declared.Point.{Point}
+use Rattle.sights.specs.Survey.{placement-check, look-up}
+use Rattle.sight.specs.declared.Block.{Block}
+use Rattle.sight.specs.declared.Sight.{Sight}
+use Rattle.sight.specs.declared.Sight.the-variants.{Clear, Blocked, Refused}
+use Rattle.sight.specs.Sight.{told-by, seen, if-fine, looked, sight, told-sight}
+use Rattle.sight.proofs.Seen.{looked-is, sight-is, camera-refused, walked}
+use Rattle.claims.proofs.Story.{nothing-in-the-way}
+use Rattle.claims.specs.Sights.{SeenOnce, AsTheWalk, OpenWay, NothingInSight, CameraFirst, WrongSights}
+
+-- 0 clear, 1 blocked, 2 refused
+kind : Sight → ℕ
+kind Clear = 0
+kind (Blocked b) = 1
+kind (Refused r) = 2
+
+-- ---- a clear sight
+
+walk-clear : (h : FirstHit) → told-by h ≡ Clear → (reads : ℕ) × (h ≡ Open reads)
+unfolding kind
+walk-clear (Open reads) e = (reads, refl)
+walk-clear (Hit h) e = absurd (let z : _≡_ {A = ℕ} 1 0 = ap kind e in omega arith)
+walk-clear (NotWalked r) e = absurd (let z : _≡_ {A = ℕ} 2 0 = ap kind e in omega arith)
+
+fine-clear : (v : Verdict) (s : Sight) → if-fine v s ≡ Clear → s ≡ Clear
+unfolding kind
+fine-clear Fine s e = e
+fine-clear (Fails r) s e = absurd (let z : _≡_ {A = ℕ} 2 0 = ap kind e in omega arith)
+
+seen-clear : (n : Counts) (l : List ℕ) (f t : Lookup) → seen n l f t ≡ Clear →
+    (c : cell.Cell) × (b : cell.Cell) × (reads : ℕ) × (f ≡ Cell c) × (t ≡ Cell b) × (adaptive n l c b ≡ Open reads)
+unfolding kind
+seen-clear n l (Cell c) (Cell b) e = let (reads, is) = walk-clear (adaptive n l c b) e in (c, b, reads, refl, refl, is)
+seen-clear n l (Cell c) (NoCell r) e = absurd (let z : _≡_ {A = ℕ} 2 0 = ap kind e in omega arith)
+seen-clear n l (NoCell r) t e = absurd (let z : _≡_ {A = ℕ} 2 0 = ap kind e in omega arith)
+
+-- ---- the claims
+
+module _ (n : Counts) (l : List ℕ) (at : Placement) (camera ball : Point) where
+  pub seen-once : SeenOnce n l at camera ball
+  seen-once = record { once = λ r s h k. h .says ∙ sym (k .says) }
+
+  pub as-the-walk : AsTheWalk n l at camera ball
+  as-the-walk =
+      record {
+        same = λ c b r h fine placed from to sees hit.
+            sees .says ∙ sight-is n l at camera ball ∙
+            ap₂ (λ v w. if-fine v (if-fine w (looked n l at camera ball))) fine placed ∙
+            walked n l at camera ball (sym from) refl (sym to) refl (hit .says);
+      }
+
+  pub nothing-in-sight : NothingInSight n l at camera ball
+  nothing-in-sight =
+      record {
+        open-way = λ whole sees.
+            let clear = fine-clear (placement-check at) _ (fine-clear (shape n (length l)) _ (sym (sight-is n l at camera ball) ∙ sym (sees .says))) in
+            let (c, b, reads, from, to, walk) = seen-clear n l _ _ (sym (looked-is n l at camera ball) ∙ clear) in
+            record {
+              from = c;
+              to = b;
+              from-is = from;
+              to-is = to;
+              free = nothing-in-the-way n l c b .open-way whole reads (record { says = sym walk });
+            };
+      }
+
+pub camera-first : (n : Counts) (l : List ℕ) (at : Placement) (camera : Point) → CameraFirst n l at camera
+camera-first n l at camera =
+    record {
+      any-ball = λ r lost ball other s t hs ht. hs .says ∙ alike r lost ball ∙ sym (alike r lost other) ∙ sym (ht .says);
+    }
+  where
+    alike : (r : Refusal) → look-up P n at camera ≡ NoCell r → (ball : Point) →
+        sight n l at camera ball ≡ if-fine (shape n (length l)) (if-fine (placement-check at) (Refused r))
+    alike r lost ball = sight-is n l at camera ball ∙ ap (λ s. if-fine (shape n (length l)) (if-fine (placement-check at) s)) (camera-refused n l at camera ball (sym lost) refl)
+
+-- ---- what document 01 says of an answer tells which it is
+
+sight-back : Told ⊎ (Unit {0} ⊎ Block) → Option Sight
+sight-back (inl t) = Option·map Refused (untold t)
+sight-back (inr (inl u)) = some Clear
+sight-back (inr (inr b)) = some (Blocked b)
+
+told-sight-back : (a : Sight) → sight-back (told-sight a) ≡ some a
+unfolding sight-back
+told-sight-back Clear = refl
+told-sight-back (Blocked b) = refl
+told-sight-back (Refused r) = ap (Option·map Refused) (told-back r)
+
+pub sights-one-to-one : (a b : Sight) → told-sight a ≡ told-sight b → a ≡ b
+sights-one-to-one a b e = Option·some-injective a b (sym (told-sight-back a) ∙ ap sight-back e ∙ told-sight-back b)
+
+-- ---- wrong sights
+
+pub wrong-sights : WrongSights
+unfolding kind sight le lt ofInt div sub
+wrong-sights =
+    record {
+      clear-always = λ h. let z : _≡_ {A = ℕ} 0 1 = ap kind (h .says) in omega arith;
+      refuses-always = λ r h. let z : _≡_ {A = ℕ} 2 1 = ap kind (h .says) in omega arith;
+    }

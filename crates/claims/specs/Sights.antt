@@ -1,0 +1,63 @@
+-- What is claimed of the sight call, by its contract: for every grid, placement, camera and ball. Assumes nothing.
+use Prim.Native.Nat.{ℕ}
+use mathlib.Core.Path.{_≡_}
+use mathlib.Core.Bool.{true, false}
+use mathlib.Core.List.{List, [], _∷_}
+use lib.ListN.{length}
+use Rattle.cells.specs.declared.Cell as cell
+use Rattle.cells.specs.declared.Counts.{Counts}
+use Rattle.cells.specs.declared.End.the-variants.{P, Q}
+use Rattle.cells.specs.declared.Refusal.{Refusal}
+use Rattle.cells.specs.declared.Verdict.the-variants.{Fine}
+use Rattle.lines.specs.Segment.{Share, InOpen}
+use Rattle.grids.specs.Grid.{shape, byte-of, solid}
+use Rattle.grids.specs.Marks.{complete}
+use Rattle.walks.specs.declared.FirstHit.{FirstHit}
+use Rattle.walks.specs.Answers.{AdaptiveHit}
+use Rattle.sights.specs.declared.Lookup.the-variants.{Cell, Refused as NoCell}
+use Rattle.sights.specs.declared.Placement.{Placement}
+use Rattle.sights.specs.declared.Point.{Point}
+use Rattle.sights.specs.Survey.{placement-check, look-up}
+use Rattle.sight.specs.declared.Sight.{Sight}
+use Rattle.sight.specs.declared.Sight.the-variants.{Clear, Refused}
+use Rattle.sight.specs.Sight.{told-by, Sees}
+use Rattle.claims.specs.Starred.{counts, whole-metres, half-metres}
+
+module _ (n : Counts) (l : List ℕ) (at : Placement) where
+  -- 1. One answer for each input.
+  pub record SeenOnce (camera ball : Point) : Type 0 where
+    pub once : (r s : Sight) → Sees n l at camera ball r → Sees n l at camera ball s → r ≡ s
+
+  -- 2. Where both points have a cell, blocked or clear is what the adaptive first-hit call says of the two cells.
+  pub record AsTheWalk (camera ball : Point) : Type 0 where
+    pub same : (c b : cell.Cell) (r : Sight) (h : FirstHit) → shape n (length l) ≡ Fine → placement-check at ≡ Fine →
+        look-up P n at camera ≡ Cell c → look-up Q n at ball ≡ Cell b → Sees n l at camera ball r → AdaptiveHit n l c b h → r ≡ told-by h
+
+  -- camera and ball have cells, and no cell whose open inside the segment between their centres meets is solid
+  pub record OpenWay (camera ball : Point) : Type 0 where
+    pub from : cell.Cell
+    pub to : cell.Cell
+    pub from-is : look-up P n at camera ≡ Cell from
+    pub to-is : look-up Q n at ball ≡ Cell to
+    pub free : (k d : ℕ) (c : cell.Cell) → Share k d → InOpen from to k d c → solid (byte-of n l c) ≡ false
+
+  -- 3. Nothing in the way: marks complete and the sight clear.
+  pub record NothingInSight (camera ball : Point) : Type 0 where
+    pub open-way : complete 3 n l ≡ true → Sees n l at camera ball Clear → OpenWay camera ball
+
+  -- 4. Where the camera's point has no cell, the answer does not depend on the ball.
+  pub record CameraFirst (camera : Point) : Type 0 where
+    pub any-ball : (r : Refusal) → look-up P n at camera ≡ NoCell r → (ball other : Point) (s t : Sight) →
+        Sees n l at camera ball s → Sees n l at camera other t → s ≡ t
+
+-- ---- wrong answers, on the program's venue with its marks: a camera and a ball in the middles of (0,0,0) and (3,1,0)
+
+abbrev pub Claims-there : Sight → Type 0
+Claims-there =
+    Sees (counts 4 2 1) (1 ∷ 1 ∷ 1 ∷ 0 ∷ 1 ∷ 2 ∷ 1 ∷ 0 ∷ []) (record { ox = whole-metres 0; oy = whole-metres 0; oz = whole-metres 0; edge = whole-metres 1 })
+    (record { x = half-metres 1; y = half-metres 1; z = half-metres 1 })
+    (record { x = half-metres 7; y = half-metres 3; z = half-metres 1 })
+
+pub record WrongSights : Type 0 where
+  pub clear-always : Claims-there Clear → ⊥
+  pub refuses-always : (r : Refusal) → Claims-there (Refused r) → ⊥
