@@ -21,7 +21,8 @@ use Rattle.sights.specs.Survey.{placement-check, look-up}
 use Rattle.sight.specs.declared.Sight.{Sight}
 use Rattle.sight.specs.declared.Sight.the-variants.{Clear, Refused}
 use Rattle.sight.specs.Sight.{told-by, Sees}
-use Rattle.claims.specs.Starred.{counts, whole-metres, half-metres}
+use Rattle.claims.specs.Points.{metres, placement, point}
+use Rattle.claims.specs.Starred.{counts, halves}
 
 module _ (n : Counts) (l : List ℕ) (at : Placement) where
   -- 1. One answer for each input.
@@ -52,12 +53,11 @@ module _ (n : Counts) (l : List ℕ) (at : Placement) where
 
 -- ---- wrong answers, on the program's venue with its marks: a camera and a ball in the middles of (0,0,0) and (3,1,0)
 
-abbrev pub Claims-there : Sight → Type 0
-Claims-there =
-    Sees (counts 4 2 1) (1 ∷ 1 ∷ 1 ∷ 0 ∷ 1 ∷ 2 ∷ 1 ∷ 0 ∷ []) (record { ox = whole-metres 0; oy = whole-metres 0; oz = whole-metres 0; edge = whole-metres 1 })
-    (record { x = half-metres 1; y = half-metres 1; z = half-metres 1 })
-    (record { x = half-metres 7; y = half-metres 3; z = half-metres 1 })
+abbrev pub Seen-there : Sight → Type 0
+Seen-there =
+    Sees (counts 4 2 1) (1 ∷ 1 ∷ 1 ∷ 0 ∷ 1 ∷ 2 ∷ 1 ∷ 0 ∷ []) (placement (metres 0) (metres 1)) (point (halves 1) (halves 1) (halves 1))
+    (point (halves 7) (halves 3) (halves 1))
 
 pub record WrongSights : Type 0 where
-  pub clear-always : Claims-there Clear → ⊥
-  pub refuses-always : (r : Refusal) → Claims-there (Refused r) → ⊥
+  pub clear-always : Seen-there Clear → ⊥
+  pub refuses-always : (r : Refusal) → Seen-there (Refused r) → ⊥

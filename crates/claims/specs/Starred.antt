@@ -20,6 +20,7 @@ use Rattle.sights.specs.declared.Point.{Point}
 use Rattle.sights.specs.Quotient.{whole}
 use Rattle.sight.specs.declared.Sight.the-variants.{Blocked as InTheWay}
 use Rattle.sight.specs.Sight.{sight}
+use Rattle.claims.specs.Points.{metres, placement, point}
 use Rattle.claims.specs.Records.{example-venue, example-cells, example-pair}
 
 -- counts
@@ -38,12 +39,9 @@ at-minus x y z = record { x = negℤ (pos x); y = pos y; z = pos z }
 abbrev pub hit : Cell → ℕ → ℕ → ℕ → ℕ → FirstHit
 hit c code num den reads = Blocked (record { cell = c; code = code; place = record { num = num; den = den }; reads = reads })
 
--- k metres, and k halves of a metre
-abbrev pub whole-metres : ℕ → Float
-whole-metres k = whole k
-
-abbrev pub half-metres : ℕ → Float
-half-metres k = div binary64 (whole k) (whole 2)
+-- k halves of a metre
+abbrev pub halves : ℕ → Float
+halves k = div binary64 (whole k) (whole 2)
 
 -- a row: the ends P and Q and the cells of the line between them; counts, bytes, and the bytes marked; a grid, the ends, and what the plain and
 -- the adaptive walk answer; a venue's record, its counts and its cells; a pair's record, P and Q; or a grid,
@@ -89,9 +87,8 @@ record-rows =
 -- the marked program's venue, its origin 0, its edge 1 metre, from the middle of (0,0,0) to the middle of (3,1,0): share 0.5
 abbrev pub sight-rows : List Row
 sight-rows =
-    sees (counts 4 2 1) (1 ∷ 1 ∷ 1 ∷ 0 ∷ 1 ∷ 2 ∷ 1 ∷ 0 ∷ []) (record { ox = whole-metres 0; oy = whole-metres 0; oz = whole-metres 0; edge = whole-metres 1 })
-    (record { x = half-metres 1; y = half-metres 1; z = half-metres 1 }) (record { x = half-metres 7; y = half-metres 3; z = half-metres 1 })
-    0x3fe0_0000_0000_0000 (at 1 1 0) 2 3
+    sees (counts 4 2 1) (1 ∷ 1 ∷ 1 ∷ 0 ∷ 1 ∷ 2 ∷ 1 ∷ 0 ∷ []) (placement (metres 0) (metres 1)) (point (halves 1) (halves 1) (halves 1))
+    (point (halves 7) (halves 3) (halves 1)) 0x3fe0_0000_0000_0000 (at 1 1 0) 2 3
     ∷ record-rows
 
 abbrev pub table : List Row
