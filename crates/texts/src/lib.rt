@@ -81,6 +81,7 @@ pub fn put_hit(
 ) -> usize
     requires { ⌜ line-room ≤ length (now out) ⌝ }
     ensures { λ r. ⌜ PutsLine (hit-line k w x y z code reads) (now (out .entry)) r (now (out .exit)) ⌝ }
+    ensures { λ r. ⌜ r ≤ line-room ⌝ }
 {
     let said = put_walk(out, k, w);
     let hit = put_word(out, said, b"hit", SPACE);
@@ -93,6 +94,7 @@ pub fn put_hit(
 pub fn put_clear(out: &mut [u8], k: u64, w: Walker, reads: u32) -> usize
     requires { ⌜ line-room ≤ length (now out) ⌝ }
     ensures { λ r. ⌜ PutsLine (clear-line k w reads) (now (out .entry)) r (now (out .exit)) ⌝ }
+    ensures { λ r. ⌜ r ≤ line-room ⌝ }
 {
     let said = put_walk(out, k, w);
     let clear = put_word(out, said, b"clear", SPACE);

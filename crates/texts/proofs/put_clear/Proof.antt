@@ -29,9 +29,12 @@ returns c =
     let room = start .pre in
     let said = walked .put-walk .ensures .1 in
     let begun = then-puts (omega arith) (walked .put-walk .ensures .0) (worded .put-word .ensures) in
-    front-line
-    (same-piece (clear-pieces (start .args .k) (start .args .w) (start .args .reads))
-    (then-puts (omega (arith, worded .put-word .ensures .says)) begun (numbered .put-number .ensures .0)))
+    let after = worded .put-word .ensures .says in (
+      front-line
+          (same-piece (clear-pieces (start .args .k) (start .args .w) (start .args .reads))
+          (then-puts (omega arith) begun (numbered .put-number .ensures .0))),
+      omega (arith, numbered .put-number .ensures .1),
+    )
 
 pub put-clear-spec : {M : Type 1} → statement M
 put-clear-spec =

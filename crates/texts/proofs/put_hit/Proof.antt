@@ -39,16 +39,18 @@ returns c =
     let after-walk = walked .put-walk .ensures .1 in
     let after-word = worded .put-word .ensures .says in
     let after-cell = celled .put-cell .ensures .1 in
-    let after-code = coded .put-number .ensures .1 in
-    front-line
-    (same-piece (hit-pieces (a .k) (a .w) (a .x) (a .y) (a .z) (a .code) (a .reads))
-    (then-puts (omega arith)
-    (then-puts (omega arith)
-    (then-puts (omega arith)
-    (then-puts (omega arith) (walked .put-walk .ensures .0) (worded .put-word .ensures))
-    (celled .put-cell .ensures .0))
-    (coded .put-number .ensures .0))
-    (numbered .put-number2 .ensures .0)))
+    let after-code = coded .put-number .ensures .1 in (
+      front-line
+          (same-piece (hit-pieces (a .k) (a .w) (a .x) (a .y) (a .z) (a .code) (a .reads))
+          (then-puts (omega arith)
+          (then-puts (omega arith)
+          (then-puts (omega arith)
+          (then-puts (omega arith) (walked .put-walk .ensures .0) (worded .put-word .ensures))
+          (celled .put-cell .ensures .0))
+          (coded .put-number .ensures .0))
+          (numbered .put-number2 .ensures .0))),
+      omega (arith, numbered .put-number2 .ensures .1),
+    )
 
 pub put-hit-spec : {M : Type 1} → statement M
 put-hit-spec =

@@ -1,0 +1,90 @@
+-- Each test is the definition's, in its order. Assumes nothing.
+use mathlib.Core.Path.{refl, sym, _∙_}
+use native.Mathlib.Omega.{arith}
+use borrow.Author.Tests.{eq-eqb, ne-eqb}
+use Rattle.program.specs.Program.{pair-said}
+use Rattle.program.proofs.Front.{no-text, counts}
+use borrow.Author.Needs.{needs}
+use Rattle.program.proofs.pair_step.Statement.{statement}
+use Rattle.program.proofs.pair_step.Tie as tie
+
+returns : tie.Need-returns
+unfolding pair-said
+returns c = rw (eq-eqb _ _ (c .if1 .taken)) (record { puts = no-text _; more = refl }, (omega arith, refl))
+
+beyond-requires : tie.Need-beyond-requires
+beyond-requires c κs = search needs
+
+pair-refused-requires : tie.Need-pair-refused-requires
+pair-refused-requires c κs = search needs
+
+same-length : tie.Need-same-length
+same-length c = search needs
+
+returns-2 : tie.Need-returns-2
+unfolding pair-said
+returns-2 c =
+    let said = c .before .before .pair-refused .ensures in
+    rw (ne-eqb _ _ (c .before .before .before .before .before .before .if1 .left), sym (c .before .before .before .before .before .beyond .ensures) ∙ c .before .before .before .before .if2 .taken) (said, counts (said .puts))
+
+read-pair-requires : tie.Need-read-pair-requires
+read-pair-requires c κs = search needs
+
+enum-known-e : tie.Need-enum-known-e
+enum-known-e c = search needs
+
+pair-said-requires : tie.Need-pair-said-requires
+pair-said-requires c κs = search needs
+
+enum-known-r : tie.Need-enum-known-r
+enum-known-r c = search needs
+
+pair-refused-requires-2 : tie.Need-pair-refused-requires-2
+pair-refused-requires-2 c κs = search needs
+
+same-length-2 : tie.Need-same-length-2
+same-length-2 c = search needs
+
+returns-3 : tie.Need-returns-3
+unfolding pair-said
+returns-3 c =
+    let said = c .before .before .pair-said .ensures in
+    rw (
+      ne-eqb _ _ (c .before .before .before .before .before .before .before .before .before .before .if1 .left),
+      sym (c .before .before .before .before .before .before .before .before .before .beyond .ensures) ∙ c .before .before .before .before .before .before .before .before .if2 .left,
+      sym (c .before .before .before .before .before .before .before .read-pair .ensures) ∙ c .before .before .before .before .before .e .given .1,
+    )
+    (said, counts (said .puts))
+
+same-length-3 : tie.Need-same-length-3
+same-length-3 c = search needs
+
+returns-4 : tie.Need-returns-4
+unfolding pair-said
+returns-4 c =
+    let said = c .before .before .pair-refused2 .ensures in
+    rw (
+      ne-eqb _ _ (c .before .before .before .before .before .before .before .before .before .before .if1 .left),
+      sym (c .before .before .before .before .before .before .before .before .before .beyond .ensures) ∙ c .before .before .before .before .before .before .before .before .if2 .left,
+      sym (c .before .before .before .before .before .before .before .read-pair .ensures) ∙ c .before .before .before .before .before .r .given .1,
+    )
+    (said, counts (said .puts))
+
+pub pair-step-spec : {M : Type 1} → statement M
+pair-step-spec =
+    tie.close
+    (tie.spec
+    returns
+    beyond-requires
+    pair-refused-requires
+    same-length
+    returns-2
+    read-pair-requires
+    enum-known-e
+    pair-said-requires
+    enum-known-r
+    pair-refused-requires-2
+    same-length-2
+    returns-3
+    same-length-3
+    returns-4)

@@ -1,0 +1,66 @@
+-- The test of the length, then the answer of the reading, as the definition has them. Assumes nothing.
+use mathlib.Core.Path.{refl, sym, _∙_}
+use native.Mathlib.Omega.{arith}
+use Rattle.program.specs.Program.{venue-said}
+use Rattle.program.proofs.Front.{no-text, counts}
+use borrow.Author.Needs.{needs}
+use Rattle.program.proofs.venue_step.Statement.{statement}
+use Rattle.program.proofs.venue_step.Tie as tie
+
+beyond-requires : tie.Need-beyond-requires
+beyond-requires c κs = search needs
+
+venue-refused-requires : tie.Need-venue-refused-requires
+venue-refused-requires c κs = search needs
+
+same-length : tie.Need-same-length
+same-length c = search needs
+
+returns : tie.Need-returns
+unfolding venue-said
+returns c =
+    let said = c .before .before .venue-refused .ensures in
+    rw (sym (c .before .before .before .before .before .beyond .ensures) ∙ c .before .before .before .before .if1 .taken) (said, counts (said .puts))
+
+read-venue-requires : tie.Need-read-venue-requires
+read-venue-requires c κs = search needs
+
+enum-told : tie.Need-enum-told
+enum-told c = search needs
+
+enum-known-r : tie.Need-enum-known-r
+enum-known-r c = search needs
+
+venue-refused-requires-2 : tie.Need-venue-refused-requires-2
+venue-refused-requires-2 c κs = search needs
+
+returns-2 : tie.Need-returns-2
+unfolding venue-said
+returns-2 c =
+    rw (sym (c .before .before .before .before .beyond .ensures) ∙ c .before .before .before .if1 .left, sym (c .before .before .read-venue .ensures) ∙ c .enum-told .given .1)
+    (record { puts = no-text _; more = refl }, (omega arith, refl))
+
+same-length-2 : tie.Need-same-length-2
+same-length-2 c = search needs
+
+returns-3 : tie.Need-returns-3
+unfolding venue-said
+returns-3 c =
+    let said = c .before .before .venue-refused2 .ensures in
+    rw (sym (c .before .before .before .before .before .before .before .before .before .beyond .ensures) ∙ c .before .before .before .before .before .before .before .before .if1 .left, sym (c .before .before .before .before .before .before .before .read-venue .ensures) ∙ c .before .before .before .before .before .r .given .1) (said, counts (said .puts))
+
+pub venue-step-spec : {M : Type 1} → statement M
+venue-step-spec =
+    tie.close
+    (tie.spec
+    beyond-requires
+    venue-refused-requires
+    same-length
+    returns
+    read-venue-requires
+    enum-told
+    enum-known-r
+    venue-refused-requires-2
+    returns-2
+    same-length-2
+    returns-3)

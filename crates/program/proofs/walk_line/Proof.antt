@@ -1,0 +1,55 @@
+-- By the case of the answer. Assumes nothing.
+use Rattle.program.specs.Program.{walk-line}
+use Rattle.program.proofs.Front.{no-text}
+use native.Mathlib.Omega.{arith}
+use borrow.Author.Needs.{needs}
+use Rattle.program.proofs.walk_line.Statement.{statement}
+use Rattle.program.proofs.walk_line.Tie as tie
+
+enum-known-a : tie.Need-enum-known-a
+enum-known-a c = search needs
+
+put-clear-requires : tie.Need-put-clear-requires
+put-clear-requires c κs = search needs
+
+enum-known-a-2 : tie.Need-enum-known-a-2
+enum-known-a-2 c = search needs
+
+hit-line-requires : tie.Need-hit-line-requires
+hit-line-requires c κs = search needs
+
+enum-told : tie.Need-enum-told
+enum-told c = search needs
+
+same-length : tie.Need-same-length
+same-length c = search needs
+
+returns : tie.Need-returns
+unfolding walk-line
+returns c = rw (c .before .before .before .before .before .a .given .1) (c .before .before .put-clear .ensures)
+
+same-length-2 : tie.Need-same-length-2
+same-length-2 c = search needs
+
+returns-2 : tie.Need-returns-2
+unfolding walk-line
+returns-2 c = rw (c .before .before .before .before .before .a2 .given .1) (c .before .before .hit-line .ensures)
+
+returns-3 : tie.Need-returns-3
+unfolding walk-line
+returns-3 c = rw (c .enum-told .given .1) (no-text _, omega arith)
+
+pub walk-line-spec : {M : Type 1} → statement M
+walk-line-spec =
+    tie.close
+    (tie.spec
+    enum-known-a
+    put-clear-requires
+    enum-known-a-2
+    hit-line-requires
+    enum-told
+    same-length
+    returns
+    same-length-2
+    returns-2
+    returns-3)

@@ -1,0 +1,142 @@
+-- Document 01, "Records and the program": what the program writes, from all the bytes of its input. Assumes nothing.
+use Prim.Native.Nat.{ℕ, zero, suc, _+_}
+use mathlib.Core.Path.{_≡_}
+use mathlib.Core.Bool.{Bool, true, false, cond}
+use mathlib.Core.List.{List, [], _++_}
+use lib.Dec.{ltb, eqb}
+use lib.IntN.{ℤ, pos, negsuc}
+use lib.ListN.{length, take, drop}
+use Rattle.cells.specs.declared.Counts.{Counts}
+use Rattle.cells.specs.declared.Refusal.{Refusal}
+use Rattle.cells.specs.declared.Refusal.the-variants.{Room, Record}
+use Rattle.cells.specs.declared.Verdict.{Verdict}
+use Rattle.cells.specs.declared.Verdict.the-variants.{Fine, Refused}
+use Rattle.cells.specs.Refusals.{told}
+use Rattle.walks.specs.declared.FirstHit.{FirstHit}
+use Rattle.walks.specs.declared.FirstHit.the-variants.{Clear, Hit as Blocked, Refused as NotWalked}
+use Rattle.walks.specs.Answers.{walk-check, plain, adaptive}
+use Rattle.records.specs.declared.VenueRead.{VenueRead}
+use Rattle.records.specs.declared.VenueRead.the-variants.{Read, Refused as NoVenue}
+use Rattle.records.specs.declared.Pair.{Pair}
+use Rattle.records.specs.declared.PairRead.{PairRead}
+use Rattle.records.specs.declared.PairRead.the-variants.{Read as ReadPair, Refused as NoPair}
+use Rattle.records.specs.Records.{length-field, announced, venue-read, venue-cells, pair-read}
+use Rattle.texts.specs.declared.Walker.{Walker}
+use Rattle.texts.specs.declared.Walker.the-variants.{Plain, Adaptive}
+use Rattle.texts.specs.Text.{hit-line, clear-line, pair-refused-line, venue-refused-line, line-room, PutsLine}
+use Rattle.program.specs.declared.Step.{Step}
+
+-- ---- one record
+
+-- what is written for a record, and whether the program goes on to the next
+pub record Said : Type 0 where
+  pub text : List ℕ
+  pub more : Bool
+
+-- "A venue length above 65,532", "a pair length above 255"
+abbrev pub venue-most : ℕ
+venue-most = 65532
+
+abbrev pub pair-most : ℕ
+pair-most = 255
+
+-- "straight after the four bytes": they are there, and announce more than that
+unfoldable pub beyond : ℕ → List ℕ → Bool
+beyond most s = cond (ltb (length s) length-field) false (ltb most (announced s))
+
+-- ---- the venue
+
+-- "A refused venue prints `G refused N` and ends."
+abbrev pub venue-refused : Refusal → Said
+venue-refused r = record { text = venue-refused-line (told r .number); more = false }
+
+abbrev pub said-of-venue : VenueRead → Said
+said-of-venue (Read v) = record { text = []; more = true }
+said-of-venue (NoVenue r) = venue-refused r
+
+-- "A venue length above 65,532 is refused 6"
+unfoldable pub venue-said : List ℕ → Said
+venue-said s = cond (beyond venue-most s) (venue-refused Room) (said-of-venue (venue-read s))
+
+-- ---- a pair
+
+-- "prints `K refused N`", and whether it goes on
+abbrev pub pair-refused : ℕ → Refusal → Bool → Said
+pair-refused k r more = record { text = pair-refused-line k (told r .number); more = more }
+
+-- a coordinate of a hit: it lies in the grid, so none is negative
+abbrev pub coordinate : ℤ → ℕ
+coordinate (pos v) = v
+coordinate (negsuc v) = 0
+
+-- "K, P (plain) or A (adaptive), then `hit x y z code reads` or `clear reads`"
+unfoldable pub walk-line : ℕ → Walker → FirstHit → List ℕ
+walk-line k w (Clear reads) = clear-line k w reads
+walk-line k w (Blocked h) = hit-line k w (coordinate (h .cell .x)) (coordinate (h .cell .y)) (coordinate (h .cell .z)) (h .code) (h .reads)
+walk-line k w (NotWalked r) = []
+
+-- "after 5 it goes on"; "Otherwise two lines a pair"
+abbrev pub said-of-walks : ℕ → Verdict → FirstHit → FirstHit → Said
+said-of-walks k (Refused r) a b = pair-refused k r true
+said-of-walks k Fine a b = record { text = walk-line k Plain a ++ walk-line k Adaptive b; more = true }
+
+module _ (n : Counts) (cells : List ℕ) (k : ℕ) where
+  -- "after 10 or 11 the program ends"
+  abbrev pub said-of-pair : PairRead → Said
+  said-of-pair (NoPair r) = pair-refused k r false
+  said-of-pair (ReadPair e) = said-of-walks k (walk-check n (length cells) (e .p) (e .q)) (plain n cells (e .p) (e .q)) (adaptive n cells (e .p) (e .q))
+
+  -- "Input that ends where a pair would begin ends it silently"; "a pair length above 255 is refused 10"
+  unfoldable pub pair-said : List ℕ → Said
+  unfolding walk-line
+  pair-said s =
+      cond (eqb (length s) 0) (record { text = []; more = false })
+      (cond (beyond pair-most s) (pair-refused k Record false) (said-of-pair (pair-read s)))
+
+-- ---- the whole output
+
+-- what follows the record at the front
+abbrev pub after-record : List ℕ → List ℕ
+after-record s = drop (length-field + announced s) s
+
+-- pair k stands at the front of what is left; as many turns are enough as bytes are left
+unfoldable pub pairs : ℕ → Counts → List ℕ → ℕ → List ℕ → List ℕ
+unfolding pair-said
+pairs zero n cells k s = []
+pairs (suc turns) n cells k s =
+    let said : Said = pair-said n cells k s in
+    said .text ++ cond (said .more) (pairs turns n cells (suc k) (after-record s)) []
+
+-- "K counting pairs from 1"
+abbrev pub after-venue : VenueRead → List ℕ → List ℕ
+after-venue (Read v) s = pairs (length s) (v .counts) (venue-cells s) 1 (after-record s)
+after-venue (NoVenue r) s = []
+
+-- "The program reads one venue record and then pairs from standard input."
+unfoldable pub output : List ℕ → List ℕ
+unfolding venue-said pairs
+output s = venue-said s .text ++ cond (venue-said s .more) (after-venue (venue-read s) s) []
+
+-- ---- frames and steps
+
+-- what the program reads for a record, of what is left of its input: the four bytes of the length and, unless that is beyond the most, as many
+-- as it announces; or what there is, where the input ends before that
+unfoldable pub frame-length : ℕ → List ℕ → ℕ
+unfolding beyond
+frame-length most s = length-field + cond (beyond most s) 0 (announced s)
+
+abbrev pub frame : ℕ → List ℕ → List ℕ
+frame most s = take (frame-length most s) s
+
+-- and what is left after it
+abbrev pub after-frame : ℕ → List ℕ → List ℕ
+after-frame most s = drop (frame-length most s) s
+
+-- the contract of a step: the text stands at the front of the lent bytes, and the rest is as it was
+pub record Says (said : Said) (entry : List ℕ) (r : Step) (exit : List ℕ) : Type 0 where
+  pub puts : PutsLine (said .text) entry (r .long) exit
+  pub more : r .more ≡ said .more
+
+-- room for two lines
+abbrev pub text-room : ℕ
+text-room = line-room + line-room
