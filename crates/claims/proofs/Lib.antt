@@ -8,3 +8,4 @@ pub mod Points
 pub mod Sights
 pub mod Records
 pub mod Texts
+pub mod Program

@@ -30,11 +30,12 @@ use Rattle.walks.specs.declared.FirstHit.the-variants.{Clear, Hit as Blocked, R
 use Rattle.walks.specs.Walks.{hit-at}
 use Rattle.walks.specs.Answers.{entered-at, walk-check, answer-by, plain, adaptive, PlainHit, AdaptiveHit, told-hit}
 use Rattle.walks.proofs.Numbers.{plain-end, adaptive-end, plain-reads, adaptive-reads}
-use Rattle.walks.proofs.Inside.{accepted}
+use Rattle.walks.specs.Safe.{InGrid}
+use Rattle.walks.proofs.Inside.{accepted, six-inside}
 use Rattle.walks.proofs.Safe.{complete-safe}
 use Rattle.walks.proofs.Places.{never-falls}
 use Rattle.walks.proofs.Story.{answer-at, plain-answer, adaptive-answer, plain-stops, adaptive-stops, plain-below, adaptive-below, no-earlier, not-invented, ends-alike, reads-no-more, plain-clear, plain-clear-reads, adaptive-clear-most, adaptive-clear-least}
-use Rattle.claims.specs.Story.{SameStory, hits, clears, refusals, OneStory, NoLater, NeverInvented, NothingInTheWay, Reads, WalksEnd, MarkedFirst, HitOnce, WrongWalks}
+use Rattle.claims.specs.Story.{SameStory, hits, clears, refusals, OneStory, NoLater, NeverInvented, NothingInTheWay, Reads, WalksEnd, HitInside, MarkedFirst, HitOnce, WrongWalks}
 
 -- what an answer carries
 hit-or : Hit → FirstHit → Hit
@@ -110,6 +111,19 @@ module _ (n : Counts) (l : List ℕ) (p q : Cell) where
           (Fine ≡ Fine) × (hit-at n l (six-cell rule-1 p q e) ≡ false) × (k ≡ r)
       by there true b h = absurd (let z : _≡_ {A = ℕ} 1 0 = ap kind h in omega arith)
       by there false b h = (refl, b, ap (reads-or k) h)
+
+  inside-at : (h : Hit) (e r : ℕ) → e ≤ total (differences p q) → Blocked h ≡ answer-by check (answer-at n l p q e r) → InGrid n (h .cell)
+  inside-at h e r le is =
+      let (fine, hit, there) = hit-told check h e r is in
+      let a = accepted n (length l) p q fine in
+      subst (InGrid n) (sym (ap (λ k. k .cell) there)) (six-inside n p q (a .p-in) (a .q-in) e le)
+
+  pub hit-inside : HitInside n l p q
+  hit-inside =
+      record {
+        plain = λ h a. inside-at h _ _ (plain-below n l p q) (a .says ∙ plain-answer n l p q);
+        adaptive = λ h a. inside-at h _ _ (adaptive-below n l p q) (a .says ∙ adaptive-answer n l p q);
+      }
 
   pub never-invented : NeverInvented n l p q
   never-invented =

@@ -12,6 +12,7 @@ use Rattle.lines.specs.Preference.{rule-1}
 use Rattle.lines.specs.Lines.{six-line, line-26}
 use Rattle.grids.specs.Marks.{marked}
 use Rattle.records.specs.Records.{venue-read, venue-cells, told-venue, pair-read, told-pair}
+use Rattle.program.specs.Program.{output}
 use Rattle.walks.specs.declared.FirstHit.{FirstHit}
 use Rattle.walks.specs.declared.FirstHit.the-variants.{Clear, Hit as Blocked}
 use Rattle.walks.specs.Answers.{plain, adaptive}
@@ -22,6 +23,7 @@ use Rattle.sight.specs.declared.Sight.the-variants.{Blocked as InTheWay}
 use Rattle.sight.specs.Sight.{sight}
 use Rattle.claims.specs.Points.{metres, placement, point}
 use Rattle.claims.specs.Records.{example-venue, example-cells, example-pair}
+use Rattle.claims.specs.Program.{example-input, example-output, marked-input, marked-output}
 
 -- counts
 abbrev pub counts : ℕ → ℕ → ℕ → Counts
@@ -44,8 +46,8 @@ abbrev pub halves : ℕ → Float
 halves k = div binary64 (whole k) (whole 2)
 
 -- a row: the ends P and Q and the cells of the line between them; counts, bytes, and the bytes marked; a grid, the ends, and what the plain and
--- the adaptive walk answer; a venue's record, its counts and its cells; a pair's record, P and Q; or a grid,
--- its placement, camera and ball, and the 64 bits of the share, the cell, code and reads of what is in the way
+-- the adaptive walk answer; a venue's record, its counts and its cells; a pair's record, P and Q; the program's whole
+-- input and output; or a grid, its placement, camera and ball, and the 64 bits of the share, the cell, code and reads of what is in the way
 pub data Row : Type 0 where
   six : Cell → Cell → List Cell → Row
   twenty-six : Cell → Cell → List Cell → Row
@@ -55,6 +57,7 @@ pub data Row : Type 0 where
   venue : List ℕ → Counts → List ℕ → Row
   venue-part : List ℕ → List ℕ → Row
   pair : List ℕ → Cell → Cell → Row
+  writes : List ℕ → List ℕ → Row
   sees : Counts → List ℕ → Placement → Point → Point → ℕ → Cell → ℕ → ℕ → Row
 
 -- what a row says
@@ -69,6 +72,7 @@ Holds (venue-part s cells) = venue-cells s ≡ cells
 Holds (sees n l place camera ball share c code reads) =
     sight n l place camera ball ≡ InTheWay (record { share = ofBits binary64 share; cell = c; code = code; reads = reads })
 Holds (pair s p q) = told-pair (pair-read s) ≡ inr (p, q)
+Holds (writes s out) = output s ≡ out
 
 infixr 20 _and_
 -- every row of a table holds
@@ -76,13 +80,17 @@ pub data Every : List Row → Type 0 where
   no-more : Every []
   _and_ : {row : Row} {rows : List Row} → Holds row → Every rows → Every (row ∷ rows)
 
+-- the program on that input, and on the marked venue
+abbrev pub program-rows : List Row
+program-rows = writes example-input example-output ∷ writes marked-input marked-output ∷ []
+
 -- the program's input, `0000000F 01 0004 0002 0001 0000000000020000` and `0000000D 01 0000 0000 0000 0003 0001 0000`
 abbrev pub record-rows : List Row
 record-rows =
     venue example-venue (counts 4 2 1) example-cells
     ∷ venue-part example-venue example-cells
     ∷ pair example-pair (at 0 0 0) (at 3 1 0)
-    ∷ []
+    ∷ program-rows
 
 -- the marked program's venue, its origin 0, its edge 1 metre, from the middle of (0,0,0) to the middle of (3,1,0): share 0.5
 abbrev pub sight-rows : List Row

@@ -21,6 +21,7 @@ use Rattle.walks.specs.declared.Hit.{Hit}
 use Rattle.walks.specs.declared.FirstHit.{FirstHit}
 use Rattle.walks.specs.declared.FirstHit.the-variants.{Clear, Hit as Blocked, Refused}
 use Rattle.walks.specs.Walks.{hit-at, plain-walk, adaptive-walk}
+use Rattle.walks.specs.Safe.{InGrid}
 use Rattle.walks.specs.Answers.{last-of, PlainHit, AdaptiveHit}
 use Rattle.claims.specs.Starred.{at}
 
@@ -57,6 +58,11 @@ pub record NothingInTheWay (n : Counts) (l : List ℕ) (p q : Cell) : Type 0 whe
 pub record Reads (n : Counts) (l : List ℕ) (p q : Cell) : Type 0 where
   pub plain : (reads : ℕ) → PlainHit n l p q (Clear reads) → reads ≡ total (differences p q) + 1
   pub adaptive : (reads : ℕ) → AdaptiveHit n l p q (Clear reads) → (longest (differences p q) + 1 ≤ reads) × (reads ≤ total (differences p q) + 1)
+
+-- A hit lies in the grid.
+pub record HitInside (n : Counts) (l : List ℕ) (p q : Cell) : Type 0 where
+  pub plain : (h : Hit) → PlainHit n l p q (Blocked h) → InGrid n (h .cell)
+  pub adaptive : (h : Hit) → AdaptiveHit n l p q (Blocked h) → InGrid n (h .cell)
 
 -- 4. Each walk ends: its last cell is solid, or Q. (The number of steps that bounds its definition is never used up.)
 pub record WalksEnd (n : Counts) (l : List ℕ) (p q : Cell) : Type 0 where

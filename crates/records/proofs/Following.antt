@@ -80,32 +80,37 @@ module _ (s : List ℕ) where
   unfolding pair-read pair-check
   pair-long w long = rw (w, long)
 
-module _ (s rest : List ℕ) (exact : length s ≡ length-field + announced s) where
+-- what stands in the first bytes
+module _ (s rest : List ℕ) where
   same : (i : ℕ) → i < length s → getD (s ++ rest) i 0 ≡ getD s i 0
   same i h = List·getD-append s rest 0 i h
 
   same-two : (i : ℕ) → i + 2 ≤ length s → two-at (s ++ rest) i ≡ two-at s i
   same-two i h = ap₂ (λ a b. a * 256 + b) (same i (omega arith)) (same (i + 1) (omega arith))
 
-  same-announced : announced (s ++ rest) ≡ announced s
-  same-announced = ap₂ (λ a b. a * 65536 + b) (same-two 0 (omega arith)) (same-two 2 (omega arith))
+  pub same-announced : length-field ≤ length s → announced (s ++ rest) ≡ announced s
+  same-announced four = ap₂ (λ a b. a * 65536 + b) (same-two 0 (omega arith)) (same-two 2 (omega arith))
+
+module _ (s rest : List ℕ) (exact : length s ≡ length-field + announced s) where
+  announces : announced (s ++ rest) ≡ announced s
+  announces = same-announced s rest (omega arith)
 
   longer : length-field + announced (s ++ rest) ≤ length (s ++ rest)
-  longer = omega (arith, same-announced, length-append s rest)
+  longer = omega (arith, announces, length-append s rest)
 
   same-version : 1 ≤ announced s → version-of (s ++ rest) ≡ version-of s
-  same-version some = same length-field (omega arith)
+  same-version some = same s rest length-field (omega arith)
 
   same-counts : (i : ℕ) → i + 6 ≤ length s → counts-at (s ++ rest) i ≡ counts-at s i
-  same-counts i h = rw (same-two i (omega arith), same-two (i + 2) (omega arith), same-two (i + 4) (omega arith))
+  same-counts i h = rw (same-two s rest i (omega arith), same-two s rest (i + 2) (omega arith), same-two s rest (i + 4) (omega arith))
 
   same-cell : (i : ℕ) → i + 6 ≤ length s → cell-in (s ++ rest) i ≡ cell-in s i
-  same-cell i h = rw (same-two i (omega arith), same-two (i + 2) (omega arith), same-two (i + 4) (omega arith))
+  same-cell i h = rw (same-two s rest i (omega arith), same-two s rest (i + 2) (omega arith), same-two s rest (i + 4) (omega arith))
 
   same-venue : 1 ≤ announced s → venue-head (version-of s) ≤ announced s → venue-in (s ++ rest) ≡ venue-in s
   same-venue some head =
       let least = head-least (version-of s) in
-      rw (same-version some, same-announced, same-counts (counts-from (version-of s)) (omega arith))
+      rw (same-version some, announces, same-counts (counts-from (version-of s)) (omega arith))
 
   same-pair : announced s ≡ pair-length (version-of s) → pair-in (s ++ rest) ≡ pair-in s
   same-pair long =
@@ -118,25 +123,25 @@ module _ (s rest : List ℕ) (exact : length s ≡ length-field + announced s) w
     there = all-there s some (omega arith)
 
     there-too : whole (s ++ rest) ≡ Fine
-    there-too = all-there (s ++ rest) (omega (arith, same-announced)) longer
+    there-too = all-there (s ++ rest) (omega (arith, announces)) longer
 
     venue-by-length : (b : Bool) → ltb (announced s) (venue-head (version-of s)) ≡ b → venue-read (s ++ rest) ≡ venue-read s
     venue-by-length true short =
-        venue-short (s ++ rest) there-too (ap₂ (λ a v. ltb a (venue-head v)) same-announced (same-version some) ∙ short)
+        venue-short (s ++ rest) there-too (ap₂ (λ a v. ltb a (venue-head v)) announces (same-version some) ∙ short)
         ∙ ap (λ v. NoVenue (short-refusal (venue-version v))) (same-version some)
         ∙ sym (venue-short s there short)
     venue-by-length false long =
-        venue-long (s ++ rest) there-too (ap₂ (λ a v. ltb a (venue-head v)) same-announced (same-version some) ∙ long)
+        venue-long (s ++ rest) there-too (ap₂ (λ a v. ltb a (venue-head v)) announces (same-version some) ∙ long)
         ∙ ap₂ by-head (same-version some) (same-venue some (ltb-false _ _ long))
         ∙ sym (venue-long s there long)
 
     pair-by-length : (b : Bool) → eqb (announced s) (pair-length (version-of s)) ≡ b → pair-read (s ++ rest) ≡ pair-read s
     pair-by-length false short =
-        pair-short (s ++ rest) there-too (ap₂ (λ a v. eqb a (pair-length v)) same-announced (same-version some) ∙ short)
+        pair-short (s ++ rest) there-too (ap₂ (λ a v. eqb a (pair-length v)) announces (same-version some) ∙ short)
         ∙ ap (λ v. NoPair (short-refusal (pair-version v))) (same-version some)
         ∙ sym (pair-short s there short)
     pair-by-length true long =
-        pair-long (s ++ rest) there-too (ap₂ (λ a v. eqb a (pair-length v)) same-announced (same-version some) ∙ long)
+        pair-long (s ++ rest) there-too (ap₂ (λ a v. eqb a (pair-length v)) announces (same-version some) ∙ long)
         ∙ ap₂ pair-by-version (same-version some) (same-pair (eqb-true _ _ long))
         ∙ sym (pair-long s there long)
 
@@ -145,7 +150,7 @@ module _ (s rest : List ℕ) (exact : length s ≡ length-field + announced s) w
       → (1 ≤ announced s → f (s ++ rest) ≡ f s) → (b : Bool) → eqb (announced s) 0 ≡ b → f (s ++ rest) ≡ f s
   by-announced f refused none some true e =
       let zero = eqb-true _ _ e in
-      none (s ++ rest) (none-announced (s ++ rest) (omega (arith, length-append s rest)) (same-announced ∙ zero))
+      none (s ++ rest) (none-announced (s ++ rest) (omega (arith, length-append s rest)) (announces ∙ zero))
       ∙ sym (none s (none-announced s (omega arith) zero))
   by-announced f refused none some false e = some (pos-of-ne-zero (eqb-false _ _ e))
 

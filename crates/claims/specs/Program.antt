@@ -1,0 +1,76 @@
+-- What is claimed of the program `sightlines`: for all steps that meet their contracts. Assumes nothing.
+use Prim.Native.Nat.{ℕ, suc}
+use mathlib.Core.Path.{_≡_}
+use mathlib.Core.Bool.{true, false}
+use mathlib.Core.List.{List, [], _∷_, _++_}
+use lib.ListN.{take}
+use Rattle.cells.specs.declared.Counts.{Counts}
+use Rattle.records.specs.declared.Venue.{Venue}
+use Rattle.records.specs.declared.VenueRead.the-variants.{Read}
+use Rattle.program.specs.declared.Step.{Step}
+use Rattle.program.specs.Program.{venue-most, pair-most, venue-said, pair-said, output, frame, after-frame, Says}
+use Rattle.claims.specs.Records.{ReadsVenue, GivesCells, example-venue, example-pair}
+
+-- ---- a run of the program
+
+-- Pair by pair: the next frame of what is left of the input is handed to the step, and what it puts is written; it says whether there is a next.
+pub data Pairs (n : Counts) (cells : List ℕ) : ℕ → List ℕ → List ℕ → Type 0 where
+  last : {k : ℕ} {s entry exit : List ℕ} {r : Step} → Says (pair-said n cells k (frame pair-most s)) entry r exit → r .more ≡ false
+      → Pairs n cells k s (take (r .long) exit)
+  next : {k : ℕ} {s entry exit out : List ℕ} {r : Step} → Says (pair-said n cells k (frame pair-most s)) entry r exit → r .more ≡ true
+      → Pairs n cells (suc k) (after-frame pair-most s) out → Pairs n cells k s (take (r .long) exit ++ out)
+
+-- The venue's frame first, and where it is taken the pairs, with the counts and the cells that reading the frame gives.
+pub data Runs : List ℕ → List ℕ → Type 0 where
+  ends : {s entry exit : List ℕ} {r : Step} → Says (venue-said (frame venue-most s)) entry r exit → r .more ≡ false → Runs s (take (r .long) exit)
+  begins : {s entry exit cells out : List ℕ} {r : Step} {v : Venue} → Says (venue-said (frame venue-most s)) entry r exit → r .more ≡ true
+      → ReadsVenue (frame venue-most s) (Read v) → GivesCells (frame venue-most s) cells → Pairs (v .counts) cells 1 (after-frame venue-most s) out
+      → Runs s (take (r .long) exit ++ out)
+
+-- ---- the claims
+
+-- The steps over the frames of an input give that output, and there is such a run.
+pub record Writes (s : List ℕ) : Type 0 where
+  pub only : (out : List ℕ) → Runs s out → out ≡ output s
+  pub some : Runs s (output s)
+
+-- One answer and one final memory for each frame.
+pub record OneStep (entry : List ℕ) : Type 0 where
+  pub venue : (frame : List ℕ) (r t : Step) (x y : List ℕ) → Says (venue-said frame) entry r x → Says (venue-said frame) entry t y → (r ≡ t) × (x ≡ y)
+  pub pair : (n : Counts) (cells : List ℕ) (k : ℕ) (frame : List ℕ) (r t : Step) (x y : List ℕ) → Says (pair-said n cells k frame) entry r x
+      → Says (pair-said n cells k frame) entry t y → (r ≡ t) × (x ≡ y)
+
+-- ---- named inputs and outputs
+
+-- document 01's input
+abbrev pub example-input : List ℕ
+example-input = example-venue ++ example-pair
+
+-- `1 P hit 1 1 0 2 3`
+abbrev pub plain-line : List ℕ
+plain-line = 49 ∷ 32 ∷ 80 ∷ 32 ∷ 104 ∷ 105 ∷ 116 ∷ 32 ∷ 49 ∷ 32 ∷ 49 ∷ 32 ∷ 48 ∷ 32 ∷ 50 ∷ 32 ∷ 51 ∷ 10 ∷ []
+
+-- its whole output, with `1 A clear 4`
+abbrev pub example-output : List ℕ
+example-output = plain-line ++ (49 ∷ 32 ∷ 65 ∷ 32 ∷ 99 ∷ 108 ∷ 101 ∷ 97 ∷ 114 ∷ 32 ∷ 52 ∷ 10 ∷ [])
+
+-- the same venue, marked: "its bytes are 1 1 1 0 and 1 2 1 0"
+abbrev pub marked-input : List ℕ
+marked-input = (0 ∷ 0 ∷ 0 ∷ 15 ∷ 1 ∷ 0 ∷ 4 ∷ 0 ∷ 2 ∷ 0 ∷ 1 ∷ 1 ∷ 1 ∷ 1 ∷ 0 ∷ 1 ∷ 2 ∷ 1 ∷ 0 ∷ []) ++ example-pair
+
+-- "and the A line is `1 A hit 1 1 0 2 3`"
+abbrev pub marked-output : List ℕ
+marked-output = plain-line ++ (49 ∷ 32 ∷ 65 ∷ 32 ∷ 104 ∷ 105 ∷ 116 ∷ 32 ∷ 49 ∷ 32 ∷ 49 ∷ 32 ∷ 48 ∷ 32 ∷ 50 ∷ 32 ∷ 51 ∷ 10 ∷ [])
+
+-- ---- wrong answers
+
+-- a program that is silent on document 01's input
+pub record Silent : Type 0 where
+  pub run : Runs example-input []
+
+-- a step that goes on after a pair that is cut short: three bytes of a length
+pub record GoesOn (n : Counts) (cells entry : List ℕ) : Type 0 where
+  pub answer : Step
+  pub exit : List ℕ
+  pub says : Says (pair-said n cells 1 (0 ∷ 0 ∷ 0 ∷ [])) entry answer exit
+  pub more : answer .more ≡ true
