@@ -29,12 +29,12 @@ module _ (most : ℕ) (s : List ℕ) where
       go false e h = ltb-false (length s) length-field e
 
   -- where they are, its number decides
-  beyond-is : length-field ≤ length s → beyond most s ≡ ltb most (announced s)
+  pub beyond-is : length-field ≤ length s → beyond most s ≡ ltb most (announced s)
   unfolding beyond
   beyond-is four = rw (le-ltb (length s) length-field four)
 
 -- bytes behind the length do not change it
-front-announces : (t : ℕ) (s : List ℕ) → length-field ≤ t → length-field ≤ length s → announced (take t s) ≡ announced s
+pub front-announces : (t : ℕ) (s : List ℕ) → length-field ≤ t → length-field ≤ length s → announced (take t s) ≡ announced s
 front-announces t s h four =
     let enough : length-field ≤ length (take t s) = simp length-take (omega arith) in
     sym (same-announced (take t s) (drop t s) enough) ∙ ap announced (take-append-drop t s)
