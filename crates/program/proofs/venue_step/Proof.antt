@@ -1,11 +1,17 @@
 -- The test of the length, then the answer of the reading, as the definition has them. Assumes nothing.
-use mathlib.Core.Path.{refl, sym, _∙_}
+use mathlib.Core.Path.{_≡_, refl, sym, _∙_}
+use mathlib.Core.Bool.{Bool}
+use denote.Ref.{now}
 use native.Mathlib.Omega.{arith}
-use Rattle.program.specs.Program.{venue-said}
+use Rattle.program.specs.Program.{venue-most, beyond, venue-said}
 use Rattle.program.proofs.Front.{no-text, counts}
 use borrow.Author.Needs.{needs}
 use Rattle.program.proofs.venue_step.Statement.{statement}
 use Rattle.program.proofs.venue_step.Tie as tie
+
+-- the test of the length, by what it answered
+judged : (c : tie.After-beyond) {t : Bool} → c .beyond .result ≡ t → beyond venue-most (now (c .before .before .before .args .frame)) ≡ t
+judged c h = sym (c .beyond .ensures) ∙ h
 
 beyond-requires : tie.Need-beyond-requires
 beyond-requires c κs = search needs
@@ -20,7 +26,7 @@ returns : tie.Need-returns
 unfolding venue-said
 returns c =
     let said = c .before .before .venue-refused .ensures in
-    rw (sym (c .before .before .before .before .before .beyond .ensures) ∙ c .before .before .before .before .if1 .taken) (said, counts (said .puts))
+    rw (judged (c .before .before .before .before .before) (c .before .before .before .before .if1 .taken)) (said, counts (said .puts))
 
 read-venue-requires : tie.Need-read-venue-requires
 read-venue-requires c κs = search needs
@@ -37,7 +43,7 @@ venue-refused-requires-2 c κs = search needs
 returns-2 : tie.Need-returns-2
 unfolding venue-said
 returns-2 c =
-    rw (sym (c .before .before .before .before .beyond .ensures) ∙ c .before .before .before .if1 .left, sym (c .before .before .read-venue .ensures) ∙ c .enum-told .given .1)
+    rw (judged (c .before .before .before .before) (c .before .before .before .if1 .left), sym (c .before .before .read-venue .ensures) ∙ c .enum-told .given .1)
     (record { puts = no-text _; more = refl }, (omega arith, refl))
 
 same-length-2 : tie.Need-same-length-2
@@ -47,7 +53,7 @@ returns-3 : tie.Need-returns-3
 unfolding venue-said
 returns-3 c =
     let said = c .before .before .venue-refused2 .ensures in
-    rw (sym (c .before .before .before .before .before .before .before .before .before .beyond .ensures) ∙ c .before .before .before .before .before .before .before .before .if1 .left, sym (c .before .before .before .before .before .before .before .read-venue .ensures) ∙ c .before .before .before .before .before .r .given .1) (said, counts (said .puts))
+    rw (judged (c .before .before .before .before .before .before .before .before .before) (c .before .before .before .before .before .before .before .before .if1 .left), sym (c .before .before .before .before .before .before .before .read-venue .ensures) ∙ c .before .before .before .before .before .r .given .1) (said, counts (said .puts))
 
 pub venue-step-spec : {M : Type 1} → statement M
 venue-step-spec =
