@@ -1,7 +1,9 @@
 /* Reads calls, one a line, runs each over the shipped archive and prints its answer, a line each (tests/README.md).
    Each call runs twice. Every lent slice stands between two unreadable pages, once flush with the page before it and once flush with the
    page after it; the two answers and final memories must be the same. Slices that are lent for reading cannot be written at all.
-   The kit has no C headers, so what is called is declared here. */
+   The kit has no C headers, so what is called of the C library is declared here. */
+
+#include "../include/oatmarten.h"
 
 typedef int i32;
 typedef unsigned int u32;
@@ -27,36 +29,6 @@ int munmap(void *at, size bytes);
 _Noreturn void exit(int status);
 
 enum { NO_ACCESS = 0, READ = 1, READ_WRITE = 3, PRIVATE_ANONYMOUS = 0x22 };
-
-/* ---- the archive (crates/oatmarten) */
-
-typedef struct { i32 x, y, z; } oat_cell;
-/* refusal 0: accepted; end: 0 none, 1 P, 2 Q; axis: 0 none, 1 x, 2 y, 3 z, 4 edge */
-typedef struct { u32 refusal, end, axis, count; } oat_listed;
-oat_listed oat_line6(oat_cell p, oat_cell q, i32 *out, size len);
-oat_listed oat_line26(oat_cell p, oat_cell q, i32 *out, size len);
-typedef struct { u32 nx, ny, nz; } oat_counts;
-typedef struct { u32 refusal, end, axis; } oat_verdict;
-typedef struct { u32 refusal, end, axis, yes; } oat_complete_answer;
-typedef struct { u32 refusal, end, axis; u64 offset, length; } oat_part;
-typedef struct { double ox, oy, oz, edge; } oat_placement;
-typedef struct { double x, y, z; } oat_point;
-typedef struct { u32 refusal, end, axis; i32 x, y, z; } oat_found;
-oat_verdict oat_mark(oat_counts n, u8 *cells, size len);
-oat_complete_answer oat_complete(oat_counts n, const u8 *cells, size len);
-oat_part oat_layer(oat_counts n, const u8 *cells, size len, i32 z);
-oat_found oat_cell_of(oat_counts n, oat_placement at, oat_point p);
-typedef struct { u32 refusal, end, axis, nx, ny, nz; u64 offset, length; } oat_venue;
-typedef struct { u32 refusal, end, axis; i32 px, py, pz, qx, qy, qz; } oat_pair;
-typedef struct { u32 refusal, end, axis; u64 written; } oat_written;
-oat_venue oat_read_venue(const u8 *bytes, size len);
-oat_pair oat_read_pair(const u8 *bytes, size len);
-typedef struct { u32 refusal, end, axis, hit; i32 x, y, z; u32 code, num, den, reads; } oat_hit;
-oat_hit oat_plain(oat_counts n, const u8 *cells, size len, oat_cell p, oat_cell q);
-oat_hit oat_adaptive(oat_counts n, const u8 *cells, size len, oat_cell p, oat_cell q);
-typedef struct { u32 refusal, end, axis, blocked; double share; i32 x, y, z; u32 code, reads; } oat_sight_answer;
-oat_sight_answer oat_sight(oat_counts n, const u8 *cells, size len, oat_placement at, oat_point camera, oat_point ball);
-oat_written oat_write_venue(oat_counts n, const u8 *cells, size cells_len, u8 *out, size out_len);
 
 static _Noreturn void fail(const char *what) {
     fflush(0);

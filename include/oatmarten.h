@@ -1,0 +1,259 @@
+/* Oatmarten: exact sight lines through a voxel grid. The C interface, revision 1 (OAT_REVISION).
+
+   Link with liboatmarten.a (x86-64 Linux). docs/C.md has a whole program, docs/TRUST.md says what is proved and what is not.
+
+   Every call
+   - takes any numbers and any lent memory, ends, and does its job or refuses by a number; there is no other error;
+   - answers by value. `refusal` is OAT_ACCEPTED, or the number of the refusal; `end` and `axis` then say what it names. Fields that the
+     answer does not speak of are 0: all values of a refused call, `end` and `axis` of an accepted one;
+   - writes nothing where it refuses, and where it accepts only what is said of it below;
+   - gives the same answer and the same final memory for the same input.
+
+   Lent memory is a pointer and the number of elements behind it. The pointer must not be null, also where the number is 0, must be aligned
+   for its element type, and so many elements must be readable (writable where it is not const) until the call returns. The library keeps
+   no pointer. Memory that a call writes must not overlap other memory lent to the same call: this matters for oat_write_venue alone.
+   Memory that is only read may be shared by any number of calls.
+
+   Threads: the library has no state, takes no lock, allocates nothing and needs under 8 KiB of stack. Calls may run at the same time in any
+   threads, as long as no memory that one of them writes is lent to another. Of the C library it calls memset alone. */
+#ifndef OATMARTEN_H
+#define OATMARTEN_H
+
+#include <stddef.h>
+#include <stdint.h>
+
+#ifdef __cplusplus
+extern "C" {
+#endif
+
+/* Grows by one when a struct, a call or a number of this header changes. */
+#define OAT_REVISION 1
+
+/* The field `refusal`, with what it names. Where more than one applies, each call below says the order of its tests; ends are looked at P
+   before Q, axes in the order x, y, z. */
+enum oat_refusal {
+    OAT_ACCEPTED = 0,
+    OAT_REFUSED_LIMIT = 1,      /* an end of a line list outside OAT_COORDINATE_LEAST to OAT_COORDINATE_MOST: end and axis */
+    OAT_REFUSED_COUNT = 2,      /* a count outside 1 to OAT_COUNT_MOST: axis */
+    OAT_REFUSED_BYTES = 3,      /* the number of cell bytes is not nx*ny*nz */
+    OAT_REFUSED_LAYER = 4,      /* layer z below 0 or not below nz */
+    OAT_REFUSED_OFF_GRID = 5,   /* an end outside the grid: end and axis */
+    OAT_REFUSED_ROOM = 6,       /* too little room for the answer */
+    OAT_REFUSED_PLACEMENT = 7,  /* an origin value or the edge not finite, or the edge not above 0: axis, or OAT_AXIS_EDGE */
+    OAT_REFUSED_NOT_FINITE = 8, /* a surveyed value not finite: end and axis */
+    OAT_REFUSED_OFF_SURVEY = 9, /* a surveyed value outside the grid: end and axis */
+    OAT_REFUSED_RECORD = 10,    /* a record cut short or of the wrong length */
+    OAT_REFUSED_VERSION = 11    /* a record whose version byte is not 1 */
+};
+
+/* The field `end`. In oat_sight P is the camera and Q the ball; in oat_cell_of the point is P. */
+enum oat_end { OAT_END_NONE = 0, OAT_END_P = 1, OAT_END_Q = 2 };
+
+/* The field `axis`; OAT_AXIS_EDGE only with OAT_REFUSED_PLACEMENT. */
+enum oat_axis { OAT_AXIS_NONE = 0, OAT_AXIS_X = 1, OAT_AXIS_Y = 2, OAT_AXIS_Z = 3, OAT_AXIS_EDGE = 4 };
+
+/* The byte of a cell: clear, near (it touches a solid cell by face, edge or corner), or solid: OAT_SOLID_LEAST to 255, its material code. */
+enum oat_byte { OAT_CLEAR = 0, OAT_NEAR = 1, OAT_SOLID_LEAST = 2 };
+
+#define OAT_COUNT_MOST 1024          /* cells along an axis of a grid */
+#define OAT_COORDINATE_LEAST (-8192) /* of an end of a line list */
+#define OAT_COORDINATE_MOST 8191
+#define OAT_LINE6_ROOM 147450        /* numbers that hold any 6-line: 49,150 cells */
+#define OAT_LINE26_ROOM 49152        /* numbers that hold any 26-line: 16,384 cells */
+#define OAT_VENUE_HEAD 11            /* bytes of a venue record before its cells */
+#define OAT_PAIR_BYTES 17            /* bytes of a pair record */
+
+/* ---- what the calls take */
+
+/* A cell, by its numbers along the axes. */
+typedef struct {
+    int32_t x;
+    int32_t y;
+    int32_t z;
+} oat_cell;
+
+/* A grid's cells along each axis, each 1 to OAT_COUNT_MOST. Its bytes lie x fastest, then y, then z: the byte of cell (x, y, z) is number
+   x + nx*(y + ny*z). */
+typedef struct {
+    uint32_t nx;
+    uint32_t ny;
+    uint32_t nz;
+} oat_counts;
+
+/* Where a grid lies, in metres: the outer corner of cell (0, 0, 0), and the edge of a cell. */
+typedef struct {
+    double ox;
+    double oy;
+    double oz;
+    double edge;
+} oat_placement;
+
+/* A surveyed point, in metres. */
+typedef struct {
+    double x;
+    double y;
+    double z;
+} oat_point;
+
+/* ---- what they answer */
+
+/* Of a line list. */
+typedef struct {
+    uint32_t refusal;
+    uint32_t end;
+    uint32_t axis;
+    uint32_t count; /* cells of the line, both ends included */
+} oat_listed;
+
+/* Of a call that accepts or refuses. */
+typedef struct {
+    uint32_t refusal;
+    uint32_t end;
+    uint32_t axis;
+} oat_verdict;
+
+/* Of oat_complete. */
+typedef struct {
+    uint32_t refusal;
+    uint32_t end;
+    uint32_t axis;
+    uint32_t yes; /* 1: the marks are complete; 0: a clear cell touches a solid one */
+} oat_complete_answer;
+
+/* A part of the bytes that the caller lent. */
+typedef struct {
+    uint32_t refusal;
+    uint32_t end;
+    uint32_t axis;
+    uint64_t offset; /* where it starts, in bytes from the lent pointer */
+    uint64_t length; /* its bytes; never 0 where accepted */
+} oat_part;
+
+/* The cell of a surveyed point. */
+typedef struct {
+    uint32_t refusal;
+    uint32_t end;
+    uint32_t axis;
+    int32_t x;
+    int32_t y;
+    int32_t z;
+} oat_found;
+
+/* A venue record that was read. */
+typedef struct {
+    uint32_t refusal;
+    uint32_t end;
+    uint32_t axis;
+    uint32_t nx;
+    uint32_t ny;
+    uint32_t nz;
+    uint64_t offset; /* where its cells start, in bytes from the lent pointer */
+    uint64_t length; /* nx*ny*nz */
+} oat_venue;
+
+/* A pair record that was read: the ends P and Q. */
+typedef struct {
+    uint32_t refusal;
+    uint32_t end;
+    uint32_t axis;
+    int32_t px;
+    int32_t py;
+    int32_t pz;
+    int32_t qx;
+    int32_t qy;
+    int32_t qz;
+} oat_pair;
+
+/* A venue record that was written. */
+typedef struct {
+    uint32_t refusal;
+    uint32_t end;
+    uint32_t axis;
+    uint64_t written; /* bytes written at the front of the room */
+} oat_written;
+
+/* The first hit of a walk. */
+typedef struct {
+    uint32_t refusal;
+    uint32_t end;
+    uint32_t axis;
+    uint32_t hit;   /* 1: a solid cell was met; 0: none, and the fields up to den are 0 */
+    int32_t x;      /* the cell that was met */
+    int32_t y;
+    int32_t z;
+    uint32_t code;  /* its material code, 2 to 255 */
+    uint32_t num;   /* num/den of the way from P's centre to Q's the line enters it; 0/1 where it is P; not reduced */
+    uint32_t den;
+    uint32_t reads; /* cells of the walk, its last included */
+} oat_hit;
+
+/* The sight from a camera to a ball. */
+typedef struct {
+    uint32_t refusal;
+    uint32_t end;
+    uint32_t axis;
+    uint32_t blocked; /* 1: a solid cell is in the way; 0: clear, and the fields below are 0 */
+    double share;     /* of the way at which the line enters that cell, 0 to 1 */
+    int32_t x;        /* the cell in the way */
+    int32_t y;
+    int32_t z;
+    uint32_t code;    /* its material code, 2 to 255 */
+    uint32_t reads;   /* cells of the walk, its last included */
+} oat_sight_answer;
+
+/* ---- lines: refusals 1, then 6 */
+
+/* Writes the cells of the 6-line from p to q, in order, three numbers a cell (x, y, z), at the front of `out`; the rest of `out` stays.
+   `room` is the number of numbers that `out` holds; refused 6 exactly when it is below three times the cells. Neighbouring cells share a
+   face; the line has every cell whose inside the segment between the two centres enters. */
+oat_listed oat_line6(oat_cell p, oat_cell q, int32_t *out, size_t room);
+
+/* The same for the 26-line: one cell for each step along the longest axis; neighbouring cells share a face, an edge or a corner. */
+oat_listed oat_line26(oat_cell p, oat_cell q, int32_t *out, size_t room);
+
+/* ---- grids: refusals 2, 3, then 4 or 5. `bytes` is the number of bytes at `cells` */
+
+/* Marks the near cells in place: each solid byte stays; any other becomes OAT_NEAR where its cell touches a solid one, else OAT_CLEAR. */
+oat_verdict oat_mark(oat_counts n, uint8_t *cells, size_t bytes);
+
+/* Whether the marks are complete: no clear cell touches a solid one. It holds after oat_mark. */
+oat_complete_answer oat_complete(oat_counts n, const uint8_t *cells, size_t bytes);
+
+/* Where layer z lies: nx*ny bytes. Nothing is copied. */
+oat_part oat_layer(oat_counts n, const uint8_t *cells, size_t bytes, int32_t z);
+
+/* The first solid cell along the 6-line from p to q, both ends included. Asks for no marks. */
+oat_hit oat_plain(oat_counts n, const uint8_t *cells, size_t bytes, oat_cell p, oat_cell q);
+
+/* The same with long steps over clear cells. Where the marks are complete it gives the answer of oat_plain, with no more reads; where they
+   are not, it may miss a solid cell, and never makes one up. */
+oat_hit oat_adaptive(oat_counts n, const uint8_t *cells, size_t bytes, oat_cell p, oat_cell q);
+
+/* ---- surveyed points */
+
+/* The cell of a point: refusals 2, 7 (origin x, y, z, edge), then for each axis 8, then 9. On each axis it is the whole number n with
+   n <= (point - origin) / edge < n + 1, the difference and the quotient rounded once each. The end that a refusal names is P. */
+oat_found oat_cell_of(oat_counts n, oat_placement at, oat_point point);
+
+/* Whether anything solid is in the way from the camera's cell to the ball's, by the adaptive walk: refusals 2, 3, 7, then the camera (P) by
+   axis 8, 9, then the ball (Q). Takes the marks as they are: mark first. */
+oat_sight_answer oat_sight(oat_counts n, const uint8_t *cells, size_t bytes, oat_placement at, oat_point camera, oat_point ball);
+
+/* ---- records: numbers are big-endian; bytes after a record are not looked at */
+
+/* Reads a venue record: four bytes, the length of what follows; version 1; nx, ny, nz in two bytes each; the cells. Refusals 10, 11, 10,
+   2, 3. The cells stay where they are. */
+oat_venue oat_read_venue(const uint8_t *record, size_t bytes);
+
+/* Reads a pair record: length 13; version 1; P and Q, six signed numbers of two bytes. Refusals 10, 11, 10. */
+oat_pair oat_read_pair(const uint8_t *record, size_t bytes);
+
+/* Writes a venue record at the front of `out`; the rest of `out` stays. Refusals 2, 3, then 6, exactly when `room` is below
+   OAT_VENUE_HEAD + nx*ny*nz. `cells` and `out` must not overlap. */
+oat_written oat_write_venue(oat_counts n, const uint8_t *cells, size_t bytes, uint8_t *out, size_t room);
+
+#ifdef __cplusplus
+}
+#endif
+
+#endif

@@ -1,0 +1,69 @@
+/* Prints answers of the archive as raw bytes, a line each: the type's name in the header, then the bytes of the struct in hex. The inputs are
+   given by field names of include/oatmarten.h; tests/exports reads the bytes by the exports. Then the header's numbers, at work. */
+
+#include "../include/oatmarten.h"
+#include <stdio.h>
+
+#define SHOW(type, call)                                                              \
+    do {                                                                              \
+        union { type value; unsigned char bytes[sizeof(type)]; } seen = {call};       \
+        printf(#type " ");                                                            \
+        for (size_t n = 0; n < sizeof(type); n++) printf("%02x", seen.bytes[n]);      \
+        printf("\n");                                                                 \
+    } while (0)
+
+static uint8_t cells[9 * 8 * 7], record[OAT_VENUE_HEAD + sizeof cells + 1];
+static int32_t numbers[OAT_LINE6_ROOM];
+
+int main(void) {
+    const oat_counts n = {.nx = 9, .ny = 8, .nz = 7};
+    const oat_cell p = {.x = 8, .y = 0, .z = 1}, q = {.x = 0, .y = 7, .z = 4};
+    const oat_placement at = {.ox = -10, .oy = 20, .oz = 3, .edge = 0.5};
+    const oat_point camera = {.x = -5.75, .y = 20.25, .z = 3.75}, ball = {.x = -9.75, .y = 23.75, .z = 5.25};
+    const uint8_t pair[OAT_PAIR_BYTES] = {0, 0, 0, 13, 1, 255, 255, 0, 2, 255, 253, 0, 4, 255, 251, 0, 6};
+
+    /* ends and axes */
+    SHOW(oat_listed, oat_line6(p, (oat_cell){.x = 0, .y = OAT_COORDINATE_MOST + 1, .z = 0}, numbers, 0));
+    SHOW(oat_listed, oat_line6((oat_cell){.x = OAT_COORDINATE_LEAST - 1, .y = 0, .z = 0}, q, numbers, 0));
+    SHOW(oat_listed, oat_line6(p, q, numbers, 56));
+    SHOW(oat_listed, oat_line6(p, q, numbers, 57));
+    SHOW(oat_listed, oat_line26(p, q, numbers, 27));
+    SHOW(oat_verdict, oat_mark((oat_counts){.nx = OAT_COUNT_MOST, .ny = 1, .nz = OAT_COUNT_MOST + 1}, cells, sizeof cells));
+    SHOW(oat_verdict, oat_mark(n, cells, sizeof cells - 1));
+
+    /* a solid cell on the way, marked */
+    cells[2 + 9 * (6 + 8 * 3)] = 200;
+    SHOW(oat_complete_answer, oat_complete(n, cells, sizeof cells));
+    SHOW(oat_verdict, oat_mark(n, cells, sizeof cells));
+    SHOW(oat_complete_answer, oat_complete(n, cells, sizeof cells));
+    SHOW(oat_part, oat_layer(n, cells, sizeof cells, 3));
+    SHOW(oat_part, oat_layer(n, cells, sizeof cells, 7));
+    SHOW(oat_hit, oat_plain(n, cells, sizeof cells, p, q));
+    SHOW(oat_hit, oat_adaptive(n, cells, sizeof cells, p, q));
+    SHOW(oat_hit, oat_plain(n, cells, sizeof cells, p, (oat_cell){.x = 0, .y = 0, .z = 7}));
+
+    /* surveyed points */
+    SHOW(oat_found, oat_cell_of(n, at, ball));
+    SHOW(oat_found, oat_cell_of(n, (oat_placement){.ox = 0, .oy = 0, .oz = 0, .edge = 0}, ball));
+    SHOW(oat_found, oat_cell_of(n, at, (oat_point){.x = -9, .y = 1 / 0.0, .z = 3}));
+    SHOW(oat_sight_answer, oat_sight(n, cells, sizeof cells, at, camera, ball));
+    SHOW(oat_sight_answer, oat_sight(n, cells, sizeof cells, at, camera, (oat_point){.x = -9.75, .y = 23.75, .z = 6.5}));
+
+    /* records */
+    SHOW(oat_written, oat_write_venue(n, cells, sizeof cells, record, sizeof record - 2));
+    SHOW(oat_written, oat_write_venue(n, cells, sizeof cells, record, sizeof record));
+    SHOW(oat_venue, oat_read_venue(record, sizeof record));
+    SHOW(oat_pair, oat_read_pair(pair, sizeof pair));
+    record[4] = 2;
+    SHOW(oat_venue, oat_read_venue(record, sizeof record));
+    SHOW(oat_pair, oat_read_pair(pair, sizeof pair - 1));
+
+    /* the longest lines fill their room, and no less will do */
+    const oat_cell least = {.x = OAT_COORDINATE_LEAST, .y = OAT_COORDINATE_LEAST, .z = OAT_COORDINATE_LEAST};
+    const oat_cell most = {.x = OAT_COORDINATE_MOST, .y = OAT_COORDINATE_MOST, .z = OAT_COORDINATE_MOST};
+    SHOW(oat_listed, oat_line6(least, most, numbers, OAT_LINE6_ROOM));
+    SHOW(oat_listed, oat_line6(least, most, numbers, OAT_LINE6_ROOM - 1));
+    SHOW(oat_listed, oat_line26(least, most, numbers, OAT_LINE26_ROOM));
+    SHOW(oat_listed, oat_line26(least, most, numbers, OAT_LINE26_ROOM - 1));
+    return 0;
+}
