@@ -15,7 +15,7 @@
    Memory that is only read may be shared by any number of calls.
 
    Threads: the library has no state, takes no lock, allocates nothing and needs under 8 KiB of stack. Calls may run at the same time in any
-   threads, as long as no memory that one of them writes is lent to another. Of the C library it calls memset alone. */
+   threads, as long as no memory that one of them writes is lent to another. Of the C library it calls at most memset, memcpy and memmove. */
 #ifndef OATMARTEN_H
 #define OATMARTEN_H
 
