@@ -1,0 +1,207 @@
+/* The library's calls as plain C, to be held against it: the same algorithms written for speed, with the signatures of the header. Inputs are
+   trusted, not tested: refused ones are not timed. BY(x) names the compiler's copy of x. */
+
+#include "../include/oatmarten.h"
+
+typedef struct { int a, b, c, x, y, z; } way; /* differences; one cell towards q on each axis */
+
+static inline int apart(int p, int q) { return p < q ? q - p : p - q; }
+static inline int unit(int p, int q) { return p <= q ? 1 : -1; }
+
+static inline way way_of(oat_cell p, oat_cell q) {
+    return (way){apart(p.x, q.x), apart(p.y, q.y), apart(p.z, q.z), unit(p.x, q.x), unit(p.y, q.y), unit(p.z, q.z)};
+}
+
+static inline int longest(way w) {
+    int m = w.a < w.b ? w.b : w.a;
+    return m < w.c ? w.c : m;
+}
+
+/* ---- lists */
+
+oat_listed BY(line6)(oat_cell p, oat_cell q, int32_t *out, size_t room) {
+    way w = way_of(p, q);
+    int xy = w.b - w.a, xz = w.c - w.a, zy = w.b - w.c, a2 = 2 * w.a, b2 = 2 * w.b, c2 = 2 * w.c;
+    int x = p.x, y = p.y, z = p.z;
+    uint32_t faces = (uint32_t)(w.a + w.b + w.c);
+    if (room < 3 * ((size_t)faces + 1)) return (oat_listed){OAT_REFUSED_ROOM, 0, 0, 0};
+    for (uint32_t left = faces; left; left--, out += 3) {
+        out[0] = x, out[1] = y, out[2] = z;
+        if (xy < 0) {
+            if (xz < 0) x += w.x, xy += b2, xz += c2;
+            else z += w.z, xz -= a2, zy += b2;
+        } else {
+            if (zy < 0) z += w.z, xz -= a2, zy += b2;
+            else y += w.y, xy -= a2, zy -= c2;
+        }
+    }
+    out[0] = q.x, out[1] = q.y, out[2] = q.z;
+    return (oat_listed){0, 0, 0, faces + 1};
+}
+
+/* the longest axis, u, moves each time; f and g tell of the others, v and w */
+oat_listed BY(line26)(oat_cell p, oat_cell q, int32_t *out, size_t room) {
+    way way = way_of(p, q);
+    int U = longest(way), u = U == way.a ? 0 : U == way.b ? 1 : 2, v = u == 0 ? 1 : 0, w = u == 2 ? 1 : 2;
+    int apart[3] = {way.a, way.b, way.c}, unit[3] = {way.x, way.y, way.z}, from[3] = {p.x, p.y, p.z};
+    int U2 = 2 * U, V2 = 2 * apart[v], W2 = 2 * apart[w], f = V2 - U, g = W2 - U;
+    int at_u = from[u], at_v = from[v], at_w = from[w], by_u = unit[u], by_v = unit[v], by_w = unit[w];
+    if (room < 3 * ((size_t)U + 1)) return (oat_listed){OAT_REFUSED_ROOM, 0, 0, 0};
+    for (int left = U; left; left--, out += 3) {
+        out[u] = at_u, out[v] = at_v, out[w] = at_w;
+        at_u += by_u;
+        at_v += f >= 0 ? by_v : 0;
+        at_w += g >= 0 ? by_w : 0;
+        f += f >= 0 ? V2 - U2 : V2;
+        g += g >= 0 ? W2 - U2 : W2;
+    }
+    out[0] = q.x, out[1] = q.y, out[2] = q.z;
+    return (oat_listed){0, 0, 0, (uint32_t)U + 1};
+}
+
+/* ---- first hits */
+
+/* of the crossings last made (i of a and so on), the last one: at (2i-1)/(2a), ties y, z, x */
+static oat_hit found(oat_counts n, const uint8_t *cells, const uint8_t *at, oat_cell p, way w, uint32_t reads) {
+    if (*at < OAT_SOLID_LEAST) return (oat_hit){.reads = reads};
+    uint32_t index = (uint32_t)(at - cells), row = index / n.nx;
+    int x = (int)(index - row * n.nx), z = (int)(row / n.ny), y = (int)(row - (uint32_t)z * n.ny);
+    oat_hit h = {.hit = 1, .x = x, .y = y, .z = z, .code = *at, .num = 0, .den = 1, .reads = reads};
+    int i = apart(p.x, x), j = apart(p.y, y), k = apart(p.z, z), num = -1, den = 1;
+    if (j) num = 2 * j - 1, den = 2 * w.b;
+    if (k && (num < 0 || num * 2 * w.c <= (2 * k - 1) * den)) num = 2 * k - 1, den = 2 * w.c;
+    if (i && (num < 0 || num * 2 * w.a <= (2 * i - 1) * den)) num = 2 * i - 1, den = 2 * w.a;
+    if (num > 0) h.num = (uint32_t)num, h.den = (uint32_t)den;
+    return h;
+}
+
+oat_hit BY(plain)(oat_counts n, const uint8_t *cells, size_t bytes, oat_cell p, oat_cell q) {
+    (void)bytes;
+    way w = way_of(p, q);
+    int xy = w.b - w.a, xz = w.c - w.a, zy = w.b - w.c, a2 = 2 * w.a, b2 = 2 * w.b, c2 = 2 * w.c;
+    ptrdiff_t sx = w.x, sy = w.y * (ptrdiff_t)n.nx, sz = w.z * (ptrdiff_t)n.nx * n.ny;
+    const uint8_t *at = cells + p.x + (ptrdiff_t)n.nx * (p.y + (ptrdiff_t)n.ny * p.z);
+    int faces = w.a + w.b + w.c, left = faces;
+    for (; left && *at < OAT_SOLID_LEAST; left--) {
+        if (xy < 0) {
+            if (xz < 0) at += sx, xy += b2, xz += c2;
+            else at += sz, xz -= a2, zy += b2;
+        } else {
+            if (zy < 0) at += sz, xz -= a2, zy += b2;
+            else at += sy, xy -= a2, zy -= c2;
+        }
+    }
+    return found(n, cells, at, p, w, (uint32_t)(faces - left) + 1);
+}
+
+/* The adaptive walk as the paper has it: on clear runs the two values of the 26-line (f and g, of the shorter axes v and w against the longest,
+   u), all three of the tripod where the way is near. vw is the third one times U, since it is had from the two others; -1 puts a tie on the
+   side of the axis that goes first. */
+oat_hit BY(adaptive)(oat_counts n, const uint8_t *cells, size_t bytes, oat_cell p, oat_cell q) {
+    (void)bytes;
+    way way = way_of(p, q);
+    int U = longest(way), by_x = U == way.a, by_y = !by_x && U == way.b, by_z = !by_x && !by_y;
+    int V = by_x ? way.b : way.a, W = by_z ? way.b : way.c;
+    ptrdiff_t sx = way.x, sy = way.y * (ptrdiff_t)n.nx, sz = way.z * (ptrdiff_t)n.nx * n.ny;
+    ptrdiff_t su = by_x ? sx : by_y ? sy : sz, sv = by_x ? sy : sx, sw = by_z ? sy : sz;
+    const uint8_t *at = cells + p.x + (ptrdiff_t)n.nx * (p.y + (ptrdiff_t)n.ny * p.z);
+    int f = 2 * V - U, g = 2 * W - U, U2 = 2 * U, V2 = 2 * V, W2 = 2 * W, left = U;
+    uint32_t more = 1; /* reads beyond one a long step */
+    while (left) {
+        if (*at == OAT_CLEAR) {
+            do {
+                int f1 = f + V2, g1 = g + W2;
+                ptrdiff_t by = su + (f >= 0 ? sv : 0) + (g >= 0 ? sw : 0);
+                f = f >= 0 ? f1 - U2 : f1;
+                g = g >= 0 ? g1 - U2 : g1;
+                at += by;
+            } while (--left && *at == OAT_CLEAR);
+            continue;
+        }
+        int uv = f - V - !by_x, uw = g - W - by_y;
+        int64_t vw = (int64_t)V * (g - W) - (int64_t)W * (f - V) - by_x, vw_v = (int64_t)U2 * W, vw_w = (int64_t)U2 * V;
+        do {
+            int faces = 1 + (f >= 0) + (g >= 0);
+            f += f >= 0 ? V2 - U2 : V2;
+            g += g >= 0 ? W2 - U2 : W2;
+            left--;
+            more += (uint32_t)faces - 1;
+            do {
+                if (*at >= OAT_SOLID_LEAST) return found(n, cells, at, p, way, (uint32_t)(U - left) + more - (uint32_t)faces);
+                if (vw < 0) {
+                    if (uv >= 0) at += sv, uv -= U2, vw += vw_v;
+                    else at += su, uv += V2, uw += W2;
+                } else {
+                    if (uw >= 0) at += sw, uw -= U2, vw -= vw_w;
+                    else at += su, uv += V2, uw += W2;
+                }
+            } while (--faces);
+        } while (left && *at != OAT_CLEAR);
+    }
+    return found(n, cells, at, p, way, (uint32_t)U + more);
+}
+
+/* ---- marks: of three layers the largest byte at each place of a row, kept for three rows; of these the largest; then of three places */
+
+typedef struct { uint8_t layers[3][OAT_COUNT_MOST], rows[OAT_COUNT_MOST + 2]; } rings;
+
+static inline uint8_t larger(uint8_t a, uint8_t b) { return a < b ? b : a; }
+
+static inline void largest(uint8_t *restrict out, const uint8_t *a, const uint8_t *b, const uint8_t *c, size_t nx) {
+    for (size_t x = 0; x < nx; x++) out[x] = larger(larger(a[x], b[x]), c[x]);
+}
+
+/* row y over the layers beside z */
+static inline void over_layers(oat_counts n, const uint8_t *cells, size_t y, size_t z, rings *r) {
+    size_t layer = (size_t)n.nx * n.ny;
+    const uint8_t *here = cells + z * layer + y * n.nx;
+    largest(r->layers[y % 3], z ? here - layer : here, here, z + 1 < n.nz ? here + layer : here, n.nx);
+}
+
+/* the rows beside y, one place further on: a zero byte stands at each end */
+static inline void over_rows(oat_counts n, const uint8_t *cells, size_t y, size_t z, rings *r) {
+    if (!y) over_layers(n, cells, y, z, r);
+    if (y + 1 < n.ny) over_layers(n, cells, y + 1, z, r);
+    const uint8_t *here = r->layers[y % 3];
+    largest(r->rows + 1, y ? r->layers[(y + 2) % 3] : here, here, y + 1 < n.ny ? r->layers[(y + 1) % 3] : here, n.nx);
+}
+
+static inline void mark_row(uint8_t *restrict row, const uint8_t *restrict rows, size_t nx) {
+    for (size_t x = 0; x < nx; x++) {
+        uint8_t was = row[x], near = larger(larger(rows[x], rows[x + 1]), rows[x + 2]) >= OAT_SOLID_LEAST;
+        row[x] = was >= OAT_SOLID_LEAST ? was : near;
+    }
+}
+
+oat_verdict BY(mark)(oat_counts n, uint8_t *cells, size_t bytes) {
+    (void)bytes;
+    rings r;
+    r.rows[0] = r.rows[n.nx + 1] = 0;
+    for (size_t z = 0; z < n.nz; z++)
+        for (size_t y = 0; y < n.ny; y++) {
+            over_rows(n, cells, y, z, &r);
+            mark_row(cells + (z * n.ny + y) * n.nx, r.rows, n.nx);
+        }
+    return (oat_verdict){0, 0, 0};
+}
+
+static inline int gap_in_row(const uint8_t *row, const uint8_t *rows, size_t nx) {
+    uint8_t most = 0;
+    for (size_t x = 0; x < nx; x++) {
+        uint8_t clear = row[x] == OAT_CLEAR ? 255 : 0;
+        most = larger(most, clear & larger(larger(rows[x], rows[x + 1]), rows[x + 2]));
+    }
+    return most >= OAT_SOLID_LEAST;
+}
+
+oat_complete_answer BY(complete)(oat_counts n, const uint8_t *cells, size_t bytes) {
+    (void)bytes;
+    rings r;
+    r.rows[0] = r.rows[n.nx + 1] = 0;
+    for (size_t z = 0; z < n.nz; z++)
+        for (size_t y = 0; y < n.ny; y++) {
+            over_rows(n, cells, y, z, &r);
+            if (gap_in_row(cells + (z * n.ny + y) * n.nx, r.rows, n.nx)) return (oat_complete_answer){0, 0, 0, 0};
+        }
+    return (oat_complete_answer){0, 0, 0, 1};
+}
