@@ -1,1 +1,7 @@
-pub mod Flat
+pub mod Refusals
+pub mod Inputs
+pub mod LineCalls
+pub mod GridCalls
+pub mod WalkCalls
+pub mod SightCalls
+pub mod RecordCalls

@@ -1,0 +1,35 @@
+-- How the answers of marking, completeness and layers are flattened for C: what document 01 says of them, as numbers. Assumes nothing.
+use Prim.Native.Nat.{ℕ}
+use mathlib.Core.Path.{_≡_}
+use mathlib.Core.List.{List}
+use Rattle.cells.specs.declared.Counts.{Counts}
+use Rattle.cells.specs.declared.Verdict.{Verdict}
+use Rattle.cells.specs.declared.Verdict.the-variants.{Fine, Refused as Fails}
+use Rattle.grids.specs.declared.LayerPart.{LayerPart}
+use Rattle.grids.specs.declared.LayerPart.the-variants.{Part as LayerAt, Refused as NoPart}
+use Rattle.grids.specs.declared.Completeness.{Completeness}
+use Rattle.grids.specs.declared.Completeness.the-variants.{Yes, No, Refused as NotAsked}
+use Rattle.grids.specs.Marks.{Marks}
+use Rattle.oatmarten.specs.declared.grid_calls.OatVerdict.{OatVerdict}
+use Rattle.oatmarten.specs.declared.grid_calls.OatComplete.{OatComplete}
+use Rattle.oatmarten.specs.declared.grid_calls.OatPart.{OatPart}
+use Rattle.oatmarten.specs.Refusals.{flat-refusal}
+
+abbrev pub flat-verdict : Verdict → OatVerdict
+flat-verdict Fine = record { refusal = 0; end = 0; axis = 0 }
+flat-verdict (Fails r) = record { refusal = flat-refusal r .number; end = flat-refusal r .end; axis = flat-refusal r .axis }
+
+abbrev pub flat-complete : Completeness → OatComplete
+flat-complete Yes = record { refusal = 0; end = 0; axis = 0; yes = 1 }
+flat-complete No = record { refusal = 0; end = 0; axis = 0; yes = 0 }
+flat-complete (NotAsked r) = record { refusal = flat-refusal r .number; end = flat-refusal r .end; axis = flat-refusal r .axis; yes = 0 }
+
+abbrev pub flat-part : LayerPart → OatPart
+flat-part (LayerAt start many) = record { refusal = 0; end = 0; axis = 0; offset = start; length = many }
+flat-part (NoPart r) = record { refusal = flat-refusal r .number; end = flat-refusal r .end; axis = flat-refusal r .axis; offset = 0; length = 0 }
+
+-- the marking call for C: the struct is the flattening of an answer that meets the marking call's contract
+pub record FlatMarks (n : Counts) (entry : List ℕ) (r : OatVerdict) (exit : List ℕ) : Type 0 where
+  pub answer : Verdict
+  pub meets : Marks n entry answer exit
+  pub flat : r ≡ flat-verdict answer

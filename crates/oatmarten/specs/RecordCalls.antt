@@ -1,0 +1,68 @@
+-- How the answers of reading and writing a record are flattened for C: what document 01 says of them, as numbers. Assumes nothing.
+use Prim.Native.Nat.{ℕ}
+use mathlib.Core.Path.{_≡_}
+use mathlib.Core.List.{List}
+use lib.IntN.{pos}
+use Rattle.cells.specs.declared.Counts.{Counts}
+use Rattle.oatmarten.specs.declared.record_calls.OatVenue.{OatVenue}
+use Rattle.oatmarten.specs.declared.record_calls.OatPair.{OatPair}
+use Rattle.oatmarten.specs.declared.record_calls.OatWritten.{OatWritten}
+use Rattle.records.specs.declared.VenueRead.{VenueRead}
+use Rattle.records.specs.declared.VenueRead.the-variants.{Read as ReadVenue, Refused as NoVenue}
+use Rattle.records.specs.declared.PairRead.{PairRead}
+use Rattle.records.specs.declared.PairRead.the-variants.{Read as ReadPair, Refused as NoPair}
+use Rattle.venues.specs.declared.Written.{Written}
+use Rattle.venues.specs.declared.Written.the-variants.{Wrote, Refused as NotWritten}
+use Rattle.venues.specs.Writing.{WritesVenue}
+use Rattle.oatmarten.specs.Refusals.{flat-refusal}
+
+abbrev pub flat-venue : VenueRead → OatVenue
+flat-venue (ReadVenue v) =
+    record { refusal = 0; end = 0; axis = 0; nx = v .counts .nx; ny = v .counts .ny; nz = v .counts .nz; offset = v .start; length = v .long }
+flat-venue (NoVenue r) =
+    record {
+      refusal = flat-refusal r .number;
+      end = flat-refusal r .end;
+      axis = flat-refusal r .axis;
+      nx = 0;
+      ny = 0;
+      nz = 0;
+      offset = 0;
+      length = 0;
+    }
+
+abbrev pub flat-pair : PairRead → OatPair
+flat-pair (ReadPair e) =
+    record {
+      refusal = 0;
+      end = 0;
+      axis = 0;
+      px = e .p .x;
+      py = e .p .y;
+      pz = e .p .z;
+      qx = e .q .x;
+      qy = e .q .y;
+      qz = e .q .z;
+    }
+flat-pair (NoPair r) =
+    record {
+      refusal = flat-refusal r .number;
+      end = flat-refusal r .end;
+      axis = flat-refusal r .axis;
+      px = pos 0;
+      py = pos 0;
+      pz = pos 0;
+      qx = pos 0;
+      qy = pos 0;
+      qz = pos 0;
+    }
+
+abbrev pub flat-written : Written → OatWritten
+flat-written (Wrote many) = record { refusal = 0; end = 0; axis = 0; written = many }
+flat-written (NotWritten r) = record { refusal = flat-refusal r .number; end = flat-refusal r .end; axis = flat-refusal r .axis; written = 0 }
+
+-- the writing call for C: the struct is the flattening of an answer that meets the writing call's contract
+pub record FlatWritesVenue (n : Counts) (cells entry : List ℕ) (r : OatWritten) (exit : List ℕ) : Type 0 where
+  pub answer : Written
+  pub meets : WritesVenue n cells entry answer exit
+  pub flat : r ≡ flat-written answer

@@ -1,0 +1,43 @@
+-- How the answer of a first-hit call is flattened for C: what document 01 says of it, as numbers. Assumes nothing.
+use Prim.Native.Nat.{ℕ}
+use lib.IntN.{pos}
+use Rattle.walks.specs.declared.FirstHit.{FirstHit}
+use Rattle.walks.specs.declared.FirstHit.the-variants.{Clear, Hit as Blocked, Refused as NotWalked}
+use Rattle.oatmarten.specs.declared.walk_calls.OatHit.{OatHit}
+use Rattle.oatmarten.specs.Refusals.{flat-refusal}
+
+-- a walk that hit nothing, or that was not made
+abbrev pub no-hit : ℕ → ℕ → ℕ → ℕ → OatHit
+no-hit number end axis many =
+    record {
+      refusal = number;
+      end = end;
+      axis = axis;
+      hit = 0;
+      x = pos 0;
+      y = pos 0;
+      z = pos 0;
+      code = 0;
+      num = 0;
+      den = 0;
+      reads = many;
+    }
+
+-- a walk: hit 1 where it hit, 0 where it is clear
+abbrev pub flat-hit : FirstHit → OatHit
+flat-hit (Blocked h) =
+    record {
+      refusal = 0;
+      end = 0;
+      axis = 0;
+      hit = 1;
+      x = h .cell .x;
+      y = h .cell .y;
+      z = h .cell .z;
+      code = h .code;
+      num = h .place .num;
+      den = h .place .den;
+      reads = h .reads;
+    }
+flat-hit (Clear many) = no-hit 0 0 0 many
+flat-hit (NotWalked r) = no-hit (flat-refusal r .number) (flat-refusal r .end) (flat-refusal r .axis) 0

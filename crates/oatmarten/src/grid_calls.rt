@@ -1,0 +1,139 @@
+// Marking, completeness and layers for C.
+ghost use mathlib.Core.Path.{_≡_};
+ghost use lib.ListN.{length};
+ghost use Rattle.grids.specs.Grid.{layer-part};
+ghost use Rattle.grids.specs.Marks.{completeness};
+ghost use Rattle.oatmarten.specs.Inputs.{plain-counts};
+ghost use Rattle.oatmarten.specs.GridCalls.{flat-verdict, flat-complete, flat-part, FlatMarks};
+use crate::inputs::OatCounts;
+use crate::inputs::counts;
+use crate::refusals::flatten;
+use cells::Verdict;
+use grids::Completeness;
+use grids::LayerPart;
+
+// The answer of a call that accepts or refuses.
+#[repr(C)]
+pub struct OatVerdict {
+    pub refusal: u32,
+    pub end: u32,
+    pub axis: u32,
+}
+
+// The answer of the completeness call: 1 yes, 0 no.
+#[repr(C)]
+pub struct OatComplete {
+    pub refusal: u32,
+    pub end: u32,
+    pub axis: u32,
+    pub yes: u32,
+}
+
+// A part of the caller's bytes: where it starts and how long it is.
+#[repr(C)]
+pub struct OatPart {
+    pub refusal: u32,
+    pub end: u32,
+    pub axis: u32,
+    pub offset: u64,
+    pub length: u64,
+}
+
+fn flat_verdict(v: Verdict) -> OatVerdict
+    ensures { λ r. ⌜ r ≡ flat-verdict v ⌝ }
+{
+    match v {
+        Verdict::Fine => OatVerdict {
+            refusal: 0,
+            end: 0,
+            axis: 0,
+        },
+        Verdict::Refused(r) => {
+            let f = flatten(r);
+            OatVerdict {
+                refusal: f.number,
+                end: f.end,
+                axis: f.axis,
+            }
+        }
+    }
+}
+
+fn flat_complete(c: Completeness) -> OatComplete
+    ensures { λ r. ⌜ r ≡ flat-complete c ⌝ }
+{
+    match c {
+        Completeness::Yes => OatComplete {
+            refusal: 0,
+            end: 0,
+            axis: 0,
+            yes: 1,
+        },
+        Completeness::No => OatComplete {
+            refusal: 0,
+            end: 0,
+            axis: 0,
+            yes: 0,
+        },
+        Completeness::Refused(r) => {
+            let f = flatten(r);
+            OatComplete {
+                refusal: f.number,
+                end: f.end,
+                axis: f.axis,
+                yes: 0,
+            }
+        }
+    }
+}
+
+fn flat_part(p: LayerPart) -> OatPart
+    ensures { λ r. ⌜ r ≡ flat-part p ⌝ }
+{
+    match p {
+        LayerPart::Part(start, many) => OatPart {
+            refusal: 0,
+            end: 0,
+            axis: 0,
+            offset: start as u64,
+            length: many as u64,
+        },
+        LayerPart::Refused(r) => {
+            let f = flatten(r);
+            OatPart {
+                refusal: f.number,
+                end: f.end,
+                axis: f.axis,
+                offset: 0,
+                length: 0,
+            }
+        }
+    }
+}
+
+// Marks the near cells of a grid, in place.
+#[no_mangle]
+pub extern "C" fn oat_mark(n: OatCounts, cells: &mut [u8]) -> OatVerdict
+    ensures { λ r. ⌜ FlatMarks (plain-counts n) (now (cells .entry)) r (now (cells .exit)) ⌝ }
+{
+    let grid = counts(n);
+    flat_verdict(marks::mark(grid, cells))
+}
+
+// Whether no clear cell touches a solid one.
+#[no_mangle]
+pub extern "C" fn oat_complete(n: OatCounts, cells: &[u8]) -> OatComplete
+    ensures { λ r. ⌜ r ≡ flat-complete (completeness (plain-counts n) (now (cells .entry))) ⌝ }
+{
+    let grid = counts(n);
+    flat_complete(marks::complete(grid, cells))
+}
+
+// Where layer z lies in the caller's bytes.
+#[no_mangle]
+pub extern "C" fn oat_layer(n: OatCounts, cells: &[u8], z: i32) -> OatPart
+    ensures { λ r. ⌜ r ≡ flat-part (layer-part (plain-counts n) (length (now (cells .entry))) z) ⌝ }
+{
+    let grid = counts(n);
+    flat_part(grids::layer_part(grid, cells, z))
+}

@@ -1,0 +1,83 @@
+// C's structs that go into a call, and the values that they mean.
+ghost use mathlib.Core.Path.{_≡_};
+ghost use Rattle.oatmarten.specs.Inputs.{plain, plain-counts, plain-placement, plain-point};
+use cells::Cell;
+use cells::Counts;
+use sights::Placement;
+use sights::Point;
+
+// A cell.
+#[repr(C)]
+pub struct OatCell {
+    pub x: i32,
+    pub y: i32,
+    pub z: i32,
+}
+
+// A cell of C's as a cell.
+pub(crate) fn cell(c: OatCell) -> Cell
+    ensures { λ r. ⌜ r ≡ plain c ⌝ }
+{
+    let x = c.x;
+    let y = c.y;
+    let z = c.z;
+    Cell { x: x, y: y, z: z }
+}
+
+// How many cells a grid has along each axis.
+#[repr(C)]
+pub struct OatCounts {
+    pub nx: u32,
+    pub ny: u32,
+    pub nz: u32,
+}
+
+// Counts of C's as counts.
+pub(crate) fn counts(n: OatCounts) -> Counts
+    ensures { λ r. ⌜ r ≡ plain-counts n ⌝ }
+{
+    Counts {
+        nx: n.nx,
+        ny: n.ny,
+        nz: n.nz,
+    }
+}
+
+// Where the grid lies: its origin and its cell edge, in metres.
+#[repr(C)]
+pub struct OatPlacement {
+    pub ox: f64,
+    pub oy: f64,
+    pub oz: f64,
+    pub edge: f64,
+}
+
+// A placement and a point of C's as such.
+pub(crate) fn placement(at: OatPlacement) -> Placement
+    ensures { λ r. ⌜ r ≡ plain-placement at ⌝ }
+{
+    Placement {
+        ox: at.ox,
+        oy: at.oy,
+        oz: at.oz,
+        edge: at.edge,
+    }
+}
+
+// A surveyed point, in metres.
+#[repr(C)]
+pub struct OatPoint {
+    pub x: f64,
+    pub y: f64,
+    pub z: f64,
+}
+
+pub(crate) fn point(p: OatPoint) -> Point
+    ensures { λ r. ⌜ r ≡ plain-point p ⌝ }
+{
+    Point {
+        x: p.x,
+        y: p.y,
+        z: p.z,
+    }
+}

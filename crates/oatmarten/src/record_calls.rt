@@ -1,0 +1,169 @@
+// Reading a venue's and a pair's record and writing a venue's, for C.
+ghost use mathlib.Core.Path.{_≡_};
+ghost use Rattle.records.specs.Records.{venue-read, pair-read};
+ghost use Rattle.oatmarten.specs.Inputs.{plain-counts};
+ghost use Rattle.oatmarten.specs.RecordCalls.{flat-venue, flat-pair, flat-written, FlatWritesVenue};
+use crate::inputs::OatCounts;
+use crate::inputs::counts;
+use crate::refusals::flatten;
+use records::PairRead;
+use records::VenueRead;
+use venues::Written;
+
+// A venue's record that was read: its counts, and where its cells start in the caller's bytes and how many they are.
+#[repr(C)]
+pub struct OatVenue {
+    pub refusal: u32,
+    pub end: u32,
+    pub axis: u32,
+    pub nx: u32,
+    pub ny: u32,
+    pub nz: u32,
+    pub offset: u64,
+    pub length: u64,
+}
+
+// A pair's record that was read: P and Q.
+#[repr(C)]
+pub struct OatPair {
+    pub refusal: u32,
+    pub end: u32,
+    pub axis: u32,
+    pub px: i32,
+    pub py: i32,
+    pub pz: i32,
+    pub qx: i32,
+    pub qy: i32,
+    pub qz: i32,
+}
+
+// The number of bytes of a venue's record that was written.
+#[repr(C)]
+pub struct OatWritten {
+    pub refusal: u32,
+    pub end: u32,
+    pub axis: u32,
+    pub written: u64,
+}
+
+fn flat_venue(v: VenueRead) -> OatVenue
+    ensures { λ r. ⌜ r ≡ flat-venue v ⌝ }
+{
+    match v {
+        VenueRead::Read(venue) => {
+            let n = venue.counts;
+            OatVenue {
+                refusal: 0,
+                end: 0,
+                axis: 0,
+                nx: n.nx,
+                ny: n.ny,
+                nz: n.nz,
+                offset: venue.start as u64,
+                length: venue.long as u64,
+            }
+        }
+        VenueRead::Refused(r) => {
+            let f = flatten(r);
+            OatVenue {
+                refusal: f.number,
+                end: f.end,
+                axis: f.axis,
+                nx: 0,
+                ny: 0,
+                nz: 0,
+                offset: 0,
+                length: 0,
+            }
+        }
+    }
+}
+
+fn flat_pair(e: PairRead) -> OatPair
+    ensures { λ r. ⌜ r ≡ flat-pair e ⌝ }
+{
+    match e {
+        PairRead::Read(ends) => {
+            let p = ends.p;
+            let q = ends.q;
+            let px = p.x;
+            let py = p.y;
+            let pz = p.z;
+            let qx = q.x;
+            let qy = q.y;
+            let qz = q.z;
+            OatPair {
+                refusal: 0,
+                end: 0,
+                axis: 0,
+                px: px,
+                py: py,
+                pz: pz,
+                qx: qx,
+                qy: qy,
+                qz: qz,
+            }
+        }
+        PairRead::Refused(r) => {
+            let f = flatten(r);
+            OatPair {
+                refusal: f.number,
+                end: f.end,
+                axis: f.axis,
+                px: 0,
+                py: 0,
+                pz: 0,
+                qx: 0,
+                qy: 0,
+                qz: 0,
+            }
+        }
+    }
+}
+
+fn flat_written(w: Written) -> OatWritten
+    ensures { λ r. ⌜ r ≡ flat-written w ⌝ }
+{
+    match w {
+        Written::Wrote(many) => OatWritten {
+            refusal: 0,
+            end: 0,
+            axis: 0,
+            written: many as u64,
+        },
+        Written::Refused(r) => {
+            let f = flatten(r);
+            OatWritten {
+                refusal: f.number,
+                end: f.end,
+                axis: f.axis,
+                written: 0,
+            }
+        }
+    }
+}
+
+// Reads a venue's record.
+#[no_mangle]
+pub extern "C" fn oat_read_venue(bytes: &[u8]) -> OatVenue
+    ensures { λ r. ⌜ r ≡ flat-venue (venue-read (now (bytes .entry))) ⌝ }
+{
+    flat_venue(records::read_venue(bytes))
+}
+
+// Reads a pair's record.
+#[no_mangle]
+pub extern "C" fn oat_read_pair(bytes: &[u8]) -> OatPair
+    ensures { λ r. ⌜ r ≡ flat-pair (pair-read (now (bytes .entry))) ⌝ }
+{
+    flat_pair(records::read_pair(bytes))
+}
+
+// Writes a venue's record at the front of the lent bytes.
+#[no_mangle]
+pub extern "C" fn oat_write_venue(n: OatCounts, cells: &[u8], out: &mut [u8]) -> OatWritten
+    ensures { λ r. ⌜ FlatWritesVenue (plain-counts n) (now (cells .entry)) (now (out .entry)) r (now (out .exit)) ⌝ }
+{
+    let grid = counts(n);
+    flat_written(venues::write_venue(grid, cells, out))
+}

@@ -1,0 +1,152 @@
+// The cell of a surveyed point, and the sight answer, for C.
+ghost use mathlib.Core.Path.{_≡_};
+ghost use Rattle.sights.specs.Survey.{cell-of};
+ghost use Rattle.sight.specs.Sight.{sight};
+ghost use Rattle.sight.specs.declared.Sight.the-variants.{Blocked as InTheWay};
+ghost use Rattle.oatmarten.specs.Inputs.{plain-counts, plain-placement, plain-point};
+ghost use Rattle.oatmarten.specs.SightCalls.{flat-found, unblocked, flat-sight};
+use crate::inputs::OatCounts;
+use crate::inputs::OatPlacement;
+use crate::inputs::OatPoint;
+use crate::inputs::counts;
+use crate::inputs::placement;
+use crate::inputs::point;
+use crate::refusals::flatten;
+use sight::Block;
+use sight::Sight;
+use sights::Lookup;
+
+// The cell of a point.
+#[repr(C)]
+pub struct OatFound {
+    pub refusal: u32,
+    pub end: u32,
+    pub axis: u32,
+    pub x: i32,
+    pub y: i32,
+    pub z: i32,
+}
+
+fn flat_found(l: Lookup) -> OatFound
+    ensures { λ r. ⌜ r ≡ flat-found l ⌝ }
+{
+    match l {
+        Lookup::Cell(c) => {
+            let x = c.x;
+            let y = c.y;
+            let z = c.z;
+            OatFound {
+                refusal: 0,
+                end: 0,
+                axis: 0,
+                x: x,
+                y: y,
+                z: z,
+            }
+        }
+        Lookup::Refused(r) => {
+            let f = flatten(r);
+            OatFound {
+                refusal: f.number,
+                end: f.end,
+                axis: f.axis,
+                x: 0,
+                y: 0,
+                z: 0,
+            }
+        }
+    }
+}
+
+// The cell of a surveyed point.
+#[no_mangle]
+pub extern "C" fn oat_cell_of(n: OatCounts, at: OatPlacement, p: OatPoint) -> OatFound
+    ensures { λ r. ⌜ r ≡ flat-found (cell-of (plain-counts n) (plain-placement at) (plain-point p)) ⌝ }
+{
+    let grid = counts(n);
+    let place = placement(at);
+    let surveyed = point(p);
+    flat_found(sights::cell_of(grid, place, surveyed))
+}
+
+// The sight answer; blocked: 0 clear, 1 something in the way at a cell, with the share of the way to it.
+#[repr(C)]
+pub struct OatSight {
+    pub refusal: u32,
+    pub end: u32,
+    pub axis: u32,
+    pub blocked: u32,
+    pub share: f64,
+    pub x: i32,
+    pub y: i32,
+    pub z: i32,
+    pub code: u32,
+    pub reads: u32,
+}
+
+// A sight with nothing in the way, or that was refused.
+fn unblocked(number: u32, end: u32, axis: u32) -> OatSight
+    ensures { λ r. ⌜ r ≡ unblocked number end axis ⌝ }
+{
+    OatSight {
+        refusal: number,
+        end: end,
+        axis: axis,
+        blocked: 0,
+        share: 0u32 as f64,
+        x: 0,
+        y: 0,
+        z: 0,
+        code: 0,
+        reads: 0,
+    }
+}
+
+fn flat_blocked(b: Block) -> OatSight
+    ensures { λ r. ⌜ r ≡ flat-sight (InTheWay b) ⌝ }
+{
+    let c = b.cell;
+    OatSight {
+        refusal: 0,
+        end: 0,
+        axis: 0,
+        blocked: 1,
+        share: b.share,
+        x: c.x,
+        y: c.y,
+        z: c.z,
+        code: b.code as u32,
+        reads: b.reads,
+    }
+}
+
+fn flat_sight(s: Sight) -> OatSight
+    ensures { λ r. ⌜ r ≡ flat-sight s ⌝ }
+{
+    match s {
+        Sight::Blocked(b) => flat_blocked(b),
+        Sight::Clear => unblocked(0, 0, 0),
+        Sight::Refused(r) => {
+            let f = flatten(r);
+            unblocked(f.number, f.end, f.axis)
+        }
+    }
+}
+
+// Whether anything is in the way from the camera to the ball.
+#[no_mangle]
+pub extern "C" fn oat_sight(
+    n: OatCounts,
+    cells: &[u8],
+    at: OatPlacement,
+    camera: OatPoint,
+    ball: OatPoint,
+) -> OatSight
+    ensures { λ r. ⌜ r ≡ flat-sight (sight (plain-counts n) (now (cells .entry)) (plain-placement at) (plain-point camera) (plain-point ball)) ⌝ }
+{
+    let grid = counts(n);
+    let place = placement(at);
+    let from = point(camera);
+    let to = point(ball);
+    flat_sight(sight::see(grid, cells, place, from, to))
+}

@@ -1,0 +1,103 @@
+// The first-hit calls for C.
+ghost use mathlib.Core.Path.{_≡_};
+ghost use Rattle.walks.specs.declared.FirstHit.the-variants.{Hit as Blocked};
+ghost use Rattle.walks.specs.Answers.{adaptive, plain as plainly};
+ghost use Rattle.oatmarten.specs.Inputs.{plain, plain-counts};
+ghost use Rattle.oatmarten.specs.WalkCalls.{no-hit, flat-hit};
+use crate::inputs::OatCell;
+use crate::inputs::OatCounts;
+use crate::inputs::cell;
+use crate::inputs::counts;
+use crate::refusals::flatten;
+use walks::FirstHit;
+use walks::Hit;
+
+// The answer of a first-hit call; hit: 0 clear, 1 a hit at a cell, with its code and its place num over den.
+#[repr(C)]
+pub struct OatHit {
+    pub refusal: u32,
+    pub end: u32,
+    pub axis: u32,
+    pub hit: u32,
+    pub x: i32,
+    pub y: i32,
+    pub z: i32,
+    pub code: u32,
+    pub num: u32,
+    pub den: u32,
+    pub reads: u32,
+}
+
+// A walk that hit nothing, or that was not made.
+fn no_hit(number: u32, end: u32, axis: u32, many: u32) -> OatHit
+    ensures { λ r. ⌜ r ≡ no-hit number end axis many ⌝ }
+{
+    OatHit {
+        refusal: number,
+        end: end,
+        axis: axis,
+        hit: 0,
+        x: 0,
+        y: 0,
+        z: 0,
+        code: 0,
+        num: 0,
+        den: 0,
+        reads: many,
+    }
+}
+
+fn flat_block(h: Hit) -> OatHit
+    ensures { λ r. ⌜ r ≡ flat-hit (Blocked h) ⌝ }
+{
+    let c = h.cell;
+    let place = h.place;
+    OatHit {
+        refusal: 0,
+        end: 0,
+        axis: 0,
+        hit: 1,
+        x: c.x,
+        y: c.y,
+        z: c.z,
+        code: h.code as u32,
+        num: place.num,
+        den: place.den,
+        reads: h.reads,
+    }
+}
+
+fn flat_hit(h: FirstHit) -> OatHit
+    ensures { λ r. ⌜ r ≡ flat-hit h ⌝ }
+{
+    match h {
+        FirstHit::Hit(b) => flat_block(b),
+        FirstHit::Clear(many) => no_hit(0, 0, 0, many),
+        FirstHit::Refused(r) => {
+            let f = flatten(r);
+            no_hit(f.number, f.end, f.axis, 0)
+        }
+    }
+}
+
+// The first solid cell of the plain walk.
+#[no_mangle]
+pub extern "C" fn oat_plain(n: OatCounts, cells: &[u8], p: OatCell, q: OatCell) -> OatHit
+    ensures { λ r. ⌜ r ≡ flat-hit (plainly (plain-counts n) (now (cells .entry)) (plain p) (plain q)) ⌝ }
+{
+    let grid = counts(n);
+    let from = cell(p);
+    let to = cell(q);
+    flat_hit(hits::first_plain(grid, cells, from, to))
+}
+
+// The first solid cell of the adaptive walk.
+#[no_mangle]
+pub extern "C" fn oat_adaptive(n: OatCounts, cells: &[u8], p: OatCell, q: OatCell) -> OatHit
+    ensures { λ r. ⌜ r ≡ flat-hit (adaptive (plain-counts n) (now (cells .entry)) (plain p) (plain q)) ⌝ }
+{
+    let grid = counts(n);
+    let from = cell(p);
+    let to = cell(q);
+    flat_hit(hits::first_adaptive(grid, cells, from, to))
+}
