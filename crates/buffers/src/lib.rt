@@ -35,7 +35,9 @@ pub fn four_at(s: &[u8], at: usize) -> usize
     requires { ⌜ at + 4 ≤ length (now s) ⌝ }
     ensures { λ r. ⌜ (r ≡ four-at (now (s .entry)) at) × (r < 4294967296) ⌝ }
 {
-    (two_at(s, at) as usize) * 65536 + (two_at(s, at + 2) as usize)
+    let upper = two_at(s, at) as usize;
+    let lower = two_at(s, at + 2) as usize;
+    upper * 65536 + lower
 }
 
 // A number as two bytes, from a place on.
