@@ -1,0 +1,32 @@
+-- `oatmarten::walk_calls::flat_block` meets its contract: each number of the hit goes to its own field. Assumes nothing.
+use Rattle.cells.proofs.Machine.{held-is}
+use borrow.Author.Needs.{needs}
+use Rattle.oatmarten.proofs.walk_calls.flat_block.Statement.{statement}
+use Rattle.oatmarten.proofs.walk_calls.flat_block.Tie as tie
+
+cast-t4 : tie.Need-cast-t4
+cast-t4 c = search needs
+
+returns : tie.Need-returns
+returns c =
+    let h = c .before .before .before .before .args .h in
+    let x = held-is (h .cell .x) (search needs) in
+    let y = held-is (h .cell .y) (search needs) in
+    let z = held-is (h .cell .z) (search needs) in
+    λ i.
+    record {
+      refusal = 0;
+      end = 0;
+      axis = 0;
+      hit = 1;
+      x = x i;
+      y = y i;
+      z = z i;
+      code = h .code;
+      num = h .place .num;
+      den = h .place .den;
+      reads = h .reads;
+    }
+
+pub flat-block-spec : {M : Type 1} → statement M
+flat-block-spec = tie.close (tie.spec cast-t4 returns)
