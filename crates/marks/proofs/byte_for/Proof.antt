@@ -5,10 +5,10 @@ use Rattle.marks.proofs.byte_for.Statement.{statement}
 use Rattle.marks.proofs.byte_for.Tie as tie
 
 returns : tie.Need-returns
-returns c = rw (lt-ltb 1 (c .before .args .b) (c .if1 .taken))
+returns c = rw (lt-ltb 1 (c .before .args .b) (omega arith))
 
 returns-2 : tie.Need-returns-2
-returns-2 c = rw (le-ltb 1 (c .before .before .args .b) (omega arith), lt-ltb 1 (c .before .before .args .m) (c .if2 .taken))
+returns-2 c = rw (le-ltb 1 (c .before .before .args .b) (omega arith), lt-ltb 1 (c .before .before .args .m) (omega arith))
 
 returns-3 : tie.Need-returns-3
 returns-3 c = rw (le-ltb 1 (c .before .before .args .b) (omega arith), le-ltb 1 (c .before .before .args .m) (omega arith))
