@@ -9,28 +9,28 @@ enum-told : tie.Need-enum-told
 enum-told c = search needs
 
 add-t8 : tie.Need-add-t8
-add-t8 c = let (e, d) = c .before .before .before .before .before .before .before .pre in sum-fits _ _ (e .xy) (d .b2)
+add-t8 c = let (e, d) = c .before .before .before .before .before .before .before .pre in search (sum-fits, e, d)
 
 add-t9 : tie.Need-add-t9
-add-t9 c = let (e, d) = c .before .before .before .before .before .before .before .before .before .pre in sum-fits _ _ (e .xz) (d .c2)
+add-t9 c = let (e, d) = c .before .before .before .before .before .before .before .before .before .pre in search (sum-fits, e, d)
 
 enum-told-2 : tie.Need-enum-told-2
 enum-told-2 c = search needs
 
 sub-t10 : tie.Need-sub-t10
-sub-t10 c = let (e, d) = c .before .before .before .before .before .before .before .pre in diff-fits _ _ (e .xy) (d .a2)
+sub-t10 c = let (e, d) = c .before .before .before .before .before .before .before .pre in search (diff-fits, e, d)
 
 sub-t11 : tie.Need-sub-t11
-sub-t11 c = let (e, d) = c .before .before .before .before .before .before .before .before .before .pre in diff-fits _ _ (e .zy) (d .c2)
+sub-t11 c = let (e, d) = c .before .before .before .before .before .before .before .before .before .pre in search (diff-fits, e, d)
 
 enum-told-3 : tie.Need-enum-told-3
 enum-told-3 c = search needs
 
 sub-t12 : tie.Need-sub-t12
-sub-t12 c = let (e, d) = c .before .before .before .before .before .before .before .pre in diff-fits _ _ (e .xz) (d .a2)
+sub-t12 c = let (e, d) = c .before .before .before .before .before .before .before .pre in search (diff-fits, e, d)
 
 add-t13 : tie.Need-add-t13
-add-t13 c = let (e, d) = c .before .before .before .before .before .before .before .before .before .pre in sum-fits _ _ (e .zy) (d .b2)
+add-t13 c = let (e, d) = c .before .before .before .before .before .before .before .before .before .pre in search (sum-fits, e, d)
 
 returns : tie.Need-returns
 returns c =
