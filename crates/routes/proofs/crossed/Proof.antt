@@ -14,19 +14,19 @@ enum-told : tie.Need-enum-told
 enum-told c = search needs
 
 add-t10 : tie.Need-add-t10
-add-t10 c = let k = c .before .before .before .before .before .before .before .before .before .pre in sum-fits _ _ (k .at) (k .x)
+add-t10 c = let k = c .before .before .before .before .before .before .before .before .before .pre in search (sum-fits, k)
 
 enum-told-2 : tie.Need-enum-told-2
 enum-told-2 c = search needs
 
 add-t11 : tie.Need-add-t11
-add-t11 c = let k = c .before .before .before .before .before .before .before .before .before .pre in sum-fits _ _ (k .at) (k .y)
+add-t11 c = let k = c .before .before .before .before .before .before .before .before .before .pre in search (sum-fits, k)
 
 enum-told-3 : tie.Need-enum-told-3
 enum-told-3 c = search needs
 
 add-t12 : tie.Need-add-t12
-add-t12 c = let k = c .before .before .before .before .before .before .before .before .before .pre in sum-fits _ _ (k .at) (k .z)
+add-t12 c = let k = c .before .before .before .before .before .before .before .before .before .pre in search (sum-fits, k)
 
 returns : tie.Need-returns
 returns c =
