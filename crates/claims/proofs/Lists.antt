@@ -1,27 +1,69 @@
 -- The claims about the list calls. Assumes nothing.
-use Prim.Native.Nat.{ℕ}
+use Prim.Native.Nat.{ℕ, _*_}
 use mathlib.Core.Path.{_≡_, refl, sym, ap, _∙_}
+use mathlib.Core.Bool.{true}
 use mathlib.Core.List.{List}
 use mathlib.Core.Logic.{_⊎_, inl, inr}
 use mathlib.Core.Option.{Option, some, Option·map, Option·some-injective}
 use native.Mathlib.Omega.{arith}
 use lib.IntN.{ℤ, pos, natAbs}
-use lib.ListN.{getD}
+use lib.ListN.{length, getD}
+use Rattle.cells.specs.declared.Axis.{Axis}
+use Rattle.cells.specs.declared.Axis.the-variants.{X, Y, Z}
 use Rattle.cells.specs.declared.Cell.{Cell}
+use Rattle.cells.specs.declared.Refusal.{Refusal}
+use Rattle.cells.specs.declared.Verdict.{Verdict}
+use Rattle.cells.specs.declared.Verdict.the-variants.{Fine, Refused as Fails}
+use Rattle.cells.specs.Touching.{on}
 use Rattle.cells.specs.Refusals.{Told, told}
 use Rattle.cells.proofs.Refusals.{untold, told-back}
-use Rattle.lines.specs.Lines.{six-line, line-26}
+use Rattle.lines.specs.Preference.{rule-1}
+use Rattle.lines.specs.Lines.{six-line, line-26, in-limit}
+use Rattle.lines.proofs.Cells.{limited-difference}
 use Rattle.lists.specs.declared.Listed.{Listed}
 use Rattle.lists.specs.declared.Listed.the-variants.{Cells, Refused}
-use Rattle.lists.specs.Lists.{Lists, told-listed}
-use Rattle.claims.specs.Lists.{ListedOnce, WrongLists}
+use Rattle.lists.specs.Lists.{list-check, listed, numbers, after-listing, Lists, told-listed}
+use Rattle.lists.proofs.Front.{numbers-length}
+use Rattle.claims.specs.Lists.{ListedOnce, Longest, lowest, highest, WrongLists}
+use Rattle.claims.proofs.Lines.{six-line-holds}
+
+-- 1 for an accepted list
+accepted : Listed → ℕ
+accepted (Cells n) = 1
+accepted (Refused r) = 0
 
 pub listed-once : (line : List Cell) (p q : Cell) (entry : List ℤ) → ListedOnce line p q entry
+unfolding accepted
 listed-once line p q entry =
     record {
       answer = λ r s exit last h k. h .says ∙ sym (k .says);
       memory = λ r s exit last h k. h .holds ∙ sym (k .holds);
+      untouched = λ r exit h. by (list-check p q (length line) (length entry)) r (h .says) (h .holds);
     }
+  where
+    by : (v : Verdict) {exit : List ℤ} (r : Refusal) → Refused r ≡ listed v (length line) → exit ≡ after-listing v line entry → exit ≡ entry
+    by Fine r h e = absurd (let z : _≡_ {A = ℕ} 0 1 = ap accepted h in omega arith)
+    by (Fails x) r h e = e
+
+pub longest-list : Longest
+longest-list =
+    record {
+      most = λ p q hp hq.
+          omega (arith, six-line-holds rule-1 p q .many, limited-difference p q hp hq X, limited-difference p q hp hq Y, limited-difference p q hp hq Z);
+      accepted = (record { limit = λ a. low a }, record { limit = λ a. high a });
+      reached = six-line-holds rule-1 lowest highest .many;
+      takes = numbers-length (six-line rule-1 lowest highest) ∙ ap (λ n. 3 * n) (six-line-holds rule-1 lowest highest .many);
+    }
+  where
+    low : (a : Axis) → in-limit (on lowest a) ≡ true
+    low X = refl
+    low Y = refl
+    low Z = refl
+
+    high : (a : Axis) → in-limit (on highest a) ≡ true
+    high X = refl
+    high Y = refl
+    high Z = refl
 
 -- what document 01 says of an answer tells which it is
 listed-back : Told ⊎ ℕ → Option Listed
@@ -35,11 +77,6 @@ told-listed-back (Refused r) = ap (Option·map Refused) (told-back r)
 
 pub listed-one-to-one : (l k : Listed) → told-listed l ≡ told-listed k → l ≡ k
 listed-one-to-one l k e = Option·some-injective l k (sym (told-listed-back l) ∙ ap listed-back e ∙ told-listed-back k)
-
--- 1 for an accepted list
-accepted : Listed → ℕ
-accepted (Cells n) = 1
-accepted (Refused r) = 0
 
 pub wrong-lists : WrongLists
 unfolding six-line line-26 accepted

@@ -7,7 +7,9 @@ use mathlib.Core.List.{List, _++_, append-assoc}
 use lib.ListN.{length, getD, take, drop, take-append-drop}
 use borrow.Author.Tests.{eqb-true}
 use Rattle.cells.specs.declared.Counts.{Counts}
-use Rattle.cells.specs.declared.Verdict.the-variants.{Fine}
+use Rattle.cells.specs.declared.Refusal.{Refusal}
+use Rattle.cells.specs.declared.Verdict.{Verdict}
+use Rattle.cells.specs.declared.Verdict.the-variants.{Fine, Refused as Fails}
 use Rattle.cells.proofs.Signed.{up}
 use Rattle.grids.specs.Grid.{size, shape}
 use Rattle.grids.proofs.Shapes.{shaped}
@@ -20,20 +22,31 @@ use Rattle.records.proofs.Heads.{venue-accepted}
 use Rattle.records.proofs.Told.{told-venue-one, told-pair-one}
 use Rattle.records.proofs.Following.{venue-unread, cells-unread, pair-unread}
 use Rattle.venues.specs.declared.Written.{Written}
-use Rattle.venues.specs.declared.Written.the-variants.{Wrote}
-use Rattle.venues.specs.Writing.{written-version, head-bytes, write-check, WritesVenue}
+use Rattle.venues.specs.declared.Written.the-variants.{Wrote, Refused as NotWritten}
+use Rattle.venues.specs.Writing.{written-version, head-bytes, write-check, written, after-writing, WritesVenue}
 use Rattle.venues.proofs.Told.{told-written-one}
 use Rattle.venues.proofs.RoundTrip.{read-back, cells-back, front-written, record-fits, same-bytes}
 use Rattle.claims.specs.Records.{ReadsVenue, GivesCells, OneAnswer, ToldApart, Accepted, EmptyPart, ReadBack, WrittenBack, NotLookedAt, example-venue, example-cells, example-counts, example-room, minus-one-pair, Refuses, WritesNothing, ReadsUnsigned}
 
+-- 1 where a venue was written
+accepts : Written → ℕ
+accepts (Wrote n) = 1
+accepts (NotWritten r) = 0
+
 pub one-answer : (s : List ℕ) → OneAnswer s
+unfolding accepts
 one-answer s =
     record {
       venue = λ r t e f. e ∙ sym f;
       cells = λ a b e f. e ∙ sym f;
       pair = λ r t e f. e ∙ sym f;
       written = λ n entry r t x y e f. (e .says ∙ sym (f .says), e .holds ∙ sym (f .holds));
+      untouched = λ n entry r x e. by n entry (write-check n (length s) (length entry)) r (e .says) (e .holds);
     }
+  where
+    by : (n : Counts) (entry : List ℕ) (v : Verdict) {x : List ℕ} (r : Refusal) → NotWritten r ≡ written v n → x ≡ after-writing v n s entry → x ≡ entry
+    by n entry Fine r h e = absurd (let z : _≡_ {A = ℕ} 0 1 = ap accepts h in omega arith)
+    by n entry (Fails r) x h e = e
 
 pub answers-told-apart : ToldApart
 answers-told-apart = record { venue = told-venue-one; pair = told-pair-one; written = told-written-one }

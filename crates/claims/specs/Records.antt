@@ -17,7 +17,7 @@ use Rattle.records.specs.declared.PairRead.{PairRead}
 use Rattle.records.specs.declared.PairRead.the-variants.{Read as ReadPair}
 use Rattle.records.specs.Records.{length-field, announced, version-of, cells-from, venue-read, venue-cells, pair-read, told-venue, told-pair}
 use Rattle.venues.specs.declared.Written.{Written}
-use Rattle.venues.specs.declared.Written.the-variants.{Wrote}
+use Rattle.venues.specs.declared.Written.the-variants.{Wrote, Refused as NotWritten}
 use Rattle.venues.specs.Writing.{written-version, WritesVenue, told-written}
 
 -- ---- the contracts of the reading calls
@@ -33,12 +33,13 @@ ReadsPair s r = r ≡ pair-read s
 
 -- ---- the claims
 
--- One answer and one final memory for each input; case and values tell which answer it is.
+-- One answer and one final memory for each input; a refusal writes nothing; case and values tell which answer it is.
 pub record OneAnswer (s : List ℕ) : Type 0 where
   pub venue : (r t : VenueRead) → ReadsVenue s r → ReadsVenue s t → r ≡ t
   pub cells : (a b : List ℕ) → GivesCells s a → GivesCells s b → a ≡ b
   pub pair : (r t : PairRead) → ReadsPair s r → ReadsPair s t → r ≡ t
   pub written : (n : Counts) (entry : List ℕ) (r t : Written) (x y : List ℕ) → WritesVenue n s entry r x → WritesVenue n s entry t y → (r ≡ t) × (x ≡ y)
+  pub untouched : (n : Counts) (entry : List ℕ) (r : Refusal) (x : List ℕ) → WritesVenue n s entry (NotWritten r) x → x ≡ entry
 
 pub record ToldApart : Type 0 where
   pub venue : (r t : VenueRead) → told-venue r ≡ told-venue t → r ≡ t
