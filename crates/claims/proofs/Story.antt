@@ -1,5 +1,5 @@
 -- Demand 3: the claims about the two first-hit calls, from where their walks end. Assumes nothing.
-use Prim.Native.Nat.{ℕ, _+_, _*_, _≤_}
+use Prim.Native.Nat.{ℕ, suc, _+_, _*_, _≤_}
 use mathlib.Core.Path.{_≡_, refl, sym, ap, ap₂, _∙_, subst, subst₂}
 use mathlib.Core.Bool.{Bool, true, false, cond}
 use mathlib.Core.List.{List}
@@ -27,15 +27,16 @@ use Rattle.walks.specs.declared.Place.{Place}
 use Rattle.walks.specs.declared.Hit.{Hit}
 use Rattle.walks.specs.declared.FirstHit.{FirstHit}
 use Rattle.walks.specs.declared.FirstHit.the-variants.{Clear, Hit as Blocked, Refused}
-use Rattle.walks.specs.Walks.{hit-at}
+use Rattle.walks.specs.Walks.{hit-at, six-count}
 use Rattle.walks.specs.Answers.{entered-at, walk-check, answer-by, plain, adaptive, PlainHit, AdaptiveHit, told-hit}
-use Rattle.walks.proofs.Numbers.{plain-end, adaptive-end, plain-reads, adaptive-reads}
+use Rattle.walks.proofs.Runs.{plain-first, by-one, visits-all}
+use Rattle.walks.proofs.Numbers.{solid-at, plain-end, adaptive-end, plain-reads, adaptive-reads}
 use Rattle.walks.specs.Safe.{InGrid}
 use Rattle.walks.proofs.Inside.{accepted, six-inside}
 use Rattle.walks.proofs.Safe.{complete-safe}
 use Rattle.walks.proofs.Places.{never-falls}
 use Rattle.walks.proofs.Story.{answer-at, plain-answer, adaptive-answer, plain-stops, adaptive-stops, plain-below, adaptive-below, no-earlier, not-invented, ends-alike, reads-no-more, plain-clear, plain-clear-reads, adaptive-clear-most, adaptive-clear-least}
-use Rattle.claims.specs.Story.{SameStory, hits, clears, refusals, OneStory, NoLater, NeverInvented, NothingInTheWay, Reads, WalksEnd, HitInside, MarkedFirst, HitOnce, WrongWalks}
+use Rattle.claims.specs.Story.{SameStory, hits, clears, refusals, OneStory, NoLater, NeverInvented, NothingInTheWay, Reads, WalksEnd, FirstSolid, HitInside, MarkedFirst, HitOnce, WrongWalks}
 
 -- what an answer carries
 hit-or : Hit → FirstHit → Hit
@@ -123,6 +124,25 @@ module _ (n : Counts) (l : List ℕ) (p q : Cell) where
       record {
         plain = λ h a. inside-at h _ _ (plain-below n l p q) (a .says ∙ plain-answer n l p q);
         adaptive = λ h a. inside-at h _ _ (adaptive-below n l p q) (a .says ∙ adaptive-answer n l p q);
+      }
+
+  pub first-solid : FirstSolid n l p q
+  first-solid =
+      record {
+        hit = λ h a.
+            let (fine, hit, there) = hit-told check h (plain-end n l p q) (plain-reads n l p q) (a .says ∙ plain-answer n l p q) in (
+              plain-end n l p q,
+              record {
+                most = plain-below n l p q;
+                cell = ap (λ k. k .cell) there;
+                solid-there = hit;
+                none-before = plain-first (solid-at n l p q) (total (differences p q)) suc (by-one (total (differences p q)));
+                reads = omega (arith, ap (λ k. k .reads) there, visits-all (solid-at n l p q) (total (differences p q)) (six-count p q) 0 (omega arith) (omega arith));
+              },
+            );
+        none = λ reads a.
+            let (fine, clear, there) = clear-told check reads (plain-end n l p q) (plain-reads n l p q) (a .says ∙ plain-answer n l p q) in
+            plain-clear n l p q clear;
       }
 
   pub never-invented : NeverInvented n l p q

@@ -1,6 +1,6 @@
 -- Demand 3: the plain and the adaptive walk tell one story. Claims about the two first-hit calls, by their contracts: for every grid, every two
 -- ends, and all answers that meet the contracts on the same inputs. Assumes nothing.
-use Prim.Native.Nat.{ℕ, _+_, _*_, _≤_}
+use Prim.Native.Nat.{ℕ, _+_, _*_, _≤_, _<_}
 use mathlib.Core.Path.{_≡_}
 use mathlib.Core.Bool.{true, false}
 use mathlib.Core.Logic.{_⊎_}
@@ -58,6 +58,18 @@ pub record NothingInTheWay (n : Counts) (l : List ℕ) (p q : Cell) : Type 0 whe
 pub record Reads (n : Counts) (l : List ℕ) (p q : Cell) : Type 0 where
   pub plain : (reads : ℕ) → PlainHit n l p q (Clear reads) → reads ≡ total (differences p q) + 1
   pub adaptive : (reads : ℕ) → AdaptiveHit n l p q (Clear reads) → (longest (differences p q) + 1 ≤ reads) × (reads ≤ total (differences p q) + 1)
+
+-- "The plain walk is the 6-line to its first solid cell": cell number s of the 6-line is solid and none before it; or none is at all.
+pub record FirstOf (n : Counts) (l : List ℕ) (p q : Cell) (h : Hit) (s : ℕ) : Type 0 where
+  pub most : s ≤ total (differences p q)
+  pub cell : h .cell ≡ six-cell rule-1 p q s
+  pub solid-there : hit-at n l (six-cell rule-1 p q s) ≡ true
+  pub none-before : (t : ℕ) → t < s → hit-at n l (six-cell rule-1 p q t) ≡ false
+  pub reads : h .reads ≡ s + 1
+
+pub record FirstSolid (n : Counts) (l : List ℕ) (p q : Cell) : Type 0 where
+  pub hit : (h : Hit) → PlainHit n l p q (Blocked h) → (s : ℕ) × FirstOf n l p q h s
+  pub none : (reads : ℕ) → PlainHit n l p q (Clear reads) → (s : ℕ) → s ≤ total (differences p q) → hit-at n l (six-cell rule-1 p q s) ≡ false
 
 -- A hit lies in the grid.
 pub record HitInside (n : Counts) (l : List ℕ) (p q : Cell) : Type 0 where
