@@ -8,9 +8,11 @@ use lib.ListN.{length, getD}
 use Rattle.cells.specs.declared.Counts.{Counts}
 use Rattle.cells.specs.declared.Verdict.{Verdict}
 use Rattle.cells.specs.declared.Verdict.the-variants.{Fine, Refused}
+use Rattle.grids.specs.declared.LayerPart.{LayerPart}
+use Rattle.grids.specs.declared.LayerPart.the-variants.{Part, Refused as NoPart}
 use Rattle.grids.specs.declared.Completeness.{Completeness}
 use Rattle.grids.specs.declared.Completeness.the-variants.{Yes, No}
-use Rattle.grids.specs.Grid.{shape, index, layer}
+use Rattle.grids.specs.Grid.{shape, index, layer-part, layer}
 use Rattle.grids.specs.Marks.{after-marking, marked, complete, completeness, Marks}
 use Rattle.grids.proofs.Answers.{verdict-one, part-one, completeness-one}
 use Rattle.grids.proofs.Shapes.{Shaped, shaped}
@@ -73,12 +75,23 @@ marked-call n l = record { says-yes = yes; refused = λ r a m. m .holds ∙ ap (
 pub complete-means : (k : ℕ) (n : Counts) (l : List ℕ) → Complete k n l
 complete-means k n l = record { means = complete-iff k n l }
 
+-- where a part starts
+starts : LayerPart → ℕ
+starts (Part start long) = start
+starts (NoPart r) = 0
+
 pub shut-out : ShutOut
-unfolding shape marked complete completeness layer
+unfolding starts shape marked complete completeness layer layer-part
 shut-out =
     record {
+      one-byte-short = λ e. let z : _≡_ {A = ℕ} 0 1 = cc in omega arith;
+      no-shape = λ r e. let z : _≡_ {A = ℕ} 0 1 = cc in omega arith;
       marks-nothing = λ r m. let z : _≡_ {A = ℕ} 0 1 = ap (λ (l : List ℕ). getD l 0 0) (m .holds) in omega arith;
       refuses = λ r a m. let e : Refused r ≡ Fine = m .says in let z : _≡_ {A = ℕ} 0 1 = cc in omega arith;
       complete-always = λ e. let f : Yes ≡ No = e in let z : _≡_ {A = ℕ} 0 1 = cc in omega arith;
+      never-complete = λ e. let f : No ≡ Yes = e in let z : _≡_ {A = ℕ} 0 1 = cc in omega arith;
       empty-layer = λ e. let z : _≡_ {A = ℕ} 0 8 = ap length e in omega arith;
+      first-layer = λ e. let z : _≡_ {A = ℕ} 1 3 = ap (λ (l : List ℕ). getD l 0 0) e in omega arith;
+      first-part = λ e. let z : _≡_ {A = ℕ} 0 2 = ap starts e in omega arith;
+      no-part = λ r e. let z : _≡_ {A = ℕ} 0 2 = ap starts e in omega arith;
     }

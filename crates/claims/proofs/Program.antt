@@ -11,11 +11,11 @@ use Rattle.cells.specs.declared.Counts.{Counts}
 use Rattle.records.specs.declared.Venue.{Venue}
 use Rattle.records.specs.declared.VenueRead.{VenueRead}
 use Rattle.records.specs.declared.VenueRead.the-variants.{Read, Refused as NoVenue}
-use Rattle.records.specs.Records.{whole, venue-read, venue-cells, pair-check, pair-read}
+use Rattle.records.specs.Records.{whole, venue-check, venue-read, venue-cells, pair-check, pair-read}
 use Rattle.program.specs.declared.Step.{Step}
 use Rattle.program.specs.Program.{Said, venue-most, pair-most, beyond, venue-refused, said-of-venue, venue-said, pair-said, after-record, pairs, after-venue, output, frame, frame-length, after-frame, Says, text-room}
 use Rattle.program.proofs.Frames.{venue-framed, venue-on, venue-taken, read-framed, cells-framed, pair-framed, pair-on, after-same, less-left}
-use Rattle.claims.specs.Program.{Pairs, last, next, Runs, ends, begins, Writes, OneStep, example-input, Silent, GoesOn}
+use Rattle.claims.specs.Program.{Pairs, last, next, Runs, ends, begins, Writes, OneStep, example-input, Silent, GoesOn, Begins}
 use Rattle.claims.proofs.Starred.{example-writes}
 
 -- ---- one step
@@ -177,3 +177,7 @@ not-silent w = let e : _≡_ {A = ℕ} 0 30 = ap length (only-run example-input 
 pub not-on : (n : Counts) (cells entry : List ℕ) → GoesOn n cells entry → ⊥
 unfolding pair-said beyond pair-read pair-check whole
 not-on n cells entry w = true≢false (sym (w .more) ∙ w .says .more)
+
+pub not-begun : (entry : List ℕ) → Begins entry → ⊥
+unfolding venue-said beyond venue-read venue-check whole
+not-begun entry w = true≢false (sym (w .more) ∙ w .says .more)

@@ -26,7 +26,7 @@ use Rattle.venues.specs.declared.Written.the-variants.{Wrote, Refused as NotWri
 use Rattle.venues.specs.Writing.{written-version, head-bytes, write-check, written, after-writing, WritesVenue}
 use Rattle.venues.proofs.Told.{told-written-one}
 use Rattle.venues.proofs.RoundTrip.{read-back, cells-back, front-written, record-fits, same-bytes}
-use Rattle.claims.specs.Records.{ReadsVenue, GivesCells, OneAnswer, ToldApart, Accepted, EmptyPart, ReadBack, WrittenBack, NotLookedAt, example-venue, example-cells, example-counts, example-room, minus-one-pair, Refuses, WritesNothing, ReadsUnsigned}
+use Rattle.claims.specs.Records.{ReadsVenue, GivesCells, OneAnswer, ToldApart, Accepted, EmptyPart, ReadBack, WrittenBack, NotLookedAt, example-venue, example-cells, example-counts, example-room, minus-one-pair, Refuses, WritesNothing, ReadsUnsigned, WrongRecords}
 
 -- 1 where a venue was written
 accepts : Written → ℕ
@@ -137,3 +137,14 @@ no-unsigned-reader h =
     let same : h .ends ≡ pair-in minus-one-pair = cc in
     let z : _≡_ {A = ℕ} 65535 0 = ap up (sym (h .unsigned) ∙ ap (λ (p : Pair). p .q .x) same) in
     omega arith
+
+pub wrong-records : WrongRecords
+unfolding accepts shape whole venue-version venue-head venue-check venue-read venue-cells pair-version pair-length pair-check pair-read write-check
+wrong-records =
+    record {
+      other-version = λ v e. let z : _≡_ {A = ℕ} 0 1 = cc in omega arith;
+      whole-part = λ e. let z : _≡_ {A = ℕ} 19 8 = ap length e in omega arith;
+      empty-part = λ e. let z : _≡_ {A = ℕ} 0 8 = ap length e in omega arith;
+      pair-refuser = λ r e. let z : _≡_ {A = ℕ} 0 1 = cc in omega arith;
+      short-writer = λ exit w. let z : _≡_ {A = ℕ} 1 0 = ap accepts (w .says) in omega arith;
+    }

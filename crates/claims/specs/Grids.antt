@@ -15,7 +15,7 @@ use Rattle.cells.specs.Touching.{Touches}
 use Rattle.grids.specs.declared.LayerPart.{LayerPart}
 use Rattle.grids.specs.declared.LayerPart.the-variants.{Part, Refused as NoPart}
 use Rattle.grids.specs.declared.Completeness.{Completeness}
-use Rattle.grids.specs.declared.Completeness.the-variants.{Yes}
+use Rattle.grids.specs.declared.Completeness.the-variants.{Yes, No}
 use Rattle.grids.specs.Grid.{size, shape, index, cell-at, clear, solid, layer-part, layer}
 use Rattle.grids.specs.Marks.{marked, complete, completeness, Marks}
 use Rattle.claims.specs.Starred.{at}
@@ -71,15 +71,25 @@ pub record Complete (k : ℕ) (n : Counts) (l : List ℕ) : Type 0 where
   pub means : (complete k n l ≡ true)
       ↔ ((i j : ℕ) → i < length l → j < length l → clear (getD l i 0) ≡ true → solid (getD l j 0) ≡ true → Touches k (cell-at n i) (cell-at n j) → ⊥)
 
--- 7. What the contracts shut out, on the program's venue: a marker that touches nothing, one that refuses, complete always.
+-- 7. What the contracts shut out, on the program's venue and on a grid of two layers: a shape of one byte short, or none; a marker that touches
+-- nothing, one that refuses; complete always, or never; a layer that is empty, or always the first.
 abbrev pub venue : Counts
 venue = record { nx = 4; ny = 2; nz = 1 }
 
 abbrev pub unmarked : List ℕ
 unmarked = 0 ∷ 0 ∷ 0 ∷ 0 ∷ 0 ∷ 2 ∷ 0 ∷ 0 ∷ []
 
+abbrev pub two-layers : Counts
+two-layers = record { nx = 2; ny = 1; nz = 2 }
+
 pub record ShutOut : Type 0 where
+  pub one-byte-short : Fine ≡ shape venue 7 → ⊥
+  pub no-shape : (r : Refusal) → Refused r ≡ shape venue 8 → ⊥
   pub marks-nothing : (r : Verdict) → Marks venue unmarked r unmarked → ⊥
   pub refuses : (r : Refusal) (a : List ℕ) → Marks venue unmarked (Refused r) a → ⊥
   pub complete-always : Yes ≡ completeness venue unmarked → ⊥
+  pub never-complete : No ≡ completeness venue (1 ∷ 1 ∷ 1 ∷ 0 ∷ 1 ∷ 2 ∷ 1 ∷ 0 ∷ []) → ⊥
   pub empty-layer : [] ≡ layer venue unmarked (pos 0) → ⊥
+  pub first-layer : 1 ∷ 2 ∷ [] ≡ layer two-layers (1 ∷ 2 ∷ 3 ∷ 4 ∷ []) (pos 1) → ⊥
+  pub first-part : Part 0 2 ≡ layer-part two-layers 4 (pos 1) → ⊥
+  pub no-part : (r : Refusal) → NoPart r ≡ layer-part two-layers 4 (pos 1) → ⊥

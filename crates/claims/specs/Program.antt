@@ -74,3 +74,10 @@ pub record GoesOn (n : Counts) (cells entry : List ℕ) : Type 0 where
   pub exit : List ℕ
   pub says : Says (pair-said n cells 1 (0 ∷ 0 ∷ 0 ∷ [])) entry answer exit
   pub more : answer .more ≡ true
+
+-- a step that goes on after a venue that is cut short
+pub record Begins (entry : List ℕ) : Type 0 where
+  pub answer : Step
+  pub exit : List ℕ
+  pub says : Says (venue-said (0 ∷ 0 ∷ 0 ∷ [])) entry answer exit
+  pub more : answer .more ≡ true

@@ -14,7 +14,7 @@ use Rattle.records.specs.declared.VenueRead.{VenueRead}
 use Rattle.records.specs.declared.VenueRead.the-variants.{Read, Refused as NoVenue}
 use Rattle.records.specs.declared.Pair.{Pair}
 use Rattle.records.specs.declared.PairRead.{PairRead}
-use Rattle.records.specs.declared.PairRead.the-variants.{Read as ReadPair}
+use Rattle.records.specs.declared.PairRead.the-variants.{Read as ReadPair, Refused as NoPair}
 use Rattle.records.specs.Records.{length-field, announced, version-of, cells-from, venue-read, venue-cells, pair-read, told-venue, told-pair}
 use Rattle.venues.specs.declared.Written.{Written}
 use Rattle.venues.specs.declared.Written.the-variants.{Wrote, Refused as NotWritten}
@@ -120,3 +120,14 @@ pub record ReadsUnsigned : Type 0 where
   pub ends : Pair
   pub answers : ReadsPair minus-one-pair (ReadPair ends)
   pub unsigned : ends .q .x ≡ pos 65535
+
+-- another version read; the whole record, or nothing, given for the cells; a pair refused; a venue written into room of one byte short
+abbrev pub version-2 : List ℕ
+version-2 = 0 ∷ 0 ∷ 0 ∷ 15 ∷ 2 ∷ 0 ∷ 4 ∷ 0 ∷ 2 ∷ 0 ∷ 1 ∷ example-cells
+
+pub record WrongRecords : Type 0 where
+  pub other-version : (v : Venue) → ReadsVenue version-2 (Read v) → ⊥
+  pub whole-part : GivesCells example-venue example-venue → ⊥
+  pub empty-part : GivesCells example-venue [] → ⊥
+  pub pair-refuser : (r : Refusal) → ReadsPair example-pair (NoPair r) → ⊥
+  pub short-writer : (exit : List ℕ) → WritesVenue example-counts example-cells (replicate 18 99) (Wrote 19) exit → ⊥
