@@ -1,7 +1,6 @@
 -- The program's claims: what a step says of a frame it says of all that is left of the input, so the steps give the whole output. Assumes nothing.
 use Prim.Native.Nat.{ℕ, zero, suc, _+_, _≤_, _<_}
 use mathlib.Core.Path.{_≡_, refl, sym, ap, ap₂, _∙_, subst, subst₂}
-use mathlib.Core.Bool.{Bool, true, false, cond, true≢false, false≢true}
 use mathlib.Core.List.{List, [], _∷_, _++_, append-nil}
 use native.Mathlib.Omega.{arith}
 use lib.ListN.{length, take, drop, replicate, length-drop}
@@ -12,8 +11,10 @@ use Rattle.records.specs.declared.Venue.{Venue}
 use Rattle.records.specs.declared.VenueRead.{VenueRead}
 use Rattle.records.specs.declared.VenueRead.the-variants.{Read, Refused as NoVenue}
 use Rattle.records.specs.Records.{whole, venue-check, venue-read, venue-cells, pair-check, pair-read}
+use Rattle.program.specs.declared.Next.{Next}
+use Rattle.program.specs.declared.Next.the-variants.{On, Over}
 use Rattle.program.specs.declared.Step.{Step}
-use Rattle.program.specs.Program.{Said, venue-most, pair-most, beyond, venue-refused, said-of-venue, venue-said, pair-said, after-record, pairs, after-venue, output, frame, frame-length, after-frame, Says, text-room}
+use Rattle.program.specs.Program.{Said, venue-most, pair-most, beyond, venue-refused, said-of-venue, venue-said, pair-said, after-record, then-on, pairs, after-venue, output, frame, frame-length, after-frame, Says, text-room}
 use Rattle.program.proofs.Frames.{venue-framed, venue-on, venue-taken, read-framed, cells-framed, pair-framed, pair-on, after-same, less-left}
 use Rattle.claims.specs.Program.{Pairs, last, next, Runs, ends, begins, Writes, OneStep, example-input, Silent, GoesOn, Begins}
 use Rattle.claims.proofs.Starred.{example-writes}
@@ -26,14 +27,14 @@ text-of {said} {entry} {exit} {r} h = ap (take (r .long)) (h .puts .holds) ∙ t
 
 -- some step says it
 made : Said → Step
-made said = record { long = length (said .text); more = said .more }
+made said = record { long = length (said .text); next = said .next }
 
 put : Said → List ℕ
 put said = said .text ++ drop (length (said .text)) (replicate text-room 0)
 
 says-so : (said : Said) → Says said (replicate text-room 0) (made said) (put said)
 unfolding made put
-says-so said = record { puts = record { says = refl; holds = refl }; more = refl }
+says-so said = record { puts = record { says = refl; holds = refl }; next = refl }
 
 written : (said : Said) → take (made said .long) (put said) ≡ said .text
 written said = text-of (says-so said)
@@ -42,24 +43,24 @@ written said = text-of (says-so said)
 
 module _ (n : Counts) (cells : List ℕ) where
   -- nothing left, nothing said
-  nothing-said : (k : ℕ) (s : List ℕ) → length s ≡ 0 → pair-said n cells k s ≡ record { text = []; more = false }
+  nothing-said : (k : ℕ) (s : List ℕ) → length s ≡ 0 → pair-said n cells k s ≡ record { text = []; next = Over }
   unfolding pair-said
   nothing-said k s none = rw (eq-eqb (length s) 0 none)
 
-  last-pair : (turns k : ℕ) (s : List ℕ) → length s ≤ turns → pair-said n cells k s .more ≡ false → pairs turns n cells k s ≡ pair-said n cells k s .text
+  last-pair : (turns k : ℕ) (s : List ℕ) → length s ≤ turns → pair-said n cells k s .next ≡ Over → pairs turns n cells k s ≡ pair-said n cells k s .text
   unfolding pairs
   last-pair zero k s le stop = rw (nothing-said k s (omega arith))
   last-pair (suc turns) k s le stop = rw stop (append-nil (pair-said n cells k s .text))
 
-  next-pair : (turns k : ℕ) (s : List ℕ) → pair-said n cells k s .more ≡ true
-      → pairs (suc turns) n cells k s ≡ pair-said n cells k s .text ++ pairs turns n cells (suc k) (after-frame pair-most s)
+  next-pair : (turns k j : ℕ) (s : List ℕ) → pair-said n cells k s .next ≡ On j
+      → pairs (suc turns) n cells k s ≡ pair-said n cells k s .text ++ pairs turns n cells j (after-frame pair-most s)
   unfolding pairs
-  next-pair turns k s go = let (_, within) = pair-on n cells k s go in rw (go, after-same pair-most s within)
+  next-pair turns k j s on = let (_, within) = pair-on n cells k s j on in rw (on, after-same pair-most s within)
 
   -- what is left after a pair needs fewer turns
-  fewer : (turns k : ℕ) (s : List ℕ) → length s ≤ suc turns → pair-said n cells k s .more ≡ true → length (after-frame pair-most s) ≤ turns
-  fewer turns k s le go =
-      let (some, within) = pair-on n cells k s go in
+  fewer : (turns k j : ℕ) (s : List ℕ) → length s ≤ suc turns → pair-said n cells k s .next ≡ On j → length (after-frame pair-most s) ≤ turns
+  fewer turns k j s le on =
+      let (some, within) = pair-on n cells k s j on in
       let less = less-left s some in
       rw (after-same pair-most s within) (omega arith)
 
@@ -68,55 +69,55 @@ module _ (n : Counts) (cells : List ℕ) where
     wrote : take (r .long) exit ≡ pair-said n cells k s .text
     wrote = text-of h ∙ ap (λ x. x .text) (pair-framed n cells k s)
 
-    goes : pair-said n cells k s .more ≡ r .more
-    goes = sym (h .more ∙ ap (λ x. x .more) (pair-framed n cells k s))
+    goes : pair-said n cells k s .next ≡ r .next
+    goes = sym (h .next ∙ ap (λ x. x .next) (pair-framed n cells k s))
 
   only-pairs : {k : ℕ} {s out : List ℕ} → Pairs n cells k s out → (turns : ℕ) → length s ≤ turns → out ≡ pairs turns n cells k s
   only-pairs {k} {s} (last h stop) turns le = wrote k s h ∙ sym (last-pair turns k s le (goes k s h ∙ stop))
-  only-pairs {k} {s} (next h go rest) zero le = absurd (pair-on n cells k s (goes k s h ∙ go) .0 (omega arith))
-  only-pairs {k} {s} (next h go rest) (suc turns) le =
+  only-pairs {k} {s} (next {j = j} h go rest) zero le = absurd (pair-on n cells k s j (goes k s h ∙ go) .0 (omega arith))
+  only-pairs {k} {s} (next {j = j} h go rest) (suc turns) le =
       let on = goes k s h ∙ go in
-      ap₂ (λ a b. a ++ b) (wrote k s h) (only-pairs rest turns (fewer turns k s le on)) ∙ sym (next-pair turns k s on)
+      ap₂ (λ a b. a ++ b) (wrote k s h) (only-pairs rest turns (fewer turns k j s le on)) ∙ sym (next-pair turns k j s on)
 
   -- the frame's step that says so
   module _ (k : ℕ) (s : List ℕ) where
     abbrev of-frame : Said
     of-frame = pair-said n cells k (frame pair-most s)
 
-    ends-here : (turns : ℕ) → length s ≤ turns → pair-said n cells k s .more ≡ false → Pairs n cells k s (pairs turns n cells k s)
+    ends-here : (turns : ℕ) → length s ≤ turns → pair-said n cells k s .next ≡ Over → Pairs n cells k s (pairs turns n cells k s)
     ends-here turns le stop =
         subst (Pairs n cells k s) (wrote k s (says-so of-frame) ∙ sym (last-pair turns k s le stop))
         (last (says-so of-frame) (sym (goes k s (says-so of-frame)) ∙ stop))
 
-    goes-on : (turns : ℕ) → pair-said n cells k s .more ≡ true → Pairs n cells (suc k) (after-frame pair-most s) (pairs turns n cells (suc k) (after-frame pair-most s))
+    goes-on : (turns j : ℕ) → pair-said n cells k s .next ≡ On j → Pairs n cells j (after-frame pair-most s) (pairs turns n cells j (after-frame pair-most s))
         → Pairs n cells k s (pairs (suc turns) n cells k s)
-    goes-on turns on rest =
+    goes-on turns j on rest =
         subst (Pairs n cells k s)
-        (ap (λ a. a ++ pairs turns n cells (suc k) (after-frame pair-most s)) (wrote k s (says-so of-frame)) ∙ sym (next-pair turns k s on))
+        (ap (λ a. a ++ pairs turns n cells j (after-frame pair-most s)) (wrote k s (says-so of-frame)) ∙ sym (next-pair turns k j s on))
         (next (says-so of-frame) (sym (goes k s (says-so of-frame)) ∙ on) rest)
 
   some-pairs : (turns k : ℕ) (s : List ℕ) → length s ≤ turns → Pairs n cells k s (pairs turns n cells k s)
-  some-pairs zero k s le = ends-here k s zero le (ap (λ x. x .more) (nothing-said k s (omega arith)))
-  some-pairs (suc turns) k s le = by (some-pairs turns (suc k) (after-frame pair-most s)) (pair-said n cells k s .more) refl
+  some-pairs zero k s le = ends-here k s zero le (ap (λ x. x .next) (nothing-said k s (omega arith)))
+  some-pairs (suc turns) k s le = by (λ j. some-pairs turns j (after-frame pair-most s)) (pair-said n cells k s .next) refl
     where
-      by : (length (after-frame pair-most s) ≤ turns → Pairs n cells (suc k) (after-frame pair-most s) (pairs turns n cells (suc k) (after-frame pair-most s)))
-          → (b : Bool) → pair-said n cells k s .more ≡ b → Pairs n cells k s (pairs (suc turns) n cells k s)
-      by rest false stop = ends-here k s (suc turns) le stop
-      by rest true on = goes-on k s turns on (rest (fewer turns k s le on))
+      by : ((j : ℕ) → length (after-frame pair-most s) ≤ turns → Pairs n cells j (after-frame pair-most s) (pairs turns n cells j (after-frame pair-most s)))
+          → (x : Next) → pair-said n cells k s .next ≡ x → Pairs n cells k s (pairs (suc turns) n cells k s)
+      by rest Over stop = ends-here k s (suc turns) le stop
+      by rest (On j) on = goes-on k s turns j on (rest j (fewer turns k j s le on))
 
 -- ---- the whole run
 
 module _ (s : List ℕ) where
-  output-is : output s ≡ venue-said s .text ++ cond (venue-said s .more) (after-venue (venue-read s) s) []
+  output-is : output s ≡ venue-said s .text ++ then-on (venue-said s .next) (after-venue (venue-read s) s)
   unfolding output
   output-is = refl
 
-  stops : venue-said s .more ≡ false → output s ≡ venue-said s .text
+  stops : venue-said s .next ≡ Over → output s ≡ venue-said s .text
   stops stop = output-is ∙ rw stop (append-nil (venue-said s .text))
 
-  begins-with : venue-said s .more ≡ true → (v : Venue) → venue-read s ≡ Read v
-      → output s ≡ venue-said s .text ++ pairs (length s) (v .counts) (venue-cells s) 1 (after-frame venue-most s)
-  begins-with on v e = output-is ∙ rw (on, e, after-same venue-most s (venue-on s on))
+  begins-with : (k : ℕ) → venue-said s .next ≡ On k → (v : Venue) → venue-read s ≡ Read v
+      → output s ≡ venue-said s .text ++ pairs (length s) (v .counts) (venue-cells s) k (after-frame venue-most s)
+  begins-with k on v e = output-is ∙ rw (on, e, after-same venue-most s (venue-on s k on))
 
   -- what is left after the venue
   enough : length (after-frame venue-most s) ≤ length s
@@ -129,35 +130,35 @@ module _ (s : List ℕ) where
     venue-wrote : take (r .long) exit ≡ venue-said s .text
     venue-wrote = text-of h ∙ ap (λ x. x .text) (venue-framed s)
 
-    venue-goes : venue-said s .more ≡ r .more
-    venue-goes = sym (h .more ∙ ap (λ x. x .more) (venue-framed s))
+    venue-goes : venue-said s .next ≡ r .next
+    venue-goes = sym (h .next ∙ ap (λ x. x .next) (venue-framed s))
 
   only-run : {out : List ℕ} → Runs s out → out ≡ output s
   only-run (ends h stop) = venue-wrote h ∙ sym (stops (venue-goes h ∙ stop))
-  only-run (begins {cells = cells} {v = v} h go read given rest) =
+  only-run (begins {k = k} {cells = cells} {v = v} h go read given rest) =
       let on = venue-goes h ∙ go in
-      let within = venue-on s on in
+      let within = venue-on s k on in
       ap₂ (λ a b. a ++ b) (venue-wrote h)
-      (only-pairs (v .counts) cells rest (length s) enough ∙ ap (λ l. pairs (length s) (v .counts) l 1 (after-frame venue-most s)) (given ∙ cells-framed s within))
-      ∙ sym (begins-with on v (sym (read ∙ read-framed s within)))
+      (only-pairs (v .counts) cells rest (length s) enough ∙ ap (λ l. pairs (length s) (v .counts) l k (after-frame venue-most s)) (given ∙ cells-framed s within))
+      ∙ sym (begins-with k on v (sym (read ∙ read-framed s within)))
 
   some-run : Runs s (output s)
-  some-run = by (venue-said s .more) (venue-read s) refl refl
+  some-run = by (venue-said s .next) (venue-read s) refl refl
     where
-      by : (b : Bool) (r : VenueRead) → venue-said s .more ≡ b → venue-read s ≡ r → Runs s (output s)
-      by false r stop e =
+      by : (x : Next) (r : VenueRead) → venue-said s .next ≡ x → venue-read s ≡ r → Runs s (output s)
+      by Over r stop e =
           subst (Runs s) (venue-wrote (says-so venue-frame) ∙ sym (stops stop)) (ends (says-so venue-frame) (sym (venue-goes (says-so venue-frame)) ∙ stop))
-      by true (NoVenue r) on e = absurd (venue-taken s r on e)
-      by true (Read v) on e =
-          let within = venue-on s on in
+      by (On k) (NoVenue r) on e = absurd (venue-taken s r k on e)
+      by (On k) (Read v) on e =
+          let within = venue-on s k on in
           subst (Runs s)
-          (ap (λ a. a ++ pairs (length s) (v .counts) (venue-cells s) 1 (after-frame venue-most s)) (venue-wrote (says-so venue-frame)) ∙ sym (begins-with on v e))
+          (ap (λ a. a ++ pairs (length s) (v .counts) (venue-cells s) k (after-frame venue-most s)) (venue-wrote (says-so venue-frame)) ∙ sym (begins-with k on v e))
           (begins
           (says-so venue-frame)
           (sym (venue-goes (says-so venue-frame)) ∙ on)
           (sym (read-framed s within ∙ e))
           (sym (cells-framed s within))
-          (some-pairs (v .counts) (venue-cells s) (length s) 1 (after-frame venue-most s) enough))
+          (some-pairs (v .counts) (venue-cells s) (length s) k (after-frame venue-most s) enough))
 
 pub writes : (s : List ℕ) → Writes s
 writes s = record { only = λ out. only-run s; some = some-run s }
@@ -166,7 +167,7 @@ writes s = record { only = λ out. only-run s; some = some-run s }
 
 one : {said : Said} {entry x y : List ℕ} {r t : Step} → Says said entry r x → Says said entry t y → (r ≡ t) × (x ≡ y)
 one a b =
-    (ap₂ (λ long more. record { long = long; more = more }) (a .puts .says ∙ sym (b .puts .says)) (a .more ∙ sym (b .more)), a .puts .holds ∙ sym (b .puts .holds))
+    (ap₂ (λ long next. record { long = long; next = next }) (a .puts .says ∙ sym (b .puts .says)) (a .next ∙ sym (b .next)), a .puts .holds ∙ sym (b .puts .holds))
 
 pub one-step : (entry : List ℕ) → OneStep entry
 one-step entry = record { venue = λ frame r t x y. one; pair = λ n cells k frame r t x y. one }
@@ -176,8 +177,8 @@ not-silent w = let e : _≡_ {A = ℕ} 0 30 = ap length (only-run example-input 
 
 pub not-on : (n : Counts) (cells entry : List ℕ) → GoesOn n cells entry → ⊥
 unfolding pair-said beyond pair-read pair-check whole
-not-on n cells entry w = true≢false (sym (w .more) ∙ w .says .more)
+not-on n cells entry w = let e : On (w .number) ≡ Over = sym (w .on) ∙ w .says .next in let z : _≡_ {A = ℕ} 0 1 = cc in omega arith
 
 pub not-begun : (entry : List ℕ) → Begins entry → ⊥
 unfolding venue-said beyond venue-read venue-check whole
-not-begun entry w = true≢false (sym (w .more) ∙ w .says .more)
+not-begun entry w = let e : On (w .number) ≡ Over = sym (w .on) ∙ w .says .next in let z : _≡_ {A = ℕ} 0 1 = cc in omega arith

@@ -1,30 +1,30 @@
 -- What is claimed of the program `sightlines`: for all steps that meet their contracts. Assumes nothing.
-use Prim.Native.Nat.{ℕ, suc}
+use Prim.Native.Nat.{ℕ}
 use mathlib.Core.Path.{_≡_}
-use mathlib.Core.Bool.{true, false}
 use mathlib.Core.List.{List, [], _∷_, _++_}
 use lib.ListN.{take}
 use Rattle.cells.specs.declared.Counts.{Counts}
 use Rattle.records.specs.declared.Venue.{Venue}
 use Rattle.records.specs.declared.VenueRead.the-variants.{Read}
+use Rattle.program.specs.declared.Next.the-variants.{On, Over}
 use Rattle.program.specs.declared.Step.{Step}
 use Rattle.program.specs.Program.{venue-most, pair-most, venue-said, pair-said, output, frame, after-frame, Says}
 use Rattle.claims.specs.Records.{ReadsVenue, GivesCells, example-venue, example-pair}
 
 -- ---- a run of the program
 
--- Pair by pair: the next frame of what is left of the input is handed to the step, and what it puts is written; it says whether there is a next.
+-- Pair by pair: the next frame of what is left of the input is handed to the step, and what it puts is written; it says what comes next.
 pub data Pairs (n : Counts) (cells : List ℕ) : ℕ → List ℕ → List ℕ → Type 0 where
-  last : {k : ℕ} {s entry exit : List ℕ} {r : Step} → Says (pair-said n cells k (frame pair-most s)) entry r exit → r .more ≡ false
+  last : {k : ℕ} {s entry exit : List ℕ} {r : Step} → Says (pair-said n cells k (frame pair-most s)) entry r exit → r .next ≡ Over
       → Pairs n cells k s (take (r .long) exit)
-  next : {k : ℕ} {s entry exit out : List ℕ} {r : Step} → Says (pair-said n cells k (frame pair-most s)) entry r exit → r .more ≡ true
-      → Pairs n cells (suc k) (after-frame pair-most s) out → Pairs n cells k s (take (r .long) exit ++ out)
+  next : {k j : ℕ} {s entry exit out : List ℕ} {r : Step} → Says (pair-said n cells k (frame pair-most s)) entry r exit → r .next ≡ On j
+      → Pairs n cells j (after-frame pair-most s) out → Pairs n cells k s (take (r .long) exit ++ out)
 
 -- The venue's frame first, and where it is taken the pairs, with the counts and the cells that reading the frame gives.
 pub data Runs : List ℕ → List ℕ → Type 0 where
-  ends : {s entry exit : List ℕ} {r : Step} → Says (venue-said (frame venue-most s)) entry r exit → r .more ≡ false → Runs s (take (r .long) exit)
-  begins : {s entry exit cells out : List ℕ} {r : Step} {v : Venue} → Says (venue-said (frame venue-most s)) entry r exit → r .more ≡ true
-      → ReadsVenue (frame venue-most s) (Read v) → GivesCells (frame venue-most s) cells → Pairs (v .counts) cells 1 (after-frame venue-most s) out
+  ends : {s entry exit : List ℕ} {r : Step} → Says (venue-said (frame venue-most s)) entry r exit → r .next ≡ Over → Runs s (take (r .long) exit)
+  begins : {k : ℕ} {s entry exit cells out : List ℕ} {r : Step} {v : Venue} → Says (venue-said (frame venue-most s)) entry r exit → r .next ≡ On k
+      → ReadsVenue (frame venue-most s) (Read v) → GivesCells (frame venue-most s) cells → Pairs (v .counts) cells k (after-frame venue-most s) out
       → Runs s (take (r .long) exit ++ out)
 
 -- ---- the claims
@@ -73,11 +73,13 @@ pub record GoesOn (n : Counts) (cells entry : List ℕ) : Type 0 where
   pub answer : Step
   pub exit : List ℕ
   pub says : Says (pair-said n cells 1 (0 ∷ 0 ∷ 0 ∷ [])) entry answer exit
-  pub more : answer .more ≡ true
+  pub number : ℕ
+  pub on : answer .next ≡ On number
 
 -- a step that goes on after a venue that is cut short
 pub record Begins (entry : List ℕ) : Type 0 where
   pub answer : Step
   pub exit : List ℕ
   pub says : Says (venue-said (0 ∷ 0 ∷ 0 ∷ [])) entry answer exit
-  pub more : answer .more ≡ true
+  pub number : ℕ
+  pub on : answer .next ≡ On number

@@ -1,6 +1,6 @@
 -- What a step says of a frame is what the definition says of all that is left of the input. Assumes nothing.
 use mathlib.Core.Path.{_≡_, refl, sym, ap, _∙_}
-use mathlib.Core.Bool.{Bool, true, false, cond, true≢false, false≢true}
+use mathlib.Core.Bool.{Bool, true, false, cond, false≢true}
 use mathlib.Core.List.{List, [], _++_}
 use Prim.Native.Nat.{ℕ, _+_, _≤_, _<_}
 use native.Mathlib.Omega.{arith}
@@ -14,6 +14,7 @@ use Rattle.cells.specs.declared.Refusal.the-variants.{Room, Record}
 use Rattle.records.specs.declared.VenueRead.the-variants.{Refused as NoVenue}
 use Rattle.records.specs.Records.{length-field, announced, venue-read, venue-cells, pair-read}
 use Rattle.records.proofs.Following.{same-announced, venue-unread, pair-unread, cells-unread}
+use Rattle.program.specs.declared.Next.the-variants.{On, Over}
 use Rattle.program.specs.Program.{Said, venue-most, pair-most, beyond, venue-refused, said-of-venue, venue-said, pair-refused, said-of-pair, pair-said, after-record, frame-length, frame, after-frame}
 
 -- ---- the length that stands at the front
@@ -100,18 +101,21 @@ venue-framed s = go (beyond venue-most s) refl
     go true h = venue-beyond (frame venue-most s) (frame-beyond venue-most s h) ∙ sym (venue-beyond s h)
     go false h = framed venue-most s venue-said said-unread h
 
--- a venue that is taken is not beyond the most
-pub venue-on : (s : List ℕ) → venue-said s .more ≡ true → beyond venue-most s ≡ false
+-- a venue after which pairs come is not beyond the most
+pub venue-on : (s : List ℕ) (k : ℕ) → venue-said s .next ≡ On k → beyond venue-most s ≡ false
 unfolding venue-said
-venue-on s = go (beyond venue-most s)
+venue-on s k = go (beyond venue-most s)
   where
-    go : (b : Bool) → cond b (venue-refused Room) (said-of-venue (venue-read s)) .more ≡ true → b ≡ false
-    go true h = absurd (false≢true h)
+    go : (b : Bool) → cond b (venue-refused Room) (said-of-venue (venue-read s)) .next ≡ On k → b ≡ false
+    go true h = absurd (let z : _≡_ {A = ℕ} 0 1 = cc in omega arith)
     go false h = refl
 
 -- and is read
-pub venue-taken : (s : List ℕ) (r : Refusal) → venue-said s .more ≡ true → venue-read s ≡ NoVenue r → ⊥
-venue-taken s r h no-venue = false≢true (sym (ap (λ x. x .more) (venue-within s (venue-on s h) ∙ ap said-of-venue no-venue)) ∙ h)
+pub venue-taken : (s : List ℕ) (r : Refusal) (k : ℕ) → venue-said s .next ≡ On k → venue-read s ≡ NoVenue r → ⊥
+venue-taken s r k h no-venue =
+    let e : On k ≡ Over = sym h ∙ ap (λ x. x .next) (venue-within s (venue-on s k h) ∙ ap said-of-venue no-venue) in
+    let z : _≡_ {A = ℕ} 0 1 = cc in
+    omega arith
 
 -- so its record is told by the frame
 pub read-framed : (s : List ℕ) → beyond venue-most s ≡ false → venue-read (frame venue-most s) ≡ venue-read s
@@ -123,7 +127,7 @@ cells-framed s = framed venue-most s venue-cells cells-unread
 -- ---- a pair
 
 module _ (n : Counts) (cells : List ℕ) (k : ℕ) where
-  pair-beyond : (s : List ℕ) → beyond pair-most s ≡ true → pair-said n cells k s ≡ pair-refused k Record false
+  pair-beyond : (s : List ℕ) → beyond pair-most s ≡ true → pair-said n cells k s ≡ pair-refused k Record Over
   unfolding pair-said
   pair-beyond s h = let four = beyond-four pair-most s h in rw (ne-eqb (length s) 0 (λ e. omega arith), h)
 
@@ -144,16 +148,16 @@ module _ (n : Counts) (cells : List ℕ) (k : ℕ) where
       go true h = pair-beyond (frame pair-most s) (frame-beyond pair-most s h) ∙ sym (pair-beyond s h)
       go false h = framed pair-most s (pair-said n cells k) pair-said-unread h
 
-  -- where the program goes on, something stood there, and its length was not beyond the most
-  pub pair-on : (s : List ℕ) → pair-said n cells k s .more ≡ true → (length s ≡ 0 → ⊥) × (beyond pair-most s ≡ false)
+  -- where a pair comes next, something stood there, and its length was not beyond the most
+  pub pair-on : (s : List ℕ) (j : ℕ) → pair-said n cells k s .next ≡ On j → (length s ≡ 0 → ⊥) × (beyond pair-most s ≡ false)
   unfolding pair-said
-  pair-on s = go (eqb (length s) 0) (beyond pair-most s) refl
+  pair-on s j = go (eqb (length s) 0) (beyond pair-most s) refl
     where
       go : (a b : Bool) → eqb (length s) 0 ≡ a
-          → cond a (record { text = []; more = false }) (cond b (pair-refused k Record false) (said-of-pair n cells k (pair-read s))) .more ≡ true
+          → cond a (record { text = []; next = Over }) (cond b (pair-refused k Record Over) (said-of-pair n cells k (pair-read s))) .next ≡ On j
           → (length s ≡ 0 → ⊥) × (b ≡ false)
-      go true b e h = absurd (false≢true h)
-      go false true e h = absurd (false≢true h)
+      go true b e h = absurd (let z : _≡_ {A = ℕ} 0 1 = cc in omega arith)
+      go false true e h = absurd (let z : _≡_ {A = ℕ} 0 1 = cc in omega arith)
       go false false e h = (eqb-false (length s) 0 e, refl)
 
 -- what is left is shorter

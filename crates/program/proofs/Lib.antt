@@ -1,3 +1,4 @@
 pub mod Front
 pub mod Frames
 pub mod Reading
+pub mod Following

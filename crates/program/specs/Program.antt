@@ -1,7 +1,7 @@
 -- Document 01, "Records and the program": what the program writes, from all the bytes of its input. Assumes nothing.
 use Prim.Native.Nat.{ℕ, zero, suc, _+_}
 use mathlib.Core.Path.{_≡_}
-use mathlib.Core.Bool.{Bool, true, false, cond}
+use mathlib.Core.Bool.{Bool, false, cond}
 use mathlib.Core.List.{List, [], _++_}
 use lib.Dec.{ltb, eqb}
 use lib.IntN.{ℤ, pos, negsuc}
@@ -24,14 +24,16 @@ use Rattle.records.specs.Records.{length-field, announced, venue-read, venue-ce
 use Rattle.texts.specs.declared.Walker.{Walker}
 use Rattle.texts.specs.declared.Walker.the-variants.{Plain, Adaptive}
 use Rattle.texts.specs.Text.{hit-line, clear-line, pair-refused-line, venue-refused-line, line-room, PutsLine}
+use Rattle.program.specs.declared.Next.{Next}
+use Rattle.program.specs.declared.Next.the-variants.{On, Over}
 use Rattle.program.specs.declared.Step.{Step}
 
 -- ---- one record
 
--- what is written for a record, and whether the program goes on to the next
+-- what is written for a record, and what comes next: the pair of a number, or the end
 pub record Said : Type 0 where
   pub text : List ℕ
-  pub more : Bool
+  pub next : Next
 
 -- "A venue length above 65,532", "a pair length above 255"
 abbrev pub venue-most : ℕ
@@ -48,10 +50,11 @@ beyond most s = cond (ltb (length s) length-field) false (ltb most (announced s)
 
 -- "A refused venue prints `G refused N` and ends."
 abbrev pub venue-refused : Refusal → Said
-venue-refused r = record { text = venue-refused-line (told r .number); more = false }
+venue-refused r = record { text = venue-refused-line (told r .number); next = Over }
 
+-- "K counting pairs from 1"
 abbrev pub said-of-venue : VenueRead → Said
-said-of-venue (Read v) = record { text = []; more = true }
+said-of-venue (Read v) = record { text = []; next = On 1 }
 said-of-venue (NoVenue r) = venue-refused r
 
 -- "A venue length above 65,532 is refused 6"
@@ -60,9 +63,9 @@ venue-said s = cond (beyond venue-most s) (venue-refused Room) (said-of-venue (v
 
 -- ---- a pair
 
--- "prints `K refused N`", and whether it goes on
-abbrev pub pair-refused : ℕ → Refusal → Bool → Said
-pair-refused k r more = record { text = pair-refused-line k (told r .number); more = more }
+-- "prints `K refused N`"
+abbrev pub pair-refused : ℕ → Refusal → Next → Said
+pair-refused k r next = record { text = pair-refused-line k (told r .number); next = next }
 
 -- a coordinate of a hit: it lies in the grid, so none is negative
 abbrev pub coordinate : ℤ → ℕ
@@ -77,21 +80,21 @@ walk-line k w (NotWalked r) = []
 
 -- "after 5 it goes on"; "Otherwise two lines a pair"
 abbrev pub said-of-walks : ℕ → Verdict → FirstHit → FirstHit → Said
-said-of-walks k (Refused r) a b = pair-refused k r true
-said-of-walks k Fine a b = record { text = walk-line k Plain a ++ walk-line k Adaptive b; more = true }
+said-of-walks k (Refused r) a b = pair-refused k r (On (k + 1))
+said-of-walks k Fine a b = record { text = walk-line k Plain a ++ walk-line k Adaptive b; next = On (k + 1) }
 
 module _ (n : Counts) (cells : List ℕ) (k : ℕ) where
   -- "after 10 or 11 the program ends"
   abbrev pub said-of-pair : PairRead → Said
-  said-of-pair (NoPair r) = pair-refused k r false
+  said-of-pair (NoPair r) = pair-refused k r Over
   said-of-pair (ReadPair e) = said-of-walks k (walk-check n (length cells) (e .p) (e .q)) (plain n cells (e .p) (e .q)) (adaptive n cells (e .p) (e .q))
 
   -- "Input that ends where a pair would begin ends it silently"; "a pair length above 255 is refused 10"
   unfoldable pub pair-said : List ℕ → Said
   unfolding walk-line
   pair-said s =
-      cond (eqb (length s) 0) (record { text = []; more = false })
-      (cond (beyond pair-most s) (pair-refused k Record false) (said-of-pair (pair-read s)))
+      cond (eqb (length s) 0) (record { text = []; next = Over })
+      (cond (beyond pair-most s) (pair-refused k Record Over) (said-of-pair (pair-read s)))
 
 -- ---- the whole output
 
@@ -99,23 +102,28 @@ module _ (n : Counts) (cells : List ℕ) (k : ℕ) where
 abbrev pub after-record : List ℕ → List ℕ
 after-record s = drop (length-field + announced s) s
 
+-- what follows, by what comes next
+abbrev pub then-on : Next → (ℕ → List ℕ) → List ℕ
+then-on (On k) rest = rest k
+then-on Over rest = []
+
 -- pair k stands at the front of what is left; as many turns are enough as bytes are left
 unfoldable pub pairs : ℕ → Counts → List ℕ → ℕ → List ℕ → List ℕ
 unfolding pair-said
 pairs zero n cells k s = []
 pairs (suc turns) n cells k s =
     let said : Said = pair-said n cells k s in
-    said .text ++ cond (said .more) (pairs turns n cells (suc k) (after-record s)) []
+    said .text ++ then-on (said .next) (λ j. pairs turns n cells j (after-record s))
 
--- "K counting pairs from 1"
-abbrev pub after-venue : VenueRead → List ℕ → List ℕ
-after-venue (Read v) s = pairs (length s) (v .counts) (venue-cells s) 1 (after-record s)
-after-venue (NoVenue r) s = []
+-- the pairs behind a venue, the first of them of number k
+abbrev pub after-venue : VenueRead → List ℕ → ℕ → List ℕ
+after-venue (Read v) s k = pairs (length s) (v .counts) (venue-cells s) k (after-record s)
+after-venue (NoVenue r) s k = []
 
 -- "The program reads one venue record and then pairs from standard input."
 unfoldable pub output : List ℕ → List ℕ
 unfolding venue-said pairs
-output s = venue-said s .text ++ cond (venue-said s .more) (after-venue (venue-read s) s) []
+output s = venue-said s .text ++ then-on (venue-said s .next) (after-venue (venue-read s) s)
 
 -- ---- frames and steps
 
@@ -135,7 +143,12 @@ after-frame most s = drop (frame-length most s) s
 -- the contract of a step: the text stands at the front of the lent bytes, and the rest is as it was
 pub record Says (said : Said) (entry : List ℕ) (r : Step) (exit : List ℕ) : Type 0 where
   pub puts : PutsLine (said .text) entry (r .long) exit
-  pub more : r .more ≡ said .more
+  pub next : r .next ≡ said .next
+
+-- after pair k comes pair k + 1, or nothing
+abbrev pub Follows : ℕ → Next → Type 0
+Follows k (On j) = j ≡ k + 1
+Follows k Over = Unit {0}
 
 -- room for two lines
 abbrev pub text-room : ℕ

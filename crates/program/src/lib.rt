@@ -1,14 +1,14 @@
-// The program's steps: each takes the next frame of the input, and gives the text and whether to go on.
+// The program's steps: each takes the next frame of the input, and gives the text and what comes next.
 ghost use mathlib.Core.Path.{_≡_};
 ghost use mathlib.Core.List.{_++_};
-ghost use Prim.Native.Nat.{_≤_};
+ghost use Prim.Native.Nat.{_-_, _^_, _≤_, _<_};
 ghost use lib.ListN.{length};
 ghost use Rattle.io.specs.Counts.{Counts as Count};
 ghost use Rattle.walks.specs.declared.FirstHit.the-variants.{Hit as Blocked};
 ghost use Rattle.records.specs.declared.PairRead.the-variants.{Read as ReadPair};
 ghost use Rattle.texts.specs.declared.Walker.the-variants.{Plain, Adaptive};
 ghost use Rattle.texts.specs.Text.{line-room, PutsLine};
-ghost use Rattle.program.specs.Program.{beyond, venue-refused, venue-said, pair-refused, coordinate, walk-line, said-of-pair, pair-said, text-room, Says};
+ghost use Rattle.program.specs.Program.{beyond, venue-refused, venue-said, pair-refused, coordinate, walk-line, said-of-pair, pair-said, text-room, Says, Follows};
 use cells::Counts;
 use cells::Refusal;
 use cells::Verdict;
@@ -24,10 +24,16 @@ pub const VENUE_MOST: usize = 65532;
 
 pub const PAIR_MOST: usize = 255;
 
-// What a step gives: how many bytes of text stand in the lent bytes, and whether a next record is looked for.
+// What comes next: the pair of a number, or nothing any more.
+pub enum Next {
+    On(u64),
+    Over,
+}
+
+// What a step gives: how many bytes of text stand in the lent bytes, and what comes next.
 pub struct Step {
     pub long: usize,
-    pub more: bool,
+    pub next: Next,
 }
 
 // Whether the length that stands at the front is above the most.
@@ -49,7 +55,7 @@ fn venue_refused(r: Refusal, text: &mut [u8]) -> Step
 {
     Step {
         long: texts::put_venue_refused(text, cells::number(r)),
-        more: false,
+        next: Next::Over,
     }
 }
 
@@ -65,7 +71,7 @@ pub fn venue_step(frame: &[u8], text: &mut [u8]) -> Step
     match records::read_venue(frame) {
         VenueRead::Read(_) => Step {
             long: 0,
-            more: true,
+            next: Next::On(1),
         },
         VenueRead::Refused(r) => venue_refused(r, text),
     }
@@ -73,14 +79,14 @@ pub fn venue_step(frame: &[u8], text: &mut [u8]) -> Step
 
 // ---- a pair
 
-// `K refused N`, and the end or not.
-fn pair_refused(k: u64, r: Refusal, more: bool, text: &mut [u8]) -> Step
+// `K refused N`, and what comes next.
+fn pair_refused(k: u64, r: Refusal, next: Next, text: &mut [u8]) -> Step
     requires { ⌜ line-room ≤ length (now text) ⌝ }
-    ensures { λ s. ⌜ Says (pair-refused k r more) (now (text .entry)) s (now (text .exit)) ⌝ }
+    ensures { λ s. ⌜ Says (pair-refused k r next) (now (text .entry)) s (now (text .exit)) ⌝ }
 {
     Step {
         long: texts::put_pair_refused(text, k, cells::number(r)),
-        more: more,
+        next: next,
     }
 }
 
@@ -135,41 +141,42 @@ fn walk_lines(k: u64, plain: FirstHit, adaptive: FirstHit, text: &mut [u8]) -> u
 
 // Both walks between the ends of a pair.
 fn pair_said(n: Counts, cells: &[u8], k: u64, e: Pair, text: &mut [u8]) -> Step
-    requires { ⌜ text-room ≤ length (now text) ⌝ }
+    requires { ⌜ (k < 2 ^ 64 - 1) × (text-room ≤ length (now text)) ⌝ }
     ensures { λ s. ⌜ Says (said-of-pair n (now (cells .entry)) k (ReadPair e)) (now (text .entry)) s (now (text .exit)) ⌝ }
 {
     let p = e.p;
     let q = e.q;
+    let next = Next::On(k + 1);
     match routes::check_walk(n, cells.len(), p, q) {
-        Verdict::Refused(r) => pair_refused(k, r, true, text),
+        Verdict::Refused(r) => pair_refused(k, r, next, text),
         Verdict::Fine => {
             let plain = hits::first_plain(n, cells, p, q);
             let adaptive = hits::first_adaptive(n, cells, p, q);
             Step {
                 long: walk_lines(k, plain, adaptive, text),
-                more: true,
+                next: next,
             }
         }
     }
 }
 
-// The frame of pair k: two lines or `K refused N`, and on or the end.
+// The frame of pair k: two lines or `K refused N`, and on to the next or the end.
 pub fn pair_step(n: Counts, cells: &[u8], k: u64, frame: &[u8], text: &mut [u8]) -> Step
-    requires { ⌜ text-room ≤ length (now text) ⌝ }
+    requires { ⌜ (k < 2 ^ 64 - 1) × (text-room ≤ length (now text)) ⌝ }
     ensures { λ s. ⌜ Says (pair-said n (now (cells .entry)) k (now (frame .entry))) (now (text .entry)) s (now (text .exit)) ⌝ }
-    ensures { λ s. ⌜ Count (s .long) (now (text .exit)) ⌝ }
+    ensures { λ s. ⌜ Count (s .long) (now (text .exit)) × Follows k (s .next) ⌝ }
 {
     if frame.len() == 0 {
         return Step {
             long: 0,
-            more: false,
+            next: Next::Over,
         };
     }
     if beyond(frame, PAIR_MOST) {
-        return pair_refused(k, Refusal::Record, false, text);
+        return pair_refused(k, Refusal::Record, Next::Over, text);
     }
     match records::read_pair(frame) {
         PairRead::Read(e) => pair_said(n, cells, k, e, text),
-        PairRead::Refused(r) => pair_refused(k, r, false, text),
+        PairRead::Refused(r) => pair_refused(k, r, Next::Over, text),
     }
 }

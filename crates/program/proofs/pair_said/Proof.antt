@@ -4,6 +4,9 @@ use borrow.Author.Needs.{needs}
 use Rattle.program.proofs.pair_said.Statement.{statement}
 use Rattle.program.proofs.pair_said.Tie as tie
 
+add-t12 : tie.Need-add-t12
+add-t12 c = search needs
+
 check-walk-requires : tie.Need-check-walk-requires
 check-walk-requires c κs = search needs
 
@@ -37,12 +40,13 @@ same-length-2 c = search needs
 returns-2 : tie.Need-returns-2
 returns-2 c =
     rw (sym (c .before .before .before .before .before .before .before .before .check-walk .ensures) ∙ c .before .before .before .before .before .before .enum-told .given .1, sym (c .before .before .before .before .before .first-plain .ensures .says), sym (c .before .before .before .before .first-adaptive .ensures .says))
-    (record { puts = c .before .before .walk-lines .ensures; more = refl })
+    (record { puts = c .before .before .walk-lines .ensures; next = refl })
 
 pub pair-said-spec : {M : Type 1} → statement M
 pair-said-spec =
     tie.close
     (tie.spec
+    add-t12
     check-walk-requires
     enum-known-r
     pair-refused-requires

@@ -1,16 +1,19 @@
 -- Each test is the definition's, in its order. Assumes nothing.
 use mathlib.Core.Path.{refl, sym, _∙_}
-use native.Mathlib.Omega.{arith}
+use denote.Ref.{now}
 use borrow.Author.Tests.{eq-eqb, ne-eqb}
 use Rattle.program.specs.Program.{pair-said}
-use Rattle.program.proofs.Front.{no-text, counts}
+use Rattle.program.proofs.Front.{no-text}
+use Rattle.program.proofs.Following.{whole-step}
 use borrow.Author.Needs.{needs}
 use Rattle.program.proofs.pair_step.Statement.{statement}
 use Rattle.program.proofs.pair_step.Tie as tie
 
 returns : tie.Need-returns
 unfolding pair-said
-returns c = rw (eq-eqb _ _ (c .if1 .taken)) (record { puts = no-text _; more = refl }, (omega arith, refl))
+returns c =
+    let a = c .before .before .before .before .args in
+    whole-step (a .n) (now (a .cells)) (a .k) (now (a .frame)) (rw (eq-eqb _ _ (c .if1 .taken)) (record { puts = no-text _; next = refl }))
 
 beyond-requires : tie.Need-beyond-requires
 beyond-requires c κs = search needs
@@ -24,8 +27,8 @@ same-length c = search needs
 returns-2 : tie.Need-returns-2
 unfolding pair-said
 returns-2 c =
-    let said = c .before .before .pair-refused .ensures in
-    rw (ne-eqb _ _ (c .before .before .before .before .before .before .if1 .left), sym (c .before .before .before .before .before .beyond .ensures) ∙ c .before .before .before .before .if2 .taken) (said, counts (said .puts))
+    let a = c .before .before .before .before .before .before .before .before .before .before .args in
+    whole-step (a .n) (now (a .cells)) (a .k) (now (a .frame)) (rw (ne-eqb _ _ (c .before .before .before .before .before .before .if1 .left), sym (c .before .before .before .before .before .beyond .ensures) ∙ c .before .before .before .before .if2 .taken) (c .before .before .pair-refused .ensures))
 
 read-pair-requires : tie.Need-read-pair-requires
 read-pair-requires c κs = search needs
@@ -48,13 +51,14 @@ same-length-2 c = search needs
 returns-3 : tie.Need-returns-3
 unfolding pair-said
 returns-3 c =
-    let said = c .before .before .pair-said .ensures in
-    rw (
+    let a = c .before .before .before .before .before .before .before .before .before .before .before .before .before .before .args in
+    whole-step (a .n) (now (a .cells)) (a .k) (now (a .frame))
+    (rw (
       ne-eqb _ _ (c .before .before .before .before .before .before .before .before .before .before .if1 .left),
       sym (c .before .before .before .before .before .before .before .before .before .beyond .ensures) ∙ c .before .before .before .before .before .before .before .before .if2 .left,
       sym (c .before .before .before .before .before .before .before .read-pair .ensures) ∙ c .before .before .before .before .before .e .given .1,
     )
-    (said, counts (said .puts))
+    (c .before .before .pair-said .ensures))
 
 same-length-3 : tie.Need-same-length-3
 same-length-3 c = search needs
@@ -62,13 +66,14 @@ same-length-3 c = search needs
 returns-4 : tie.Need-returns-4
 unfolding pair-said
 returns-4 c =
-    let said = c .before .before .pair-refused2 .ensures in
-    rw (
+    let a = c .before .before .before .before .before .before .before .before .before .before .before .before .before .before .args in
+    whole-step (a .n) (now (a .cells)) (a .k) (now (a .frame))
+    (rw (
       ne-eqb _ _ (c .before .before .before .before .before .before .before .before .before .before .if1 .left),
       sym (c .before .before .before .before .before .before .before .before .before .beyond .ensures) ∙ c .before .before .before .before .before .before .before .before .if2 .left,
       sym (c .before .before .before .before .before .before .before .read-pair .ensures) ∙ c .before .before .before .before .before .r .given .1,
     )
-    (said, counts (said .puts))
+    (c .before .before .pair-refused2 .ensures))
 
 pub pair-step-spec : {M : Type 1} → statement M
 pair-step-spec =

@@ -44,7 +44,7 @@ returns-2 : tie.Need-returns-2
 unfolding venue-said
 returns-2 c =
     rw (judged (c .before .before .before .before) (c .before .before .before .if1 .left), sym (c .before .before .read-venue .ensures) ∙ c .enum-told .given .1)
-    (record { puts = no-text _; more = refl }, (omega arith, refl))
+    (record { puts = no-text _; next = refl }, (omega arith, refl))
 
 same-length-2 : tie.Need-same-length-2
 same-length-2 c = search needs
