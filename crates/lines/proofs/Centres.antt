@@ -66,6 +66,16 @@ unfolding moved-26
 moved-end zero D le = omega arith
 moved-end (suc n) D le = div-eq-of-lt-le (2 * suc n) (omega arith) (omega arith)
 
+-- it does not pass the difference
+pub moved-within : (M D m : ℕ) → m ≤ M → moved-26 M D m ≤ D
+moved-within M D m le = go (lt-or-ge 0 M)
+  where
+    go : (0 < M) ⊎ (M ≤ 0) → moved-26 M D m ≤ D
+    go (inl some) = rw (moved-after rule-1 (λ a. D) M m X some) (after-within (centres rule-1 (λ a. D)) (centres-good rule-1 (λ a. D)) m M some le X)
+    go (inr none) =
+        let z : m ≡ 0 = omega arith in
+        rw z (omega (arith, moved-start M D))
+
 module _ (M D : ℕ) (fits : D ≤ M) (some : 0 < M) where
   pub moved-grows : (m : ℕ) → moved-26 M D m ≤ moved-26 M D (m + 1)
   moved-grows m =
@@ -83,6 +93,29 @@ module _ (M D : ℕ) (fits : D ≤ M) (some : 0 < M) where
       let g : k < k = moved-iff M D m k some .1 (omega arith) in
       omega arith)
 
+  -- with k the cells moved by cell m, cell m + 1 moves exactly where face k + 1 is crossed by then
+  pub moves-iff : (m : ℕ) → (moved-26 M D (m + 1) ≡ moved-26 M D m + 1) ↔ ((2 * moved-26 M D m + 1) * M ≤ 2 * (m + 1) * D)
+  moves-iff m =
+      let i = moved-iff M D (m + 1) (moved-26 M D m) some in
+      (λ e. omega (arith, i .0 (omega arith)), λ h. both-ways _ _ (moved-by-one m) (omega (arith, i .1 (omega arith))))
+
+  pub else-stays : (m : ℕ) → 2 * (m + 1) * D < (2 * moved-26 M D m + 1) * M → moved-26 M D (m + 1) ≡ moved-26 M D m
+  else-stays m lt =
+      both-ways _ _
+      (by-contra (moved-26 M D (m + 1)) (moved-26 M D m) (λ p. omega (arith, moves-iff m .0 (both-ways _ _ (moved-by-one m) (omega arith)))))
+      (moved-grows m)
+
+  -- the cells moved are the way to cell m, rounded to the nearest
+  pub moved-near : (m : ℕ) → (2 * moved-26 M D m * M ≤ 2 * m * D + M) × (2 * m * D < (2 * moved-26 M D m + 1) * M)
+  moved-near m = (
+    near (moved-26 M D m) (λ j. moved-iff M D m j some .0),
+    by-contra (suc (2 * m * D)) ((2 * moved-26 M D m + 1) * M) (λ h. omega (arith, moved-iff M D m (moved-26 M D m) some .1 (omega arith))),
+  )
+    where
+      near : (k : ℕ) → ((j : ℕ) → j < k → (1 + 2 * j) * M ≤ m * (2 * D)) → 2 * k * M ≤ 2 * m * D + M
+      near zero h = omega arith
+      near (suc j) h = omega (arith, h j (omega arith))
+
 -- ---- the 26-line and the 6-line
 
 module _ (D : Steps) where
@@ -90,13 +123,7 @@ module _ (D : Steps) where
   M = longest D
 
   pub within-26 : (m : ℕ) → m ≤ M → Within D (place-26 D m)
-  within-26 m le a = go (lt-or-ge 0 M)
-    where
-      go : (0 < M) ⊎ (M ≤ 0) → place-26 D m a ≤ D a
-      go (inl some) = rw (moved-after rule-1 D M m a some) (after-within (centres rule-1 D) (centres-good rule-1 D) m M some le a)
-      go (inr none) =
-          let z : m ≡ 0 = omega arith in
-          rw z (omega (arith, moved-start M (D a)))
+  within-26 m le a = moved-within M (D a) m le
 
   -- it has made just the crossings at fractions up to and including m over M
   pub upto-26 : (r : Preference) (m : ℕ) → 0 < M → m ≤ M → MadeUpto (centres r D) m M (place-26 D m)

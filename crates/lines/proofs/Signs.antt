@@ -4,7 +4,7 @@ use mathlib.Core.Path.{_≡_, refl, sym, ap, ap₂, _∙_}
 use mathlib.Core.Logic.{_⊎_, inl, inr, ⊎-elim, _↔_}
 use mathlib.Core.Bool.{Bool, true, false, cond}
 use Prim.Native.Nat.{ℕ, zero, suc, _+_, _-_, _*_, _≤_, _<_}
-use native.Mathlib.Omega.{arith, by-contra, both-ways}
+use native.Mathlib.Omega.{arith, by-contra}
 use native.Mathlib.Nat.{mul-le-mul}
 use lib.Dec.{ltb}
 use lib.IntN.{ℤ, pos, negsuc, _+ℤ_, _-ℤ_}
@@ -15,12 +15,12 @@ use Rattle.lines.specs.declared.Tripod.{Tripod}
 use Rattle.lines.specs.Steps.{Axis, X, Y, Z, Steps, total, same}
 use Rattle.lines.specs.Crossings.{Course, upper, before, next}
 use Rattle.lines.specs.Preference.{Preference, rule-1}
-use Rattle.lines.specs.Lines.{centres, longest, place-26, moved-26}
+use Rattle.lines.specs.Lines.{centres, longest, place-26}
 use Rattle.lines.specs.Decisions.{decision, e-xy, e-xz, e-zy, values, by-signs, doubled, moved-values}
 use Rattle.lines.proofs.Steps.{Cmp, here, other, cmp, same-self, lt-or-ge, bump, open-axis}
 use Rattle.lines.proofs.Merge.{Within, Next, Rule, Leads, itself, leads-trans, leader-is-next, next-unique}
 use Rattle.lines.proofs.Fractions.{Before, ahead, before-test, laws, next-rule, before-leads, other-leads}
-use Rattle.lines.proofs.Centres.{centres-good, longest-most, moved-iff, moved-longest, moved-grows, moved-by-one}
+use Rattle.lines.proofs.Centres.{centres-good, longest-most, moved-longest, moves-iff}
 
 -- ---- the sign law
 
@@ -155,12 +155,8 @@ stays-small D t a b ha hb la lb =
 
 module _ (D : Steps) (a b : Axis) (m : ℕ) (long : D a ≡ longest D) (lt : m < longest D) where
   -- b moves exactly where its next crossing lies at most at (m + 1) over M
-  moves-iff : (place-26 D (m + 1) b ≡ place-26 D m b + 1) ↔ ((2 * place-26 D m b + 1) * D a ≤ 2 * (m + 1) * D b)
-  moves-iff =
-      let i = moved-iff (longest D) (D b) (m + 1) (place-26 D m b) (omega arith) in
-      let g = moved-grows (longest D) (D b) (longest-most D b) (omega arith) m in
-      let h = moved-by-one (longest D) (D b) (longest-most D b) (omega arith) m in
-      rw long (λ e. omega (arith, i .0 (omega arith)), λ k. both-ways _ _ h (omega (arith, i .1 (omega arith))))
+  b-moves : (place-26 D (m + 1) b ≡ place-26 D m b + 1) ↔ ((2 * place-26 D m b + 1) * D a ≤ 2 * (m + 1) * D b)
+  b-moves = rw long (moves-iff (longest D) (D b) (longest-most D b) (omega arith) m)
 
   long-at : place-26 D m a ≡ m
   long-at = rw long (moved-longest (longest D) m (omega arith))
@@ -176,7 +172,7 @@ module _ (D : Steps) (a b : Axis) (m : ℕ) (long : D a ≡ longest D) (lt : m <
       let f = diff-is (pos (D b * (2 * place-26 D m a + 1))) (pos (D a * (2 * place-26 D m b + 1))) in
       let g = sum-is e (pos (D b)) in
       let k = ≤ℤ-is (pos 0) (e +ℤ pos (D b)) in
-      (λ h. k .1 (omega (arith, moves-iff .0 h, at-m)), λ h. moves-iff .1 (omega (arith, k .0 h, at-m)))
+      (λ h. k .1 (omega (arith, b-moves .0 h, at-m)), λ h. b-moves .1 (omega (arith, k .0 h, at-m)))
 
   -- with a longest and second in the pair, b moves exactly where e_ba ≤ B
   pub second-longest : (place-26 D (m + 1) b ≡ place-26 D m b + 1) ↔ (decision D (place-26 D m) b a ≤ℤ pos (D b))
@@ -184,4 +180,4 @@ module _ (D : Steps) (a b : Axis) (m : ℕ) (long : D a ≡ longest D) (lt : m <
       let e = decision D (place-26 D m) b a in
       let f = diff-is (pos (D a * (2 * place-26 D m b + 1))) (pos (D b * (2 * place-26 D m a + 1))) in
       let k = ≤ℤ-is e (pos (D b)) in
-      (λ h. k .1 (omega (arith, moves-iff .0 h, at-m)), λ h. moves-iff .1 (omega (arith, k .0 h, at-m)))
+      (λ h. k .1 (omega (arith, b-moves .0 h, at-m)), λ h. b-moves .1 (omega (arith, k .0 h, at-m)))
