@@ -1,3 +1,4 @@
 pub mod Line
 pub mod Front
 pub mod Filling
+pub mod Moving

@@ -1,37 +1,32 @@
 -- The spot of a place: a step along an axis leads to the spot of the next place, and every sum on the way fits. Assumes nothing.
-use mathlib.Core.Path.{_≡_, refl, sym, ap, ap₂, _∙_, subst}
+use mathlib.Core.Path.{_≡_, sym, ap, ap₂, _∙_}
 use mathlib.Core.Bool.{Bool, true, false, cond}
-use Prim.Native.Nat.{ℕ, suc, _+_, _*_, _≤_, _<_}
+use Prim.Native.Nat.{ℕ, _+_, _≤_}
 use native.Mathlib.Omega.{arith}
 use native.Mathlib.Nat.{add-zero}
 use lib.IntN.{ℤ, pos, negsuc, _+ℤ_, _-ℤ_}
 use lib.Signed.{leZ}
 use Rattle.cells.specs.declared.Cell.{Cell}
-use Rattle.cells.specs.Touching.{on, apart}
+use Rattle.cells.specs.Touching.{on}
 use Rattle.cells.specs.Small.{Small}
 use Rattle.cells.proofs.Signed.{up, dn, same-number, one-sided, sum-is, diff-is}
 use Rattle.cells.proofs.Machine.{parts-small}
 use Rattle.lines.specs.Steps.{Axis, X, Y, Z, Steps}
 use Rattle.lines.specs.Towards.{towards}
-use Rattle.lines.specs.Lines.{differences, cell-of, InLimit}
-use Rattle.lines.specs.Decisions.{values, doubled, moved-values}
+use Rattle.lines.specs.Lines.{differences, cell-of, in-limit, InLimit}
+use Rattle.lines.specs.Decisions.{values, moved-values}
 use Rattle.lines.proofs.Steps.{bump}
-use Rattle.lines.proofs.Cells.{limited-difference, same-cell, cell-on}
+use Rattle.lines.proofs.Cells.{limited-difference}
 use Rattle.lines.proofs.Signs.{step-moves}
-use Rattle.lines.proofs.Towards.{Along, along, either-way}
-use Rattle.tripod.specs.Tripod.{Calm, Even}
-use Rattle.tripod.specs.declared.Moves.{Moves}
 use Rattle.tripod.proofs.Laws.{limit-parts, place-calm, doubled-even}
-use Rattle.tripod.proofs.Leap.{where-to, where-at, leap-to, leap-at}
-use Rattle.lists.specs.declared.Heading.{Heading}
 use Rattle.lists.specs.declared.Way.{Way}
 use Rattle.lists.specs.declared.Spot.{Spot}
-use Rattle.lists.specs.Way.{unit, heading, stepped-cell, CanStep, WayOf, SpotAt, crossed-spot, crossed-where, leapt-spot, CanCross, CanLeap}
+use Rattle.lists.specs.Way.{unit, heading, stepped-cell, WayOf, SpotAt, crossed-spot, CanCross}
 
 -- ---- one axis
 
 -- one step more
-towards-next : (p q : ℤ) (i : ℕ) → towards p q i +ℤ unit p q ≡ towards p q (i + 1)
+pub towards-next : (p q : ℤ) (i : ℕ) → towards p q i +ℤ unit p q ≡ towards p q (i + 1)
 towards-next p q i = go (leZ p q)
   where
     go : (t : Bool) → cond t (p +ℤ pos i) (p -ℤ pos i) +ℤ cond t (pos 1) (negsuc 0) ≡ cond t (p +ℤ pos (i + 1)) (p -ℤ pos (i + 1))
@@ -42,18 +37,21 @@ towards-kept : (p q : ℤ) (i : ℕ) → towards p q i ≡ towards p q (i + 0)
 towards-kept p q i = ap (towards p q) (sym (add-zero i))
 
 -- a coordinate of the way from p may be added to
-towards-small : (p q : ℤ) (i : ℕ) → dn p ≤ 8192 + up p → up p ≤ 8191 + dn p → i ≤ 16383 → Small (towards p q i)
-towards-small p q i lo hi h = go (leZ p q)
+pub towards-small : (p q : ℤ) (i : ℕ) → in-limit p ≡ true → i ≤ 16383 → Small (towards p q i)
+towards-small p q i limit h = go (leZ p q)
   where
+    parts : (dn p ≤ 8192 + up p) × (up p ≤ 8191 + dn p)
+    parts = limit-parts p limit
+
     go : (t : Bool) → Small (cond t (p +ℤ pos i) (p -ℤ pos i))
     go true =
         let s = sum-is p (pos i) in
         let o = one-sided (p +ℤ pos i) in
-        parts-small (p +ℤ pos i) (omega arith) (omega arith)
+        parts-small (p +ℤ pos i) (omega (arith, parts)) (omega (arith, parts))
     go false =
         let s = diff-is p (pos i) in
         let o = one-sided (p -ℤ pos i) in
-        parts-small (p -ℤ pos i) (omega arith) (omega arith)
+        parts-small (p -ℤ pos i) (omega (arith, parts)) (omega (arith, parts))
 
 pub unit-small : (p q : ℤ) → Small (unit p q)
 unit-small p q = go (leZ p q)
@@ -88,38 +86,4 @@ module _ (p q : Cell) (w : Way) (way : WayOf p q w) where
       }
     where
       coordinate : (a : Axis) → Small (towards (on p a) (on q a) (t a))
-      coordinate a =
-          let (lo, hi) = limit-parts (on p a) (hp .limit a) in
-          towards-small (on p a) (on q a) (t a) lo hi (omega (arith, le a, limited-difference p q hp hq a))
-
--- ---- a long step
-
-pub spot-where : (p q : Cell) (w : Way) → WayOf p q w → (go : Bool) (t : Steps) (s : Spot) (n : Axis) → SpotAt p q t s → SpotAt p q (where-to go n t) (crossed-where go w n s)
-spot-where p q w way true t s n h = spot-crossed p q w way t s n h
-spot-where p q w way false t s n h = h
-
-pub spot-leapt : (p q : Cell) (w : Way) → WayOf p q w → (m : Moves) (t : Steps) (s : Spot) → SpotAt p q t s → SpotAt p q (leap-to m t) (leapt-spot w m s)
-spot-leapt p q w way m t s h =
-    let x = spot-where p q w way (m .x) t s X h in
-    let y = spot-where p q w way (m .y) _ _ Y x in
-    spot-where p q w way (m .z) _ _ Z y
-
--- each of its steps stays within the differences
-module _ (s : Spot) (w : Way) (m : Moves) (c : CanLeap s w m) where
-  below : (a : Axis) → leap-to m (c .t) a ≤ differences (c .p) (c .q) a
-  below a = omega (arith, leap-at m (c .t) a, c .fits a)
-
-  pub leap-first : CanCross s w
-  leap-first = can-cross (c .p) (c .q) w (c .way) (c .p-in) (c .q-in) (c .t) s (λ a. omega (arith, c .fits a)) (c .spot)
-
-  pub leap-second : CanCross (crossed-where (m .x) w X s) w
-  leap-second =
-      can-cross (c .p) (c .q) w (c .way) (c .p-in) (c .q-in) (where-to (m .x) X (c .t)) _
-      (λ a. omega (arith, below a, where-at (m .y) Y (where-to (m .x) X (c .t)) a, where-at (m .z) Z (where-to (m .y) Y (where-to (m .x) X (c .t))) a))
-      (spot-where (c .p) (c .q) w (c .way) (m .x) (c .t) s X (c .spot))
-
-  pub leap-third : CanCross (crossed-where (m .y) w Y (crossed-where (m .x) w X s)) w
-  leap-third =
-      can-cross (c .p) (c .q) w (c .way) (c .p-in) (c .q-in) (where-to (m .y) Y (where-to (m .x) X (c .t))) _
-      (λ a. omega (arith, below a, where-at (m .z) Z (where-to (m .y) Y (where-to (m .x) X (c .t))) a))
-      (spot-where (c .p) (c .q) w (c .way) (m .y) _ _ Y (spot-where (c .p) (c .q) w (c .way) (m .x) (c .t) s X (c .spot)))
+      coordinate a = towards-small (on p a) (on q a) (t a) (hp .limit a) (omega (arith, le a, limited-difference p q hp hq a))

@@ -1,22 +1,25 @@
 -- What the code keeps along a line, and what its steps ask and promise. Assumes nothing.
-use Prim.Native.Nat.{ℕ, suc, _+_, _≤_, _<_}
+use Prim.Native.Nat.{ℕ, _+_, _*_}
 use mathlib.Core.Path.{_≡_}
-use mathlib.Core.Bool.{Bool, cond}
+use mathlib.Core.Bool.{cond}
 use mathlib.Core.List.{List}
-use lib.IntN.{ℤ, pos, negsuc, _+ℤ_}
+use lib.IntN.{ℤ, pos, negsuc, _+ℤ_, _-ℤ_}
 use lib.Signed.{leZ}
 use lib.ListN.{set}
 use Rattle.cells.specs.declared.Cell.{Cell}
 use Rattle.cells.specs.Small.{Small}
-use Rattle.lines.specs.Steps.{Axis, X, Y, Z, Steps, total}
-use Rattle.lines.specs.Lines.{differences, cell-of, InLimit}
+use Rattle.lines.specs.Steps.{Axis, X, Y, Z, Steps}
+use Rattle.lines.specs.Lines.{differences, longest, cell-of, InLimit}
 use Rattle.lines.specs.Decisions.{values, doubled, moved-values}
 use Rattle.tripod.specs.declared.Diffs.{Diffs}
-use Rattle.tripod.specs.declared.Moves.{Moves}
-use Rattle.tripod.specs.Tripod.{steps, Short, Calm, Even, moves-on}
+use Rattle.tripod.specs.Tripod.{steps, Short, Calm, Even}
 use Rattle.lists.specs.declared.Heading.{Heading}
 use Rattle.lists.specs.declared.Way.{Way}
 use Rattle.lists.specs.declared.Spot.{Spot}
+use Rattle.lists.specs.declared.Pace.{Pace}
+use Rattle.lists.specs.declared.Coordinate.{Coordinate}
+use Rattle.lists.specs.declared.Paces.{Paces}
+use Rattle.lists.specs.declared.Coordinates.{Coordinates}
 
 -- one cell from p towards q
 abbrev pub unit : ℤ → ℤ → ℤ
@@ -54,12 +57,6 @@ pub record SpotAt (p q : Cell) (t : Steps) (s : Spot) : Type 0 where
 abbrev pub crossed-spot : Way → Axis → Spot → Spot
 crossed-spot w n s = record { at = stepped-cell (w .towards) n (s .at); e = moved-values (w .twice) n (s .e) }
 
-abbrev pub crossed-where : Bool → Way → Axis → Spot → Spot
-crossed-where go w n s = cond go (crossed-spot w n s) s
-
-abbrev pub leapt-spot : Way → Moves → Spot → Spot
-leapt-spot w m s = crossed-where (m .z) w Z (crossed-where (m .y) w Y (crossed-where (m .x) w X s))
-
 -- what a step asks: every sum fits
 pub record CanCross (s : Spot) (w : Way) : Type 0 where
   pub cells : CanStep (s .at) (w .towards)
@@ -73,16 +70,43 @@ pub record Measured (p q : Cell) (d : Diffs) : Type 0 where
   pub is : steps d ≡ differences p q
   pub short : Short d
 
--- what a long step asks: it is one of some line, and does not pass Q
-pub record CanLeap (s : Spot) (w : Way) (m : Moves) : Type 0 where
-  pub p : Cell
-  pub q : Cell
-  pub t : Steps
-  pub p-in : InLimit p
-  pub q-in : InLimit q
-  pub way : WayOf p q w
-  pub spot : SpotAt p q t s
-  pub fits : (a : Axis) → t a + moves-on m a ≤ differences p q a
+-- ---- the 26-line, a coordinate at a time
+
+-- from p towards q, with the difference D and the longest one M
+abbrev pub pace : ℤ → ℤ → ℕ → ℕ → Pace
+pace p q D M = record { by = unit p q; stay = pos (2 * D); go = pos (2 * D) -ℤ pos (2 * M) }
+
+abbrev pub first-of : ℤ → ℕ → ℕ → Coordinate
+first-of p D M = record { at = p; due = pos (2 * D) -ℤ pos M }
+
+abbrev pub next-of : Pace → Coordinate → Coordinate
+next-of k c = cond (leZ (pos 0) (c .due)) (record { at = c .at +ℤ k .by; due = c .due +ℤ k .go }) (record { at = c .at; due = c .due +ℤ k .stay })
+
+-- what a move asks: every sum fits
+pub record CanMove (c : Coordinate) (k : Pace) : Type 0 where
+  pub at : Small (c .at)
+  pub due : Small (c .due)
+  pub by : Small (k .by)
+  pub stay : Small (k .stay)
+  pub go : Small (k .go)
+
+-- the three, D being the differences
+abbrev pub paces : Cell → Cell → Steps → Paces
+paces p q D = record { x = pace (p .x) (q .x) (D X) (longest D); y = pace (p .y) (q .y) (D Y) (longest D); z = pace (p .z) (q .z) (D Z) (longest D) }
+
+abbrev pub firsts : Cell → Steps → Coordinates
+firsts p D = record { x = first-of (p .x) (D X) (longest D); y = first-of (p .y) (D Y) (longest D); z = first-of (p .z) (D Z) (longest D) }
+
+abbrev pub nexts : Paces → Coordinates → Coordinates
+nexts k c = record { x = next-of (k .x) (c .x); y = next-of (k .y) (c .y); z = next-of (k .z) (c .z) }
+
+pub record CanMoves (c : Coordinates) (k : Paces) : Type 0 where
+  pub x : CanMove (c .x) (k .x)
+  pub y : CanMove (c .y) (k .y)
+  pub z : CanMove (c .z) (k .z)
+
+abbrev pub cell-at : Coordinates → Cell
+cell-at c = record { x = c .x .at; y = c .y .at; z = c .z .at }
 
 -- three numbers stored from a place on
 abbrev pub put3 : List ℤ → ℕ → Cell → List ℤ

@@ -1,96 +1,73 @@
--- `lists::fill26` meets its contract. The invariant: m cells are stored, and s is the spot of place m; a turn stores one more and makes
--- a long step. The measure is how many cells are left. Assumes nothing.
-use mathlib.Core.Path.{_≡_, refl, sym, ap, _∙_, subst}
-use Prim.Native.Nat.{ℕ, _+_, _-_}
+-- `lists::fill26` meets its contract. The invariant: m cells are stored, and c are the coordinates of cell m; a turn stores one more and moves each
+-- coordinate where that is due. The measure is how many cells are left. Assumes nothing.
+use mathlib.Core.Path.{_≡_, sym, ap, _∙_, subst}
+use Prim.Native.Nat.{_+_, _-_}
 use native.Mathlib.Omega.{arith}
 use borrow.Author.Needs.{needs}
-use Rattle.cells.specs.declared.Cell.{Cell}
-use Rattle.lines.specs.Steps.{at}
-use Rattle.lines.specs.Preference.{rule-1}
-use Rattle.lines.specs.Lines.{differences, longest, cells, place-26, cell-26}
-use Rattle.lines.specs.Decisions.{values}
-use Rattle.lines.proofs.Cells.{is-26, end-26, line-26-is}
-use Rattle.lines.proofs.Centres.{moved-start, within-26}
-use Rattle.tripod.specs.declared.Diffs.{Diffs}
-use Rattle.tripod.specs.Tripod.{steps, LongMoves}
+use Rattle.lines.specs.Lines.{differences, longest, cells, cell-26}
+use Rattle.lines.proofs.Cells.{end-26, line-26-is}
 use Rattle.lists.specs.Lists.{filled}
-use Rattle.lists.specs.Way.{SpotAt, Measured}
-use Rattle.lists.proofs.Line.{can-cross}
-use Rattle.lists.proofs.Filling.{Filling, filled-one, filled-last, spot-start, long-turn}
+use Rattle.lists.specs.Way.{cell-at, paces, firsts, nexts, CanMoves}
+use Rattle.lists.proofs.Filling.{Filling, filled-none, filled-one, filled-last}
+use Rattle.lists.proofs.Moving.{Paced, paced-cell, paced-first, paced-next, paced-moves}
 use Rattle.lists.proofs.fill26.Statement.{statement}
 use Rattle.lists.proofs.fill26.Tie as tie
 
 abbrev Inv-loop : tie.InvT-loop
-Inv-loop out₀ q d long last w s₀ m₀ at₀ out s m at = Filling (cell-26 (s₀ .at) q) (place-26 (differences (s₀ .at) q)) (s₀ .at) q last out₀ out s m at
+Inv-loop out₀ q last k c₀ m₀ at₀ out c m at = Filling (cell-26 (cell-at c₀) q) last out₀ out m at × Paced (cell-at c₀) q m c
 
 abbrev μ-loop : tie.MeasureT-loop
-μ-loop out₀ q d long last w s₀ m₀ at₀ out s m at = last - m
+μ-loop out₀ q last k c₀ m₀ at₀ out c m at = last - m
 
-way-of-requires : tie.Need-way-of-requires Inv-loop μ-loop
-way-of-requires c κs = search needs
+paces-of-requires : tie.Need-paces-of-requires Inv-loop μ-loop
+paces-of-requires c κs = search needs
 
-first-values-requires : tie.Need-first-values-requires Inv-loop μ-loop
-first-values-requires c κs = search needs
+first-coordinates-requires : tie.Need-first-coordinates-requires Inv-loop μ-loop
+first-coordinates-requires c κs = search needs
 
--- the ends' longest difference is the last cell's number
-last-is : (p q : Cell) (d : Diffs) {last : ℕ} → Measured p q d → last ≡ longest (steps d) → last ≡ longest (differences p q)
-last-is p q d k e = e ∙ ap longest (k .is)
+-- the first coordinates are P's
+at-p : (c : tie.After-first-coordinates Inv-loop μ-loop) → cell-at (c .first-coordinates .result) ≡ c .before .before .args .p
+at-p c = ap cell-at (c .first-coordinates .ensures)
 
 loop-holds : tie.Need-loop-holds Inv-loop μ-loop
 loop-holds c =
     let s = c .before .before in
     let p = s .args .p in
     let q = s .args .q in
-    let D = differences p q in
-    record {
-      most = omega arith;
-      spot = spot-start p q (place-26 D 0) _ (λ a. moved-start (longest D) (D a)) refl (c .first-values .ensures ∙ ap (λ E. values E (at 0 0 0)) (s .pre .0 .is));
-      stored = refl;
-      long = refl;
-      next-at = refl;
-    }
+    let r = c .first-coordinates .result in
+    let first : Paced p q 0 r = subst (Paced p q 0) (sym (c .first-coordinates .ensures ∙ ap (firsts p) (s .pre .0 .is))) (paced-first p q) in
+    (filled-none _ _ _, subst (λ u. Paced u q 0 r) (sym (at-p c)) first)
+
+-- the coordinates in the loop are those of the line from P
+on-line : (l : tie.At-loop Inv-loop μ-loop) →
+    let s = l .before .before .before in
+    Paced (s .args .p) (s .args .q) (l .loop .m) (l .loop .c)
+on-line l = subst (λ u. Paced u (l .before .before .before .args .q) (l .loop .m) (l .loop .c)) (at-p (l .before)) (l .loop .inv .1)
+
+-- the paces are that line's, and its longest difference is the last cell's number
+paces-are : (c : tie.After-paces-of Inv-loop μ-loop) →
+    let s = c .before in
+    c .paces-of .result ≡ paces (s .args .p) (s .args .q) (differences (s .args .p) (s .args .q))
+paces-are c = let s = c .before in c .paces-of .ensures ∙ ap (paces (s .args .p) (s .args .q)) (s .pre .0 .is)
+
+last-is : (c : tie.After-paces-of Inv-loop μ-loop) →
+    let s = c .before in
+    s .args .last ≡ longest (differences (s .args .p) (s .args .q))
+last-is c = let s = c .before in s .pre .1 ∙ ap longest (s .pre .0 .is)
+
+cell-at-requires : tie.Need-cell-at-requires Inv-loop μ-loop
+cell-at-requires c κs = search needs
 
 put-requires : tie.Need-put-requires Inv-loop μ-loop
 put-requires c κs = search needs
 
-long-moves-requires : tie.Need-long-moves-requires Inv-loop μ-loop
-long-moves-requires c κs =
-    let l = c .before .before .before .before in
-    let s = l .before .before .before in
-    let p = s .args .p in
-    let q = s .args .q in
-    let (k, long, last, room) = s .pre in
-    let e = last-is p q (s .args .d) k last in
-    (can-cross p q _ (l .before .before .way-of .ensures) (k .p-in) (k .q-in) _ _ (within-26 (differences p q) (l .loop .m) (omega arith)) (l .loop .inv .spot) .values, k .short, long)
-
--- the moves, of the ends' own differences
-moves : (c : tie.After-long-moves Inv-loop μ-loop) →
-    let s = c .before .before .before .before .before .before .before .before in
-    LongMoves (differences (s .args .p) (s .args .q)) (c .before .before .before .before .before .loop .s .e) (c .long-moves .result)
-moves c =
-    let s = c .before .before .before .before .before .before .before .before in
-    subst (λ E. LongMoves E (c .before .before .before .before .before .loop .s .e) (c .long-moves .result)) (s .pre .0 .is) (c .long-moves .ensures)
-
-leapt-requires : tie.Need-leapt-requires Inv-loop μ-loop
-leapt-requires c κs =
+next-coordinates-requires : tie.Need-next-coordinates-requires Inv-loop μ-loop
+next-coordinates-requires c κs =
     let l = c .before .before .before .before .before in
     let s = l .before .before .before in
-    let p = s .args .p in
-    let q = s .args .q in
-    let (k, long, last, room) = s .pre in
-    let e = last-is p q (s .args .d) k last in
-    let D = differences p q in
-    let m = l .loop .m in
-    record {
-      p = p;
-      q = q;
-      t = place-26 D m;
-      p-in = k .p-in;
-      q-in = k .q-in;
-      way = l .before .before .way-of .ensures;
-      spot = l .loop .inv .spot;
-      fits = λ a. omega (arith, within-26 D (m + 1) (omega arith) a, moves c .go-on m (omega arith) (l .loop .inv .spot .value) a);
-    }
+    let k = s .pre .0 in
+    subst (CanMoves (l .loop .c)) (sym (paces-are (l .before .before)))
+    (paced-moves (s .args .p) (s .args .q) (l .loop .m) (l .loop .c) (omega (arith, c .before .before .before .before .loop-test .taken, last-is (l .before .before))) (on-line l) (k .p-in) (k .q-in))
 
 add-at : tie.Need-add-at Inv-loop μ-loop
 add-at c = search needs
@@ -101,19 +78,29 @@ add-m c = search needs
 loop-less : tie.Need-loop-less Inv-loop μ-loop
 loop-less c = search needs
 
-loop-again : tie.Need-loop-again Inv-loop μ-loop
-loop-again c =
+-- a turn leads to those of the next cell
+turned : (c : tie.After-next-coordinates Inv-loop μ-loop) →
+    let l = c .before .before .before .before .before .before in
+    let s = l .before .before .before in
+    Paced (s .args .p) (s .args .q) (l .loop .m + 1) (c .next-coordinates .result)
+turned c =
     let l = c .before .before .before .before .before .before in
     let s = l .before .before .before in
     let p = s .args .p in
     let q = s .args .q in
-    let (k, long, last, room) = s .pre in
-    let e = last-is p q (s .args .d) k last in
-    let D = differences p q in
-    filled-one (cell-26 p q) (place-26 D) p q _ _ (is-26 rule-1 p q) room _ _ _ _ (l .loop .m) _ (l .loop .inv) (c .before .before .before .before .before .loop-test .taken)
-    (c .before .before .before .put .ensures)
-    (subst (SpotAt p q (place-26 D (l .loop .m + 1))) (sym (c .leapt .ensures))
-    (long-turn p q _ (l .before .before .way-of .ensures) (l .loop .m) (l .loop .s) _ (omega (arith, c .before .before .before .before .before .loop-test .taken, e)) (l .loop .inv .spot) (moves (c .before))))
+    subst (Paced p q (l .loop .m + 1)) (sym (c .next-coordinates .ensures ∙ ap (λ k. nexts k (l .loop .c)) (paces-are (l .before .before))))
+    (paced-next p q (l .loop .m) (l .loop .c) (omega (arith, c .before .before .before .before .before .loop-test .taken, last-is (l .before .before))) (on-line l))
+
+loop-again : tie.Need-loop-again Inv-loop μ-loop
+loop-again c =
+    let l = c .before .before .before .before .before .before in
+    let s = l .before .before .before in
+    let q = s .args .q in
+    let m = l .loop .m in (
+      filled-one _ _ _ (s .pre .2) _ _ _ m _ (l .loop .inv .0) (c .before .before .before .before .before .loop-test .taken) (c .before .before .put .ensures)
+          (c .before .before .before .cell-at .ensures ∙ paced-cell _ q m _ (l .loop .inv .1)),
+      subst (λ u. Paced u q (m + 1) (c .next-coordinates .result)) (sym (at-p (l .before))) (turned c),
+    )
 
 put-requires-2 : tie.Need-put-requires-2 Inv-loop μ-loop
 put-requires-2 c κs = search needs
@@ -127,10 +114,9 @@ returns c =
     let s = l .before .before .before in
     let p = s .args .p in
     let q = s .args .q in
-    let (k, long, last, room) = s .pre in
-    let e = last-is p q (s .args .d) k last in
-    filled-last (cell-26 p q) (place-26 (differences p q)) p q _ _ (is-26 rule-1 p q) room _ _ _ (l .loop .m) _ (l .loop .inv) (omega arith)
-    (ap (cell-26 p q) e ∙ end-26 p q) (c .before .put2 .ensures)
+    let e = last-is (l .before .before) in
+    filled-last _ _ _ (s .pre .2) _ _ q (l .loop .m) _ (l .loop .inv .0) (omega arith) (ap (λ u. cell-26 u q (s .args .last)) (at-p (l .before)) ∙ ap (cell-26 p q) e ∙ end-26 p q) (c .before .put2 .ensures)
+    ∙ ap (λ u. filled (cells (cell-26 u q) (s .args .last + 1)) (s .args .out .now)) (at-p (l .before))
     ∙ ap (λ n. filled (cells (cell-26 p q) (n + 1)) (s .args .out .now)) e ∙ ap (λ x. filled x (s .args .out .now)) (sym (line-26-is p q))
 
 pub fill26-spec : {M : Type 1} → statement M
@@ -139,12 +125,12 @@ fill26-spec =
     (tie.spec
     Inv-loop
     μ-loop
-    way-of-requires
-    first-values-requires
+    paces-of-requires
+    first-coordinates-requires
     loop-holds
+    cell-at-requires
     put-requires
-    long-moves-requires
-    leapt-requires
+    next-coordinates-requires
     add-at
     add-m
     loop-less

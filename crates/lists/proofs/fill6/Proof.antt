@@ -1,9 +1,8 @@
 -- `lists::fill6` meets its contract. The invariant: m cells are stored, and s is the spot of place m; a turn stores one more and crosses the face that
 -- comes next. The measure is how many crossings are left. Assumes nothing.
-use mathlib.Core.Path.{_≡_, refl, sym, ap, _∙_, subst}
-use Prim.Native.Nat.{_+_, _*_, _-_, _≤_, _<_}
+use mathlib.Core.Path.{refl, sym, ap, _∙_, subst}
+use Prim.Native.Nat.{_+_, _-_}
 use native.Mathlib.Omega.{arith}
-use lib.ListN.{length}
 use borrow.Author.Needs.{needs}
 use Rattle.lines.specs.Steps.{at, total}
 use Rattle.lines.specs.Preference.{rule-1}
@@ -16,12 +15,12 @@ use Rattle.lines.proofs.Centres.{centres-good}
 use Rattle.lists.specs.Lists.{filled}
 use Rattle.lists.specs.Way.{SpotAt}
 use Rattle.lists.proofs.Line.{can-cross}
-use Rattle.lists.proofs.Filling.{Filling, C, filled-one, filled-last, spot-start, six-turn}
+use Rattle.lists.proofs.Filling.{Filling, C, filled-none, filled-one, filled-last, spot-start, six-turn}
 use Rattle.lists.proofs.fill6.Statement.{statement}
 use Rattle.lists.proofs.fill6.Tie as tie
 
 abbrev Inv-loop : tie.InvT-loop
-Inv-loop out₀ q w s₀ crossings m₀ at₀ out s m at = Filling (six-cell rule-1 (s₀ .at) q) (place (C (s₀ .at) q)) (s₀ .at) q crossings out₀ out s m at
+Inv-loop out₀ q w s₀ crossings m₀ at₀ out s m at = Filling (six-cell rule-1 (s₀ .at) q) crossings out₀ out m at × SpotAt (s₀ .at) q (place (C (s₀ .at) q) m) s
 
 abbrev μ-loop : tie.MeasureT-loop
 μ-loop out₀ q w s₀ crossings m₀ at₀ out s m at = crossings - m
@@ -43,13 +42,7 @@ loop-holds c =
     let s = c .before .before .before .before in
     let p = s .args .p in
     let q = s .args .q in
-    record {
-      most = omega arith;
-      spot = spot-start p q (place (C p q) 0) _ (place-start (C p q)) refl (c .before .before .first-values .ensures ∙ ap (λ D. values D (at 0 0 0)) (s .pre .0 .is));
-      stored = refl;
-      long = refl;
-      next-at = refl;
-    }
+    (filled-none (six-cell rule-1 p q) _ _, spot-start p q (place (C p q) 0) _ (place-start (C p q)) refl (c .before .before .first-values .ensures ∙ ap (λ D. values D (at 0 0 0)) (s .pre .0 .is)))
 
 put-requires : tie.Need-put-requires Inv-loop μ-loop
 put-requires c κs = search needs
@@ -64,7 +57,7 @@ crossed-requires c κs =
     let k = s .pre .0 in
     can-cross (s .args .p) (s .args .q) _ (l .before .before .before .before .way-of .ensures) (k .p-in) (k .q-in) _ _
     (place-on (C (s .args .p) (s .args .q)) (centres-good rule-1 (differences (s .args .p) (s .args .q))) (l .loop .m) (omega (arith, ap total (k .is))) .1)
-    (l .loop .inv .spot)
+    (l .loop .inv .1)
 
 add-at : tie.Need-add-at Inv-loop μ-loop
 add-at c = search needs
@@ -81,11 +74,12 @@ loop-again c =
     let s = l .before .before .before .before .before in
     let k = s .pre .0 in
     let p = s .args .p in
-    let q = s .args .q in
-    filled-one (six-cell rule-1 p q) (place (C p q)) p q _ _ (six-is rule-1 p q) (s .pre .1) _ _ _ _ (l .loop .m) _ (l .loop .inv) (omega arith)
-    (c .before .before .before .put .ensures)
-    (subst (SpotAt p q (place (C p q) (l .loop .m + 1))) (sym (c .crossed .ensures))
-    (six-turn p q _ (l .before .before .before .before .way-of .ensures) (l .loop .m) (l .loop .s) _ (omega (arith, ap total (k .is))) (l .loop .inv .spot) (c .before .next-face .ensures)))
+    let q = s .args .q in (
+      filled-one (six-cell rule-1 p q) _ _ (s .pre .1) _ _ _ (l .loop .m) _ (l .loop .inv .0) (omega arith) (c .before .before .before .put .ensures)
+          (l .loop .inv .1 .cell ∙ sym (six-is rule-1 p q (l .loop .m))),
+      subst (SpotAt p q (place (C p q) (l .loop .m + 1))) (sym (c .crossed .ensures))
+          (six-turn p q _ (l .before .before .before .before .way-of .ensures) (l .loop .m) (l .loop .s) _ (omega (arith, ap total (k .is))) (l .loop .inv .1) (c .before .next-face .ensures)),
+    )
 
 put-requires-2 : tie.Need-put-requires-2 Inv-loop μ-loop
 put-requires-2 c κs = search needs
@@ -101,7 +95,7 @@ returns c =
     let p = s .args .p in
     let q = s .args .q in
     let e = ap total (k .is) in
-    filled-last (six-cell rule-1 p q) (place (C p q)) p q _ _ (six-is rule-1 p q) (s .pre .1) _ _ _ (l .loop .m) _ (l .loop .inv) (omega arith)
+    filled-last (six-cell rule-1 p q) _ _ (s .pre .1) _ _ q (l .loop .m) _ (l .loop .inv .0) (omega arith)
     (ap (six-cell rule-1 p q) e ∙ six-end rule-1 p q) (c .before .put2 .ensures)
     ∙ ap (λ n. filled (cells (six-cell rule-1 p q) (n + 1)) (s .args .out .now)) e ∙ ap (λ x. filled x (s .args .out .now)) (sym (six-line-is rule-1 p q))
 

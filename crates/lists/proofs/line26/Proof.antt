@@ -1,11 +1,10 @@
 -- `lists::line26` meets its contract: each way out has the verdict that led there, and an accepted call is filled in. Assumes nothing.
-use mathlib.Core.Path.{_≡_, refl, sym, ap, _∙_, subst}
-use Prim.Native.Nat.{ℕ, _+_}
+use mathlib.Core.Path.{_≡_, sym, ap, _∙_, subst}
+use Prim.Native.Nat.{_+_}
 use native.Mathlib.Omega.{arith}
 use Rattle.cells.specs.declared.Verdict.the-variants.{Fine}
 use Rattle.lines.specs.Lines.{differences, longest, line-26}
 use Rattle.lines.proofs.Cells.{length-26}
-use Rattle.tripod.specs.Tripod.{steps}
 use Rattle.lists.specs.declared.Listed.the-variants.{Cells}
 use Rattle.lists.specs.Lists.{ends-check, Line26}
 use Rattle.lists.proofs.Front.{refused-ends, refused-room, listed-all, ends-fine}
@@ -27,22 +26,16 @@ fine : (c : tie.After-enum-told) → ends-check (c .before .before .before .args
 fine c = sym (c .before .before .check-ends .ensures) ∙ c .enum-told .given .1
 
 -- the last cell's number
-last-is : (c : tie.After-along) → c .along .result ≡ longest (steps (c .before .before .measured .result))
-last-is c = c .along .ensures ∙ c .before .longest-axis .ensures
-
-count : (c : tie.After-along) →
-    let s = c .before .before .before .before .before .before in
-    longest (differences (s .args .p) (s .args .q)) ≡ c .along .result
-count c = sym (last-is c ∙ ap longest (c .before .before .measured .ensures .0))
+count : (c : tie.After-longest-of) →
+    let s = c .before .before .before .before .before in
+    longest (differences (s .args .p) (s .args .q)) ≡ c .longest-of .result
+count c = sym (c .longest-of .ensures ∙ ap longest (c .before .measured .ensures .0))
 
 measured-requires : tie.Need-measured-requires
 measured-requires c κs = ends-fine _ _ (fine c)
 
-longest-axis-requires : tie.Need-longest-axis-requires
-longest-axis-requires c κs = search needs
-
-along-requires : tie.Need-along-requires
-along-requires c κs = search needs
+longest-of-requires : tie.Need-longest-of-requires
+longest-of-requires c κs = search needs
 
 add-count : tie.Need-add-count
 add-count c = search needs
@@ -56,9 +49,9 @@ mul-if1 c = search needs
 fill26-requires : tie.Need-fill26-requires
 fill26-requires c κs =
     let a = c .before .before in
-    let m = a .before .before in
+    let m = a .before in
     let (hp, hq) = ends-fine _ _ (fine (m .before)) in
-    (record { p-in = hp; q-in = hq; is = m .measured .ensures .0; short = m .measured .ensures .1 }, a .before .longest-axis .ensures, last-is a, omega arith)
+    (record { p-in = hp; q-in = hq; is = m .measured .ensures .0; short = m .measured .ensures .1 }, a .longest-of .ensures, omega arith)
 
 returns : tie.Need-returns
 returns c =
@@ -68,7 +61,7 @@ returns c =
 returns-2 : tie.Need-returns-2
 returns-2 c =
     let a = c .before in
-    let m = a .before .before in
+    let m = a .before in
     let s = m .before .before .before .before in
     refused-room (line-26 (s .args .p) (s .args .q)) (s .args .p) (s .args .q) (s .args .out .now) (fine (m .before))
     (omega (arith, length-26 (s .args .p) (s .args .q), count a))
@@ -79,7 +72,7 @@ same-length c = search needs
 returns-3 : tie.Need-returns-3
 returns-3 c =
     let a = c .before .before .before .before in
-    let m = a .before .before in
+    let m = a .before in
     let s = m .before .before .before .before in
     let p = s .args .p in
     let q = s .args .q in
@@ -94,8 +87,7 @@ line26-spec =
     enum-known-r
     enum-told
     measured-requires
-    longest-axis-requires
-    along-requires
+    longest-of-requires
     add-count
     cast-if1
     mul-if1
