@@ -32,10 +32,6 @@ pub or-false : (s : Bool) → s || false ≡ s
 or-false true = refl
 or-false false = refl
 
-pub or-assoc : (s t u : Bool) → (s || t) || u ≡ s || (t || u)
-or-assoc true t u = refl
-or-assoc false t u = refl
-
 -- one of two tests holds
 pub or-either : (s t : Bool) → s || t ≡ true → (s ≡ true) ⊎ (t ≡ true)
 or-either true t h = inl refl

@@ -1,11 +1,11 @@
 -- A list filled in part, from one index to another. Assumes nothing.
-use Prim.Native.Nat.{ℕ, zero, suc, _+_, _≤_, _<_}
+use Prim.Native.Nat.{ℕ, _+_, _≤_, _<_}
 use native.Mathlib.Nat.{le-refl, ne-of-lt, ne-of-gt}
 use native.Mathlib.Omega.{arith}
 use native.Mathlib.Decide.{decLt}
 use mathlib.Core.Path.{_≡_, refl, _∙_}
 use mathlib.Core.List.{List}
-use lib.ListN.{length, getD, set, replicate, length-set}
+use lib.ListN.{length, getD, set, length-set}
 use lib.Seq.{getD-set-same, getD-set-other}
 use Rattle.grids.specs.Marks.{tab}
 use Rattle.marks.specs.Rows.{Filled}
@@ -51,9 +51,3 @@ filled-whole f n l m e h = is-tab f n m (h .long ∙ e) (λ k lt. h .inside k (o
 -- filled by another function with the same values
 pub filled-as : (f g : ℕ → ℕ) (a b : ℕ) (l m : List ℕ) → a ≤ b → ((k : ℕ) → a ≤ k → k < b → g k ≡ f k) → Filled g a b l m → Filled f a b l m
 filled-as f g a b l m ab same h = filled-then f g a a b l l m (le-refl a) ab same (filled-none f a a l (le-refl a)) h
-
--- a fresh list of zeros
-pub blank : (m k : ℕ) → _≡_ {A = ℕ} (getD (replicate m 0) k 0) 0
-blank zero k = refl
-blank (suc m) zero = refl
-blank (suc m) (suc k) = blank m k

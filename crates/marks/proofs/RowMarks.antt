@@ -11,7 +11,7 @@ use borrow.Author.Tests.{eqb-true, le-ltb}
 use Rattle.cells.specs.declared.Counts.{Counts}
 use Rattle.grids.specs.Grid.{cell-at, clear, solid}
 use Rattle.grids.specs.Marks.{any, touches-solid, marked-byte, complete}
-use Rattle.marks.specs.Rows.{in-column, Filled, Raised, beside, mark-for, put-byte, gap-by, gap}
+use Rattle.marks.specs.Rows.{in-column, Filled, Shows, Framed, beside, mark-for, put-byte, gap-by, gap}
 use Rattle.grids.proofs.Any.{same-test, any-same, any-some, any-which, any-false}
 use Rattle.grids.proofs.Shapes.{Shaped}
 use Rattle.grids.proofs.Beside.{touches-beside, beside-touches}
@@ -31,7 +31,7 @@ filled-same k n from to l m h = record { long = h .long; alike = alike }
 
 -- ---- a row's window
 
-module _ (n : Counts) (l : List ℕ) (s : Shaped n (length l)) (r : ℕ) (blank w : List ℕ) (empty : (k : ℕ) → getD blank k 0 ≡ 0) (seen : Raised (in-column n l r) (n .nx) blank w) where
+module _ (n : Counts) (l : List ℕ) (s : Shaped n (length l)) (r : ℕ) (below : r < n .ny * n .nz) (entry w : List ℕ) (seen : Shows (in-column n l r) (n .nx) entry w) (framed : Framed (n .nx) entry) where
   -- the cell of byte x of row r
   row-x : (x : ℕ) → x < n .nx → (n .nx * r + x) % n .nx ≡ x
   row-x x h = mul-add-mod-self-left (n .nx) r x ∙ mod-eq-of-lt h
@@ -45,8 +45,8 @@ module _ (n : Counts) (l : List ℕ) (s : Shaped n (length l)) (r : ℕ) (blank 
   -- a cell of the row that is not solid touches a solid one exactly when the window says so
   pub window-tells : (x : ℕ) → x < n .nx → solid (getD l (n .nx * r + x) 0) ≡ false → beside w x ≡ touches-solid 3 n l (cell-at n (n .nx * r + x))
   window-tells x h soft =
-      same-test _ _ (λ t. beside-touches n l s i soft (rw (row-x x h, row-of x h, row-z x h) (window-beside n l r blank w empty seen x t)))
-      (λ t. beside-window n l r blank w empty seen x (rw (row-x x h, row-of x h, row-z x h) at (touches-beside n l s 3 i t)))
+      same-test _ _ (λ t. beside-touches n l s i soft (rw (row-x x h, row-of x h, row-z x h) (window-beside n l s r below entry w seen framed x h t)))
+      (λ t. beside-window n l s r below entry w seen framed x (rw (row-x x h, row-of x h, row-z x h) at (touches-beside n l s 3 i t)))
     where
       i : ℕ
       i = n .nx * r + x

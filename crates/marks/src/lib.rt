@@ -1,15 +1,22 @@
 // Near marks and their completeness, row by row: into a window goes the largest byte, at each x, of the up to nine rows beside a row; a cell
 // of the row is beside a solid one where the window has a byte of 2 or more at x or next to it.
-ghost use Prim.Native.Nat.{ℕ, _+_, _*_, _≤_, _<_, max};
+ghost use Prim.Native.Nat.{_+_, _*_, _^_, _≤_, _<_, max};
 ghost use mathlib.Core.Path.{_≡_};
-ghost use mathlib.Core.Bool.{_&&_};
+ghost use mathlib.Core.Bool.{_&&_, _||_};
 ghost use lib.ListN.{length, getD};
 ghost use Rattle.grids.specs.Grid.{shape, clear, solid};
 ghost use Rattle.grids.specs.Marks.{any, marked-byte, marked, Marks, completeness};
-ghost use Rattle.marks.specs.Rows.{lowest, breadth, in-rows, in-layers, in-column, Filled, Raised, beside, mark-for, put-byte, gap-by, gap};
+ghost use Rattle.marks.specs.Rows.{lowest, highest, starts, in-rows, Within, in-column, Filled, Shows, Framed, beside, mark-for, put-byte, gap-by, gap};
 use cells::Counts;
 use cells::Verdict;
 use grids::Completeness;
+
+// Where three rows of a layer start, or three layers of a grid.
+struct Three {
+    low: usize,
+    mid: usize,
+    high: usize,
+}
 
 fn larger(a: u8, b: u8) -> u8
     ensures { λ r. ⌜ r ≡ max a b ⌝ }
@@ -23,85 +30,77 @@ fn lowest(y: usize) -> usize
     if y == 0 { 0 } else { y - 1 }
 }
 
-fn breadth(y: usize, n: usize) -> usize
-    requires { ⌜ (y < n) × (n ≤ 1024) ⌝ }
-    ensures { λ r. ⌜ r ≡ breadth y n ⌝ }
+fn highest(y: usize, n: usize) -> usize
+    requires { ⌜ y < n ⌝ }
+    ensures { λ r. ⌜ r ≡ highest y n ⌝ }
 {
-    if y + 2 <= n {
-        y + 2 - lowest(y)
-    } else {
-        n - lowest(y)
+    if y + 1 < n { y + 1 } else { y }
+}
+
+// Where the rows beside row y of n start, per apart, row 0 at from. At an edge row y is taken twice: the largest byte stays the same.
+fn starts(from: usize, per: usize, y: usize, n: usize) -> Three
+    requires { ⌜ (y < n) × (from + per * n < 2 ^ 64) ⌝ }
+    ensures { λ r. ⌜ r ≡ starts from per y n ⌝ }
+{
+    Three {
+        low: from + per * lowest(y),
+        mid: from + per * y,
+        high: from + per * highest(y, n),
     }
 }
 
-// Takes the row of cells that starts at from into the window.
-fn raise(window: &mut [u8], cells: &[u8], nx: usize, from: usize)
-    requires { ⌜ (nx < length (now window)) × (from + nx ≤ length (now cells)) ⌝ }
-    ensures { λ _. ⌜ Raised (λ x. solid (getD (now (cells .entry)) (from + x) 0)) nx (now (window .entry)) (now (window .exit)) ⌝ }
+// The largest byte at x of three rows.
+fn largest_in(cells: &[u8], rows: Three, x: usize) -> u8
+    requires { ⌜ Within rows (x + 1) (length (now cells)) ⌝ }
+    ensures { λ r. ⌜ solid r ≡ in-rows (now (cells .entry)) rows x ⌝ }
+{
+    larger(
+        larger(cells[rows.low + x], cells[rows.mid + x]),
+        cells[rows.high + x],
+    )
+}
+
+// Puts three rows into the window, in place of what was there.
+fn set_rows(window: &mut [u8], cells: &[u8], nx: usize, rows: Three)
+    requires { ⌜ nx < length (now window) ⌝ }
+    requires { ⌜ Within rows nx (length (now cells)) ⌝ }
+    ensures { λ _. ⌜ Shows (in-rows (now (cells .entry)) rows) nx (now (window .entry)) (now (window .exit)) ⌝ }
 {
     let mut at = 0;
     while at < nx {
-        let v = larger(window[at + 1], cells[from + at]);
+        let v = largest_in(cells, rows, at);
         window[at + 1] = v;
         at += 1;
     }
 }
 
-// The same for h rows.
-fn raise_rows(window: &mut [u8], cells: &[u8], nx: usize, from: usize, h: usize)
+// Takes three more rows into the window.
+fn raise_rows(window: &mut [u8], cells: &[u8], nx: usize, rows: Three)
     requires { ⌜ nx < length (now window) ⌝ }
-    requires { ⌜ ((j : ℕ) → j < h → from + nx * j + nx ≤ length (now cells)) ⌝ }
-    ensures { λ _. ⌜ Raised (in-rows (now (cells .entry)) nx from h) nx (now (window .entry)) (now (window .exit)) ⌝ }
+    requires { ⌜ Within rows nx (length (now cells)) ⌝ }
+    ensures { λ _. ⌜ Shows (λ x. solid (getD (now (window .entry)) (x + 1) 0) || in-rows (now (cells .entry)) rows x) nx (now (window .entry)) (now (window .exit)) ⌝ }
 {
-    let mut j = 0;
-    while j < h {
-        raise(window, cells, nx, from + nx * j);
-        j += 1;
+    let mut x = 0;
+    while x < nx {
+        let v = larger(window[x + 1], largest_in(cells, rows, x));
+        window[x + 1] = v;
+        x += 1;
     }
 }
 
-// The same for h rows in each of d layers.
-fn raise_layers(
-    window: &mut [u8],
-    cells: &[u8],
-    nx: usize,
-    per: usize,
-    from: usize,
-    h: usize,
-    d: usize,
-)
-    requires { ⌜ (nx < length (now window)) × (0 < h) ⌝ }
-    requires { ⌜ ((k j : ℕ) → k < d → j < h → from + per * k + nx * j + nx ≤ length (now cells)) ⌝ }
-    ensures { λ _. ⌜ Raised (in-layers (now (cells .entry)) nx per from h d) nx (now (window .entry)) (now (window .exit)) ⌝ }
-{
-    let mut k = 0;
-    while k < d {
-        raise_rows(window, cells, nx, from + per * k, h);
-        k += 1;
-    }
-}
-
-// Takes the up to nine rows beside row r into the window.
+// Puts the up to nine rows beside row r into the window.
 fn look(n: Counts, cells: &[u8], r: usize, window: &mut [u8])
     requires { ⌜ shape n (length (now cells)) ≡ Verdict.Fine ⌝ }
     requires { ⌜ (r < n .ny * n .nz) × (n .nx < length (now window)) ⌝ }
-    ensures { λ _. ⌜ Raised (in-column n (now (cells .entry)) r) (n .nx) (now (window .entry)) (now (window .exit)) ⌝ }
+    ensures { λ _. ⌜ Shows (in-column n (now (cells .entry)) r) (n .nx) (now (window .entry)) (now (window .exit)) ⌝ }
 {
     let nx = n.nx as usize;
     let ny = n.ny as usize;
-    let per = nx * ny;
     let y = r % ny;
-    let z = r / ny;
-    let from = nx * lowest(y) + per * lowest(z);
-    raise_layers(
-        window,
-        cells,
-        nx,
-        per,
-        from,
-        breadth(y, ny),
-        breadth(z, n.nz as usize),
-    );
+    let layers = starts(0, nx * ny, r / ny, n.nz as usize);
+    set_rows(window, cells, nx, starts(layers.low, nx, y, ny));
+    raise_rows(window, cells, nx, starts(layers.mid, nx, y, ny));
+    raise_rows(window, cells, nx, starts(layers.high, nx, y, ny));
 }
 
 // The largest byte of the window at x or next to it.
@@ -136,26 +135,26 @@ fn put(window: &[u8], cells: &mut [u8], nx: usize, from: usize)
 }
 
 // Marks row r.
-fn mark_row(n: Counts, cells: &mut [u8], r: usize)
+fn mark_row(n: Counts, cells: &mut [u8], r: usize, window: &mut [u8])
     requires { ⌜ shape n (length (now cells)) ≡ Verdict.Fine ⌝ }
-    requires { ⌜ r < n .ny * n .nz ⌝ }
+    requires { ⌜ (r < n .ny * n .nz) × Framed (n .nx) (now window) ⌝ }
     ensures { λ _. ⌜ Filled (marked-byte 3 n (now (cells .entry))) (n .nx * r) (n .nx * r + n .nx) (now (cells .entry)) (now (cells .exit)) ⌝ }
+    ensures { λ _. ⌜ Framed (n .nx) (now (window .exit)) ⌝ }
 {
-    let mut window = [0u8; 1026];
-    look(n, cells, r, &mut window);
+    look(n, cells, r, window);
     let nx = n.nx as usize;
-    put(&window, cells, nx, nx * r);
+    put(window, cells, nx, nx * r);
 }
 
 // Marks every row. Marking changes no cell's solidity, so each row is as if it were the first.
-fn mark_rows(n: Counts, cells: &mut [u8])
-    requires { ⌜ shape n (length (now cells)) ≡ Verdict.Fine ⌝ }
+fn mark_rows(n: Counts, cells: &mut [u8], window: &mut [u8])
+    requires { ⌜ (shape n (length (now cells)) ≡ Verdict.Fine) × Framed (n .nx) (now window) ⌝ }
     ensures { λ _. ⌜ now (cells .exit) ≡ marked 3 n (now (cells .entry)) ⌝ }
 {
     let rows = (n.ny as usize) * (n.nz as usize);
     let mut r = 0;
     while r < rows {
-        mark_row(n, cells, r);
+        mark_row(n, cells, r, window);
         r += 1;
     }
 }
@@ -182,26 +181,26 @@ fn gap_by(window: &[u8], cells: &[u8], nx: usize, from: usize) -> bool
 }
 
 // Whether a clear cell of row r touches a solid one.
-fn gap_in_row(n: Counts, cells: &[u8], r: usize) -> bool
+fn gap_in_row(n: Counts, cells: &[u8], r: usize, window: &mut [u8]) -> bool
     requires { ⌜ shape n (length (now cells)) ≡ Verdict.Fine ⌝ }
-    requires { ⌜ r < n .ny * n .nz ⌝ }
+    requires { ⌜ (r < n .ny * n .nz) × Framed (n .nx) (now window) ⌝ }
     ensures { λ b. ⌜ b ≡ any (λ x. gap n (now (cells .entry)) (n .nx * r + x)) (n .nx) ⌝ }
+    ensures { λ _. ⌜ Framed (n .nx) (now (window .exit)) ⌝ }
 {
-    let mut window = [0u8; 1026];
-    look(n, cells, r, &mut window);
+    look(n, cells, r, window);
     let nx = n.nx as usize;
-    gap_by(&window, cells, nx, nx * r)
+    gap_by(window, cells, nx, nx * r)
 }
 
 // Whether a clear cell touches a solid one.
-fn has_gap(n: Counts, cells: &[u8]) -> bool
-    requires { ⌜ shape n (length (now cells)) ≡ Verdict.Fine ⌝ }
+fn has_gap(n: Counts, cells: &[u8], window: &mut [u8]) -> bool
+    requires { ⌜ (shape n (length (now cells)) ≡ Verdict.Fine) × Framed (n .nx) (now window) ⌝ }
     ensures { λ b. ⌜ b ≡ any (gap n (now (cells .entry))) (length (now (cells .entry))) ⌝ }
 {
     let rows = (n.ny as usize) * (n.nz as usize);
     let mut r = 0;
     while r < rows {
-        if gap_in_row(n, cells, r) {
+        if gap_in_row(n, cells, r, window) {
             return true;
         }
         r += 1;
@@ -217,7 +216,8 @@ pub fn mark(n: Counts, cells: &mut [u8]) -> Verdict
     let Verdict::Fine = v else {
         return v;
     };
-    mark_rows(n, cells);
+    let mut window = [0u8; 1026];
+    mark_rows(n, cells, &mut window);
     v
 }
 
@@ -226,11 +226,14 @@ pub fn complete(n: Counts, cells: &[u8]) -> Completeness
     ensures { λ r. ⌜ r ≡ completeness n (now (cells .entry)) ⌝ }
 {
     match grids::shape(n, cells.len()) {
-        Verdict::Fine => if has_gap(n, cells) {
-            Completeness::No
-        } else {
-            Completeness::Yes
-        },
+        Verdict::Fine => {
+            let mut window = [0u8; 1026];
+            if has_gap(n, cells, &mut window) {
+                Completeness::No
+            } else {
+                Completeness::Yes
+            }
+        }
         Verdict::Refused(r) => Completeness::Refused(r),
     }
 }

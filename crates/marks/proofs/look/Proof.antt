@@ -1,50 +1,39 @@
--- The up to nine rows beside row r lie within the grid, and the window is raised by all of them. Assumes nothing.
-use Prim.Native.Nat.{ℕ, _+_, _*_, _/_, _%_, _^_, _≤_, _<_}
-use native.Mathlib.Nat.{lt-of-le-of-lt, mod-lt, div-lt-iff-lt-mul, mul-comm}
+-- The up to nine rows beside row r lie within the grid; the window shows those of the layer below, then those of the others too. Assumes nothing.
+use Prim.Native.Nat.{ℕ, _+_, _*_, _%_, _^_, _≤_, _<_}
+use native.Mathlib.Nat.{lt-of-le-of-lt}
 use native.Mathlib.Omega.{arith}
 use lib.Dec.{lit<}
 use lib.ListN.{length}
 use denote.Ref.{now}
 use borrow.Author.Needs.{needs}
-use Rattle.marks.specs.Rows.{lowest, breadth, in-column}
+use Rattle.marks.specs.Rows.{starts, Within}
 use Rattle.grids.proofs.Shapes.{Shaped, shaped}
-use Rattle.marks.proofs.Windows.{breadth-some, rows-within}
+use Rattle.marks.proofs.Windows.{row-y, row-z, layers-within, rows-within, column-is, shows-then, shows-as}
 use Rattle.marks.proofs.look.Statement.{statement}
 use Rattle.marks.proofs.look.Tie as tie
 
 fine : (c : tie.After-struct-known2) → let a = c .before .before .before .before .args in Shaped (a .n) (length (now (a .cells)))
 fine c = shaped _ _ (c .before .before .before .before .pre .0)
 
--- row r is row y of layer z
-y-below : (c : tie.After-struct-known2) → let a = c .before .before .before .before .args in a .r % a .n .ny < a .n .ny
-y-below c = let a = c .before .before .before .before .args in mod-lt (a .r) (fine c .y .some)
+-- each of the three layers lies within the cells
+layers : (c : tie.After-starts) → let a = c .before .before .before .before .before .before .args in Within (c .starts .result) (a .n .nx * a .n .ny) (length (now (a .cells)))
+layers c =
+    let s = c .before .before .before .before .before .before in
+    rw (c .starts .ensures) (layers-within (s .args .n) (now (s .args .cells)) (fine (c .before .before)) (s .args .r) (s .pre .1 .0))
 
-z-below : (c : tie.After-struct-known2) → let a = c .before .before .before .before .args in a .r / a .n .ny < a .n .nz
-z-below c =
-    let a = c .before .before .before .before .args in
-    div-lt-iff-lt-mul (fine c .y .some) .1 (rw (mul-comm (a .n .nz) (a .n .ny)) (c .before .before .before .before .pre .1 .0))
+-- so its start and its rows do
+a-layer : (c : tie.After-starts) → let a = c .before .before .before .before .before .before .args in
+    (from : ℕ) → from + a .n .nx * a .n .ny ≤ length (now (a .cells)) → (a .r % a .n .ny < a .n .ny) × (from + a .n .nx * a .n .ny < 2 ^ 64)
+a-layer c from h =
+    let s = c .before .before .before .before .before .before in
+    let long : length (now (s .args .cells)) < 2 ^ 64 = search needs in
+    (row-y (s .args .n) (now (s .args .cells)) (fine (c .before .before)) (s .args .r) (s .pre .1 .0), lt-of-le-of-lt h long)
 
--- row j of layer k of those beside lies within the cells
-within : (c : tie.After-struct-known2) → let a = c .before .before .before .before .args in
-    (k j : ℕ) → k < breadth (a .r / a .n .ny) (a .n .nz) → j < breadth (a .r % a .n .ny) (a .n .ny) →
-    a .n .nx * lowest (a .r % a .n .ny) + a .n .nx * a .n .ny * lowest (a .r / a .n .ny) + a .n .nx * a .n .ny * k + a .n .nx * j + a .n .nx ≤ length (now (a .cells))
-within c k j hk hj = let a = c .before .before .before .before .args in rw (fine c .bytes-are) (rows-within (a .n) (a .r % a .n .ny) (a .r / a .n .ny) j k hj hk)
-
-left : (a b : ℕ) → a ≤ a + b
-left a b = omega arith
-
-right : (a b : ℕ) → b ≤ a + b
-right a b = omega arith
-
--- so the first of them starts within the cells
-from-fits : (c : tie.After-struct-known2) → let a = c .before .before .before .before .args in
-    a .n .nx * lowest (a .r % a .n .ny) + a .n .nx * a .n .ny * lowest (a .r / a .n .ny) < 2 ^ 64
-from-fits c =
-    let long : length (now (c .before .before .before .before .args .cells)) < 2 ^ 64 = search needs in
-    lt-of-le-of-lt (begins _ _ _ _ _ _ (within c 0 0 (breadth-some _ _ (z-below c)) (breadth-some _ _ (y-below c)))) long
-  where
-    begins : (a b p q m all : ℕ) → a + b + p + q + m ≤ all → a + b ≤ all
-    begins a b p q m all h = omega arith
+its-rows : (c : tie.After-starts) → let a = c .before .before .before .before .before .before .args in
+    (from : ℕ) → from + a .n .nx * a .n .ny ≤ length (now (a .cells)) → Within (starts from (a .n .nx) (a .r % a .n .ny) (a .n .ny)) (a .n .nx) (length (now (a .cells)))
+its-rows c =
+    let s = c .before .before .before .before .before .before in
+    rows-within (s .args .n) (now (s .args .cells)) (fine (c .before .before)) (s .args .r) (s .pre .1 .0)
 
 cast-nx : tie.Need-cast-nx
 cast-nx c = search needs
@@ -52,54 +41,67 @@ cast-nx c = search needs
 cast-ny : tie.Need-cast-ny
 cast-ny c = search needs
 
-mul-per : tie.Need-mul-per
-mul-per c = record { fits = lt-of-le-of-lt (fine c .layer-most) (lit< tt) }
-
 rem-y : tie.Need-rem-y
 rem-y c = fine c .y .some
 
-div-z : tie.Need-div-z
-div-z c = fine c .y .some
+mul-starts : tie.Need-mul-starts
+mul-starts c = record { fits = lt-of-le-of-lt (fine c .layer-most) (lit< tt) }
 
-lowest-requires : tie.Need-lowest-requires
-lowest-requires c κs = search needs
+div-starts : tie.Need-div-starts
+div-starts c = fine c .y .some
 
-mul-from : tie.Need-mul-from
-mul-from c = rw (c .lowest .ensures) (record { fits = lt-of-le-of-lt (left _ _) (from-fits (c .before)) })
+cast-starts : tie.Need-cast-starts
+cast-starts c = search needs
 
-lowest-requires-2 : tie.Need-lowest-requires-2
-lowest-requires-2 c κs = search needs
+starts-requires : tie.Need-starts-requires
+starts-requires c κs =
+    let d = c .before in
+    let a = d .before .before .before .before .args in
+    (row-z (a .n) (now (a .cells)) (fine d) (a .r) (d .before .before .before .before .pre .1 .0), omega (arith, fine d .size-most))
 
-mul-from-2 : tie.Need-mul-from-2
-mul-from-2 c = rw (c .lowest2 .ensures) (record { fits = lt-of-le-of-lt (right _ _) (from-fits (c .before .before)) })
+starts-requires-2 : tie.Need-starts-requires-2
+starts-requires-2 c κs = a-layer (c .before) _ (omega (arith, layers (c .before)))
 
-add-from : tie.Need-add-from
-add-from c = rw (c .before .lowest .ensures, c .lowest2 .ensures) (record { fits = from-fits (c .before .before) })
+set-rows-requires : tie.Need-set-rows-requires
+set-rows-requires c κs =
+    let d = c .before .before in
+    let s = d .before .before .before .before .before .before in
+    (s .pre .1 .1, rw (c .starts2 .ensures) (its-rows d _ (omega (arith, layers d))))
 
-breadth-requires : tie.Need-breadth-requires
-breadth-requires c κs = let d = c .before .before .before in (y-below d, fine d .y .most)
+starts-requires-3 : tie.Need-starts-requires-3
+starts-requires-3 c κs = let d = c .before .before .before .before .before .before in a-layer d _ (omega (arith, layers d))
 
-cast-breadth : tie.Need-cast-breadth
-cast-breadth c = search needs
+raise-rows-requires : tie.Need-raise-rows-requires
+raise-rows-requires c κs =
+    let d = c .before .before .before .before .before .before .before in
+    let s = d .before .before .before .before .before .before in
+    (omega (arith, c .before .before .before .before .set-rows .ensures .long, s .pre .1 .1), rw (c .starts3 .ensures) (its-rows d _ (omega (arith, layers d))))
 
-breadth-requires-2 : tie.Need-breadth-requires-2
-breadth-requires-2 c κs = let d = c .before .before .before .before .before in (z-below d, fine d .z .most)
+starts-requires-4 : tie.Need-starts-requires-4
+starts-requires-4 c κs = let d = c .before .before .before .before .before .before .before .before .before .before .before in a-layer d _ (omega (arith, layers d))
 
-raise-layers-requires : tie.Need-raise-layers-requires
-raise-layers-requires c κs =
-    let d = c .before .before .before .before .before .before in
-    rw (c .before .before .before .before .before .lowest .ensures, c .before .before .before .before .lowest2 .ensures, c .before .before .breadth .ensures, c .breadth2 .ensures)
-    ((d .before .before .before .before .pre .1 .1, breadth-some _ _ (y-below d)), within d)
+raise-rows-requires-2 : tie.Need-raise-rows-requires-2
+raise-rows-requires-2 c κs =
+    let d = c .before .before .before .before .before .before .before .before .before .before .before .before in
+    let s = d .before .before .before .before .before .before in
+    (omega (arith, c .before .before .before .before .raise-rows .ensures .long, c .before .before .before .before .before .before .before .before .before .set-rows .ensures .long, s .pre .1 .1), rw (c .starts4 .ensures) (its-rows d _ (omega (arith, layers d))))
 
 same-length : tie.Need-same-length
 same-length c = search needs
 
 returns : tie.Need-returns
-unfolding in-column
 returns c =
-    let d = c .before .before .before in
-    rw (d .before .before .before .before .before .lowest .ensures, d .before .before .before .before .lowest2 .ensures, d .before .before .breadth .ensures, d .breadth2 .ensures)
-    at (c .before .before .raise-layers .ensures)
+    let high = c .before .before in
+    let mid = high .before .before .before .before .before in
+    let low = mid .before .before .before .before .before in
+    let d = low .before .before .before in
+    let s = d .before .before .before .before .before .before in
+    let a = s .args in
+    shows-as (column-is (a .n) (now (a .cells)) (fine (d .before .before)) (a .r) (s .pre .1 .0))
+    (shows-then _
+    (shows-then _ (rw (low .before .starts2 .ensures, d .starts .ensures) at (low .set-rows .ensures))
+    (rw (mid .before .starts3 .ensures, d .starts .ensures) at (mid .raise-rows .ensures)))
+    (rw (high .before .starts4 .ensures, d .starts .ensures) at (high .raise-rows2 .ensures)))
 
 pub look-spec : {M : Type 1} → statement M
 look-spec =
@@ -107,17 +109,16 @@ look-spec =
     (tie.spec
     cast-nx
     cast-ny
-    mul-per
     rem-y
-    div-z
-    lowest-requires
-    mul-from
-    lowest-requires-2
-    mul-from-2
-    add-from
-    breadth-requires
-    cast-breadth
-    breadth-requires-2
-    raise-layers-requires
+    mul-starts
+    div-starts
+    cast-starts
+    starts-requires
+    starts-requires-2
+    set-rows-requires
+    starts-requires-3
+    raise-rows-requires
+    starts-requires-4
+    raise-rows-requires-2
     same-length
     returns)

@@ -1,54 +1,63 @@
--- After j turns the window is raised by the first j rows; the measure is what is left of h. Assumes nothing.
-use Prim.Native.Nat.{_+_, _*_, _-_, _≤_}
+-- After x turns the window shows what it had and the three rows for the numbers below x; the measure is what is left of nx. Assumes nothing.
+use Prim.Native.Nat.{_+_, _-_, _≤_}
+use native.Mathlib.Nat.{le-refl}
 use native.Mathlib.Omega.{arith}
 use mathlib.Core.Path.{_≡_}
-use lib.ListN.{length}
-use denote.Ref.{now}
-use Rattle.marks.specs.Rows.{Raised, in-rows}
-use Rattle.marks.proofs.Windows.{raised-none, raised-then, no-rows, one-row-more}
+use mathlib.Core.Bool.{_||_}
+use lib.ListN.{getD}
+use borrow.Author.Needs.{needs}
+use Rattle.grids.specs.Grid.{solid}
+use Rattle.marks.specs.Rows.{Shows, in-rows}
+use Rattle.marks.proofs.Windows.{solid-max, within-as, shows-none, shows-more}
 use Rattle.marks.proofs.raise_rows.Statement.{statement}
 use Rattle.marks.proofs.raise_rows.Tie as tie
 
 abbrev Inv-loop : tie.InvT-loop
-Inv-loop window₀ cells nx from h j₀ window j = (j ≤ h) × Raised (in-rows cells nx from j) nx window₀ window
+Inv-loop window₀ cells nx rows x₀ window x = (x ≤ nx) × Shows (λ i. solid (getD window₀ (i + 1) 0) || in-rows cells rows i) x window₀ window
 
 abbrev μ-loop : tie.MeasureT-loop
-μ-loop window₀ cells nx from h j₀ window j = h - j
-
--- row j lies within the cells
-fits : (c : tie.After-raise-arg Inv-loop μ-loop) → let a = c .before .before .before .before .before .args in
-    a .from + a .nx * c .before .before .loop .j + a .nx ≤ length (now (a .cells))
-fits c = c .before .before .before .before .before .pre .1 (c .before .before .loop .j) (c .before .loop-test .taken)
+μ-loop window₀ cells nx rows x₀ window x = nx - x
 
 loop-holds : tie.Need-loop-holds Inv-loop μ-loop
-loop-holds c = (omega arith, raised-none _ _ _ (no-rows _ _ _))
+loop-holds c = (omega arith, shows-none _ _)
 
-mul-raise : tie.Need-mul-raise Inv-loop μ-loop
-mul-raise c = omega (arith, fits c)
+add-larger : tie.Need-add-larger Inv-loop μ-loop
+add-larger c = omega arith
 
-add-raise : tie.Need-add-raise Inv-loop μ-loop
-add-raise c = omega (arith, fits c)
+slice-read-larger : tie.Need-slice-read-larger Inv-loop μ-loop
+slice-read-larger c = omega (arith, c .before .before .loop .inv .1 .long)
 
-raise-requires : tie.Need-raise-requires Inv-loop μ-loop
-raise-requires c κs = let p = c .before .before .before .before .before .pre in (omega (arith, c .before .before .loop .inv .1 .long), fits c)
+largest-in-requires : tie.Need-largest-in-requires Inv-loop μ-loop
+largest-in-requires c κs = within-as _ _ (omega arith) (le-refl _) (c .before .before .before .before .before .pre .1)
 
-add-j : tie.Need-add-j Inv-loop μ-loop
-add-j c = omega arith
+larger-requires : tie.Need-larger-requires Inv-loop μ-loop
+larger-requires c κs = search needs
+
+add-window : tie.Need-add-window Inv-loop μ-loop
+add-window c = omega arith
+
+slice-write-window : tie.Need-slice-write-window Inv-loop μ-loop
+slice-write-window c = omega (arith, c .before .before .before .before .loop .inv .1 .long)
+
+add-x : tie.Need-add-x Inv-loop μ-loop
+add-x c = omega arith
 
 loop-less : tie.Need-loop-less Inv-loop μ-loop
 loop-less c = omega arith
 
 loop-again : tie.Need-loop-again Inv-loop μ-loop
 loop-again c =
-    let l = c .before .before .before .before .before in
-    (omega arith, raised-then _ (one-row-more _ _ _ (l .loop .j)) (l .loop .inv .1) (c .before .before .raise .ensures))
+    let l = c .before .before .before .before in
+    let x = l .loop .x in
+    let done = l .loop .inv .1 in
+    (omega arith, shows-more _ x _ _ _ (omega (arith, done .long)) (rw (c .larger .ensures, solid-max, done .after (x + 1) (omega arith), c .before .largest-in .ensures)) done)
 
 same-length : tie.Need-same-length Inv-loop μ-loop
 same-length c = c .before .loop .inv .1 .long
 
 returns : tie.Need-returns Inv-loop μ-loop
 returns c =
-    let e : c .before .loop .j ≡ c .before .before .before .before .args .h = omega arith in
+    let e : c .before .loop .x ≡ c .before .before .before .before .args .nx = omega arith in
     rw e at (c .before .loop .inv .1)
 
 pub raise-rows-spec : {M : Type 1} → statement M
@@ -58,10 +67,13 @@ raise-rows-spec =
     Inv-loop
     μ-loop
     loop-holds
-    mul-raise
-    add-raise
-    raise-requires
-    add-j
+    add-larger
+    slice-read-larger
+    largest-in-requires
+    larger-requires
+    add-window
+    slice-write-window
+    add-x
     loop-less
     loop-again
     same-length
