@@ -98,9 +98,12 @@ fn look(n: Counts, cells: &[u8], r: usize, window: &mut [u8])
     let ny = n.ny as usize;
     let y = r % ny;
     let layers = starts(0, nx * ny, r / ny, n.nz as usize);
-    set_rows(window, cells, nx, starts(layers.low, nx, y, ny));
-    raise_rows(window, cells, nx, starts(layers.mid, nx, y, ny));
-    raise_rows(window, cells, nx, starts(layers.high, nx, y, ny));
+    let below = starts(layers.low, nx, y, ny);
+    let here = starts(layers.mid, nx, y, ny);
+    let above = starts(layers.high, nx, y, ny);
+    set_rows(window, cells, nx, below);
+    raise_rows(window, cells, nx, here);
+    raise_rows(window, cells, nx, above);
 }
 
 // The largest byte of the window at x or next to it.

@@ -2,10 +2,12 @@
 use Prim.Native.Nat.{ℕ, _+_, _*_, _%_, _^_, _≤_, _<_}
 use native.Mathlib.Nat.{lt-of-le-of-lt}
 use native.Mathlib.Omega.{arith}
+use mathlib.Core.Path.{_≡_}
 use lib.Dec.{lit<}
 use lib.ListN.{length}
 use denote.Ref.{now}
 use borrow.Author.Needs.{needs}
+use Rattle.marks.specs.declared.Three.{Three}
 use Rattle.marks.specs.Rows.{starts, Within}
 use Rattle.grids.proofs.Shapes.{Shaped, shaped}
 use Rattle.marks.proofs.Windows.{row-y, row-z, layers-within, rows-within, column-is, shows-then, shows-as}
@@ -30,10 +32,11 @@ a-layer c from h =
     (row-y (s .args .n) (now (s .args .cells)) (fine (c .before .before)) (s .args .r) (s .pre .1 .0), lt-of-le-of-lt h long)
 
 its-rows : (c : tie.After-starts) → let a = c .before .before .before .before .before .before .args in
-    (from : ℕ) → from + a .n .nx * a .n .ny ≤ length (now (a .cells)) → Within (starts from (a .n .nx) (a .r % a .n .ny) (a .n .ny)) (a .n .nx) (length (now (a .cells)))
-its-rows c =
+    (rows : Three) (from : ℕ) → rows ≡ starts from (a .n .nx) (a .r % a .n .ny) (a .n .ny) → from + a .n .nx * a .n .ny ≤ length (now (a .cells)) →
+    Within rows (a .n .nx) (length (now (a .cells)))
+its-rows c rows from is h =
     let s = c .before .before .before .before .before .before in
-    rows-within (s .args .n) (now (s .args .cells)) (fine (c .before .before)) (s .args .r) (s .pre .1 .0)
+    rw is (rows-within (s .args .n) (now (s .args .cells)) (fine (c .before .before)) (s .args .r) (s .pre .1 .0) from h)
 
 cast-nx : tie.Need-cast-nx
 cast-nx c = search needs
@@ -60,31 +63,37 @@ starts-requires c κs =
     (row-z (a .n) (now (a .cells)) (fine d) (a .r) (d .before .before .before .before .pre .1 .0), omega (arith, fine d .size-most))
 
 starts-requires-2 : tie.Need-starts-requires-2
-starts-requires-2 c κs = a-layer (c .before) _ (omega (arith, layers (c .before)))
+starts-requires-2 c κs = a-layer c _ (omega (arith, layers c))
+
+starts-requires-3 : tie.Need-starts-requires-3
+starts-requires-3 c κs = let d = c .before in a-layer d _ (omega (arith, layers d))
+
+starts-requires-4 : tie.Need-starts-requires-4
+starts-requires-4 c κs = let d = c .before .before in a-layer d _ (omega (arith, layers d))
 
 set-rows-requires : tie.Need-set-rows-requires
 set-rows-requires c κs =
-    let d = c .before .before in
-    let s = d .before .before .before .before .before .before in
-    (s .pre .1 .1, rw (c .starts2 .ensures) (its-rows d _ (omega (arith, layers d))))
-
-starts-requires-3 : tie.Need-starts-requires-3
-starts-requires-3 c κs = let d = c .before .before .before .before .before .before in a-layer d _ (omega (arith, layers d))
+    let e = c .before in
+    let d = e .before .before .before in
+    (d .before .before .before .before .before .before .pre .1 .1, its-rows d _ _ (e .before .before .starts2 .ensures) (omega (arith, layers d)))
 
 raise-rows-requires : tie.Need-raise-rows-requires
 raise-rows-requires c κs =
-    let d = c .before .before .before .before .before .before .before in
-    let s = d .before .before .before .before .before .before in
-    (omega (arith, c .before .before .before .before .set-rows .ensures .long, s .pre .1 .1), rw (c .starts3 .ensures) (its-rows d _ (omega (arith, layers d))))
-
-starts-requires-4 : tie.Need-starts-requires-4
-starts-requires-4 c κs = let d = c .before .before .before .before .before .before .before .before .before .before .before in a-layer d _ (omega (arith, layers d))
+    let low = c .before .before .before in
+    let e = low .before .before in
+    let d = e .before .before .before in
+    (omega (arith, low .set-rows .ensures .long, d .before .before .before .before .before .before .pre .1 .1), its-rows d _ _ (e .before .starts3 .ensures) (omega (arith, layers d)))
 
 raise-rows-requires-2 : tie.Need-raise-rows-requires-2
 raise-rows-requires-2 c κs =
-    let d = c .before .before .before .before .before .before .before .before .before .before .before .before in
-    let s = d .before .before .before .before .before .before in
-    (omega (arith, c .before .before .before .before .raise-rows .ensures .long, c .before .before .before .before .before .before .before .before .before .set-rows .ensures .long, s .pre .1 .1), rw (c .starts4 .ensures) (its-rows d _ (omega (arith, layers d))))
+    let mid = c .before .before .before in
+    let low = mid .before .before .before .before in
+    let e = low .before .before in
+    let d = e .before .before .before in
+    let w = its-rows d _ _ (e .starts4 .ensures) (omega (arith, layers d)) in (
+      omega (arith, mid .raise-rows .ensures .long, low .set-rows .ensures .long, d .before .before .before .before .before .before .pre .1 .1),
+      record { low-fits = omega (arith, w); mid-fits = omega (arith, w); high-fits = omega (arith, w) },
+    )
 
 same-length : tie.Need-same-length
 same-length c = search needs
@@ -92,16 +101,18 @@ same-length c = search needs
 returns : tie.Need-returns
 returns c =
     let high = c .before .before in
-    let mid = high .before .before .before .before .before in
-    let low = mid .before .before .before .before .before in
-    let d = low .before .before .before in
+    let mid = high .before .before .before .before in
+    let low = mid .before .before .before .before in
+    let e = low .before .before in
+    let d = e .before .before .before in
     let s = d .before .before .before .before .before .before in
     let a = s .args in
+    let told = d .starts .ensures in
     shows-as (column-is (a .n) (now (a .cells)) (fine (d .before .before)) (a .r) (s .pre .1 .0))
     (shows-then _
-    (shows-then _ (rw (low .before .starts2 .ensures, d .starts .ensures) at (low .set-rows .ensures))
-    (rw (mid .before .starts3 .ensures, d .starts .ensures) at (mid .raise-rows .ensures)))
-    (rw (high .before .starts4 .ensures, d .starts .ensures) at (high .raise-rows2 .ensures)))
+    (shows-then _ (rw (e .before .before .starts2 .ensures, told) at (low .set-rows .ensures))
+    (rw (e .before .starts3 .ensures, told) at (mid .raise-rows .ensures)))
+    (rw (e .starts4 .ensures, told) at (high .raise-rows2 .ensures)))
 
 pub look-spec : {M : Type 1} → statement M
 look-spec =
@@ -115,10 +126,10 @@ look-spec =
     cast-starts
     starts-requires
     starts-requires-2
-    set-rows-requires
     starts-requires-3
-    raise-rows-requires
     starts-requires-4
+    set-rows-requires
+    raise-rows-requires
     raise-rows-requires-2
     same-length
     returns)
