@@ -63,8 +63,8 @@ module _ (bytes : ℕ) (k : Route) (plan : Planned bytes k) (l : List ℕ) (go :
       record { spot = subst (λ n. SpotAt k (place (course k) n) s) e (w .spot); reads = v }
 
   -- else it goes on
-  pub goes-on : Rises N go → (m r : ℕ) (s : Spot) → Walking l k go m r s → H m ≡ false → m < N → OnWay H N go (go m) (r + 1)
-  goes-on rises m r s w h lt = on-turn H N go rises m r (w .on) (ap₂ _||_ h (ne-eqb m N (λ e. omega arith)))
+  pub goes-on : Rises N go → (m r : ℕ) → OnWay H N go m r → H m ≡ false → m < N → OnWay H N go (go m) (r + 1)
+  goes-on rises m r w h lt = on-turn H N go rises m r w (ap₂ _||_ h (ne-eqb m N (λ e. omega arith)))
 
   -- across the next face
   pub face-turn :
@@ -72,7 +72,7 @@ module _ (bytes : ℕ) (k : Route) (plan : Planned bytes k) (l : List ℕ) (go :
   face-turn rises m r s n w h lt one face =
       record {
         spot = six-turn bytes k plan m s n lt (w .spot) face;
-        on = subst (λ j. OnWay H N go j (r + 1)) (one ∙ sym (add-one m)) (goes-on rises m r s w h lt);
+        on = subst (λ j. OnWay H N go j (r + 1)) (one ∙ sym (add-one m)) (goes-on rises m r (w .on) h lt);
       }
 
 -- ---- a number of faces, one at a time

@@ -3,8 +3,11 @@ use Prim.Native.Nat.{ℕ, suc, _+_, _≤_, _<_}
 use mathlib.Core.Path.{_≡_}
 use mathlib.Core.Bool.{Bool, true, false}
 use mathlib.Core.List.{List}
+use lib.ListN.{length}
+use Rattle.lines.specs.Steps.{Axis}
 use Rattle.lines.specs.Crossings.{place}
 use Rattle.lines.specs.Lines.{differences, longest}
+use Rattle.tripod.specs.Tripod.{steps}
 use Rattle.walks.specs.declared.FirstHit.{FirstHit}
 use Rattle.walks.proofs.Runs.{ends, visits, Rises}
 use Rattle.walks.proofs.Progress.{OnWay}
@@ -13,8 +16,9 @@ use Rattle.walks.proofs.Story.{answer-at}
 use Rattle.routes.specs.declared.Route.{Route}
 use Rattle.routes.specs.declared.Spot.{Spot}
 use Rattle.hits.specs.declared.Turn.{Turn}
+use Rattle.hits.specs.declared.Reach.{Reach}
 use Rattle.hits.specs.declared.Stop.{Stop}
-use Rattle.routes.specs.Route.{course, SpotAt}
+use Rattle.routes.specs.Route.{course, SpotAt, Planned}
 
 -- a walk that ends at place number e after so many reads
 pub record Stopped (k : Route) (e many : ℕ) (r : Stop) : Type 0 where
@@ -70,14 +74,17 @@ module _ (l : List ℕ) (k : Route) where
     pub below : m < longest (differences (k .p) (k .q))
     pub walking : Walking adaptively (number-26 (k .p) (k .q) m) reads s
 
-  -- it is at some such cell
-  pub record CanTurn (s : Spot) (reads : ℕ) : Type 0 where
-    pub cell : ℕ
-    pub at : At26 s reads cell
+  -- what a turn of the adaptive walk asks: the longest axis, and that cell
+  pub record CanGo (u : Axis) (s : Spot) (reads m : ℕ) : Type 0 where
+    pub plan : Planned (length l) k
+    pub long : steps (k .d) u ≡ longest (steps (k .d))
+    pub at : At26 s reads m
 
-  -- on to 26-line cell m + 1
-  pub record Turned (s : Spot) (reads : ℕ) (r : Turn) : Type 0 where
-    pub leads : (m : ℕ) → At26 s reads m → Outcome adaptively (number-26 (k .p) (k .q) (m + 1)) (r .hit) (r .spot) (r .reads)
+  -- stopped, or on its way at a later cell of the 26-line
+  pub record Reached (m : ℕ) (r : Reach) : Type 0 where
+    pub further : m < r .m
+    pub most : r .m ≤ longest (differences (k .p) (k .q))
+    pub came : Outcome adaptively (number-26 (k .p) (k .q) (r .m)) (r .hit) (r .spot) (r .reads)
 
   -- what a walk answers
   abbrev pub found : (ℕ → ℕ) → FirstHit

@@ -3,13 +3,13 @@
 ghost use mathlib.Core.Path.{_≡_};
 ghost use Prim.Native.Nat.{suc, _≤_};
 ghost use lib.ListN.{length};
-ghost use Rattle.lines.specs.Lines.{longest};
 ghost use Rattle.lines.specs.Steps.{at, total};
-ghost use Rattle.tripod.specs.Tripod.{steps, bit, moves-on};
+ghost use Rattle.tripod.specs.Tripod.{bit, moves-on};
 ghost use Rattle.grids.specs.Grid.{solid};
 ghost use Rattle.walks.specs.Answers.{PlainHit, AdaptiveHit};
-ghost use Rattle.routes.specs.Route.{Planned, SpotAt, HasByte};
-ghost use Rattle.hits.specs.Found.{adaptively, Stops, CanWalk, Walked, CanTurn, Turned, found};
+ghost use Rattle.routes.specs.Route.{Planned, SpotAt, HasByte, byte-of-spot};
+ghost use Rattle.runs.specs.Run.{slope};
+ghost use Rattle.hits.specs.Found.{adaptively, Stops, CanWalk, Walked, CanGo, Reached, found};
 ghost use Rattle.hits.specs.Answer.{answer-from};
 use cells::Axis;
 use cells::Cell;
@@ -17,6 +17,7 @@ use cells::Counts;
 use cells::Verdict;
 use routes::Route;
 use routes::Spot;
+use runs::Slope;
 use tripod::Moves;
 use walks::FirstHit;
 use walks::Hit;
@@ -32,6 +33,14 @@ pub struct Turn {
     pub spot: Spot,
     pub reads: u32,
     pub hit: bool,
+}
+
+// How far the adaptive walk came along the 26-line: cell m, unless it stopped on the way there.
+pub struct Reach {
+    pub spot: Spot,
+    pub reads: u32,
+    pub hit: bool,
+    pub m: u32,
 }
 
 // The one test of a cell: "byte 2 or more, hit".
@@ -99,23 +108,49 @@ fn one_if(t: bool) -> u32
     if t { 1 } else { 0 }
 }
 
-// From a cell of the 26-line to the next one: by a long step where the byte is 0, else over the faces between them.
-fn next_26(cells: &[u8], k: Route, long: Axis, s: Spot, reads: u32) -> Turn
-    requires { ⌜ Planned (length (now cells)) k × (steps (k .d) long ≡ longest (steps (k .d))) × CanTurn (now cells) k s reads ⌝ }
-    ensures { λ r. ⌜ Turned (now (cells .entry)) k s reads r ⌝ }
+// From a clear cell of the 26-line to the end of its run.
+fn run_on(cells: &[u8], k: Route, h: Slope, long: Axis, s: Spot, reads: u32, m: u32) -> Reach
+    requires { ⌜ CanGo (now cells) k long s reads m × (h ≡ slope k long) × (byte-of-spot (now cells) s ≡ 0) ⌝ }
+    ensures { λ r. ⌜ Reached (now (cells .entry)) k m r ⌝ }
+{
+    let d = k.d;
+    let r = runs::clear_run(cells, h, runs::lean_of(s, d, long), m);
+    let spot = runs::spot_of(r, d, h.last);
+    let made = r.m - m;
+    Reach {
+        spot: spot,
+        reads: reads + made,
+        hit: false,
+        m: r.m,
+    }
+}
+
+// From a near cell of the 26-line to the next cell of it, over the faces between them.
+fn near_turn(cells: &[u8], k: Route, long: Axis, s: Spot, reads: u32, m: u32) -> Reach
+    requires { ⌜ CanGo (now cells) k long s reads m × (byte-of-spot (now cells) s ≡ 0 → ⊥) ⌝ }
+    ensures { λ r. ⌜ Reached (now (cells .entry)) k m r ⌝ }
 {
     let e = s.e;
     let d = k.d;
-    let moves = tripod::long_moves(e, d, long);
-    if routes::byte_at(cells, s) == 0 {
-        let spot = routes::leapt(s, k, moves);
-        return Turn {
-            spot: spot,
-            reads: reads + 1,
-            hit: false,
-        };
+    let t = walk_faces(cells, k, s, reads, faces_of(tripod::long_moves(e, d, long)));
+    let spot = t.spot;
+    Reach {
+        spot: spot,
+        reads: t.reads,
+        hit: t.hit,
+        m: m + 1,
     }
-    walk_faces(cells, k, s, reads, faces_of(moves))
+}
+
+// From a cell of the 26-line to a later one: by long steps where the byte is 0, else over the faces to the next.
+fn next_26(cells: &[u8], k: Route, h: Slope, long: Axis, s: Spot, reads: u32, m: u32) -> Reach
+    requires { ⌜ CanGo (now cells) k long s reads m × (h ≡ slope k long) ⌝ }
+    ensures { λ r. ⌜ Reached (now (cells .entry)) k m r ⌝ }
+{
+    if routes::byte_at(cells, s) == 0 {
+        return run_on(cells, k, h, long, s, reads, m);
+    }
+    near_turn(cells, k, long, s, reads, m)
 }
 
 // The adaptive walk: from cell to cell of the 26-line, with long steps where the byte is 0, to the first solid cell or to Q.
@@ -123,17 +158,16 @@ fn walk_adaptive(cells: &[u8], k: Route, start: Spot) -> Stop
     requires { ⌜ Planned (length (now cells)) k × SpotAt k (at 0 0 0) start ⌝ }
     ensures { λ r. ⌜ Stops (now (cells .entry)) k (adaptively (now (cells .entry)) k) r ⌝ }
 {
-    let d = k.d;
-    let long = tripod::longest_axis(d);
-    let last = places::along(d, long);
-    let mut t = Turn {
+    let long = tripod::longest_axis(k.d);
+    let h = runs::slope_of(k, long);
+    let mut t = Reach {
         spot: start,
         reads: 0,
         hit: false,
+        m: 0,
     };
-    let mut m: u32 = 0;
-    while m < last {
-        t = next_26(cells, k, long, t.spot, t.reads);
+    while t.m < h.last {
+        t = next_26(cells, k, h, long, t.spot, t.reads, t.m);
         if t.hit {
             let spot = t.spot;
             return Stop {
@@ -141,7 +175,6 @@ fn walk_adaptive(cells: &[u8], k: Route, start: Spot) -> Stop
                 reads: t.reads,
             };
         }
-        m += 1;
     }
     let spot = t.spot;
     Stop {
@@ -152,7 +185,7 @@ fn walk_adaptive(cells: &[u8], k: Route, start: Spot) -> Stop
 
 // The answer of a walk from where it stopped.
 fn answer_of(cells: &[u8], k: Route, r: Stop) -> FirstHit
-    requires { ⌜ Planned (length (now cells)) k × HasByte (length (now cells)) (r .spot) ⌝ }
+    requires { ⌜ Planned (length (now cells)) k × HasByte (length (now cells)) (r .spot .at) ⌝ }
     ensures { λ a. ⌜ a ≡ answer-from (now (cells .entry)) k r ⌝ }
 {
     let spot = r.spot;

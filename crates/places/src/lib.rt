@@ -66,7 +66,7 @@ fn both(s: bool, t: bool) -> bool
 }
 
 // The number along an axis.
-pub fn along(d: Diffs, n: Axis) -> u32
+fn along(d: Diffs, n: Axis) -> u32
     ensures { λ r. ⌜ r ≡ steps d n ⌝ }
 {
     match n {

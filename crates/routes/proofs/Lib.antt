@@ -1,4 +1,4 @@
 pub mod Held
 pub mod Spots
-pub mod Leaps
+pub mod Cells26
 pub mod Accepting

@@ -149,7 +149,8 @@ module _ (bytes : ℕ) (k : Route) (plan : Planned bytes k) where
   kept : (t : Steps) (a : Axis) → natAbs (towards (on (k .p) a) (on (k .q) a) (t a)) ≡ natAbs (towards (on (k .p) a) (on (k .q) a) (t a + 0))
   kept t a = ap (λ i. natAbs (towards (on (k .p) a) (on (k .q) a) i)) (sym (add-zero (t a)))
 
-  index-next : (t : Steps) (n : Axis) → ((a : Axis) → bump t n a ≤ D a) → pos (byte-index (k .n) (cell-of (k .p) (k .q) t)) +ℤ stride-on (strides (k .n) (k .p) (k .q)) n ≡ pos (byte-index (k .n) (cell-of (k .p) (k .q) (bump t n)))
+  -- the byte's place across a face along n
+  pub index-next : (t : Steps) (n : Axis) → ((a : Axis) → bump t n a ≤ D a) → pos (byte-index (k .n) (cell-of (k .p) (k .q) t)) +ℤ stride-on (strides (k .n) (k .p) (k .q)) n ≡ pos (byte-index (k .n) (cell-of (k .p) (k .q) (bump t n)))
   index-next t X le =
       stride-moves (leZ (k .p .x) (k .q .x)) 1 _ _ (x-moves (leZ (k .p .x) (k .q .x)) (k .n) _ _ _ _ (coordinate t X le X refl))
       ∙ ap₂ (λ y z. pos (index (k .n) (natAbs (towards (k .p .x) (k .q .x) (t X + 1))) y z)) (kept t Y) (kept t Z)
@@ -172,7 +173,7 @@ module _ (bytes : ℕ) (k : Route) (plan : Planned bytes k) where
   few = omega (arith, plan .shaped .bytes-are, plan .shaped .size-most)
 
   -- every spot has its byte
-  pub spot-byte : (t : Steps) (s : Spot) → ((a : Axis) → t a ≤ D a) → SpotAt k t s → HasByte bytes s
+  pub spot-byte : (t : Steps) (s : Spot) → ((a : Axis) → t a ≤ D a) → SpotAt k t s → HasByte bytes (s .at)
   spot-byte t s le h =
       record {
         index = byte-index (k .n) (cell-of (k .p) (k .q) t);

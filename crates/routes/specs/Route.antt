@@ -1,7 +1,7 @@
 -- What the code keeps along a walk, and what its steps ask and promise. Assumes nothing.
 use Prim.Native.Nat.{ℕ, _+_, _*_, _≤_, _<_}
 use mathlib.Core.Path.{_≡_}
-use mathlib.Core.Bool.{Bool, cond}
+use mathlib.Core.Bool.{cond}
 use mathlib.Core.List.{List}
 use lib.IntN.{ℤ, pos, natAbs, _+ℤ_, _-ℤ_}
 use lib.Signed.{leZ}
@@ -14,8 +14,7 @@ use Rattle.lines.specs.Preference.{rule-1}
 use Rattle.lines.specs.Crossings.{Course}
 use Rattle.lines.specs.Lines.{differences, centres, cell-of}
 use Rattle.lines.specs.Decisions.{values, doubled, moved-values}
-use Rattle.tripod.specs.declared.Moves.{Moves}
-use Rattle.tripod.specs.Tripod.{steps, Short, Calm, Even, moves-on}
+use Rattle.tripod.specs.Tripod.{steps, Short, Calm, Even}
 use Rattle.grids.specs.Grid.{index}
 use Rattle.grids.proofs.Shapes.{Shaped}
 use Rattle.walks.specs.Safe.{InGrid}
@@ -76,16 +75,20 @@ pub record SpotAt (k : Route) (t : Steps) (s : Spot) : Type 0 where
   pub index : s .at ≡ pos (byte-index (k .n) (cell-of (k .p) (k .q) t))
   pub value : s .e ≡ values (differences (k .p) (k .q)) t
 
--- a spot that has a byte
-pub record HasByte (bytes : ℕ) (s : Spot) : Type 0 where
+-- where a byte is
+pub record HasByte (bytes : ℕ) (at : ℤ) : Type 0 where
   pub index : ℕ
-  pub is : s .at ≡ pos index
+  pub is : at ≡ pos index
   pub below : index < bytes
   pub few : bytes ≤ 1073741824
 
--- its byte
+-- that byte
+abbrev pub byte-there : List ℕ → ℤ → ℕ
+byte-there l at = getD l (natAbs at) 0
+
+-- a spot's byte
 abbrev pub byte-of-spot : List ℕ → Spot → ℕ
-byte-of-spot l s = getD l (natAbs (s .at)) 0
+byte-of-spot l s = byte-there l (s .at)
 
 -- the spot across the next face along n
 abbrev pub crossed-spot : Route → Axis → Spot → Spot
@@ -99,19 +102,3 @@ pub record CanCross (s : Spot) (k : Route) : Type 0 where
   pub z : Small (k .strides .z)
   pub values : Calm (s .e)
   pub twice : Even (k .twice)
-
--- the same where it is asked for
-abbrev pub crossed-where : Bool → Route → Axis → Spot → Spot
-crossed-where go k n s = cond go (crossed-spot k n s) s
-
--- the spot after a long step
-abbrev pub leapt-spot : Route → Moves → Spot → Spot
-leapt-spot k m s = crossed-where (m .z) k Z (crossed-where (m .y) k Y (crossed-where (m .x) k X s))
-
--- what a long step asks: it does not pass Q
-pub record CanLeap (s : Spot) (k : Route) (m : Moves) : Type 0 where
-  pub bytes : ℕ
-  pub plan : Planned bytes k
-  pub t : Steps
-  pub spot : SpotAt k t s
-  pub fits : (a : Axis) → t a + moves-on m a ≤ differences (k .p) (k .q) a

@@ -9,7 +9,7 @@ ghost use Rattle.lines.specs.Steps.{at};
 ghost use Rattle.lines.specs.Lines.{differences};
 ghost use Rattle.tripod.specs.Tripod.{steps, Short};
 ghost use Rattle.walks.specs.Answers.{off-axis, grid-check, walk-check};
-ghost use Rattle.routes.specs.Route.{byte-index, stride, strides, Enclosed, RouteOf, SpotAt, HasByte, byte-of-spot, crossed-spot, CanCross, crossed-where, leapt-spot, CanLeap};
+ghost use Rattle.routes.specs.Route.{byte-index, stride, strides, Enclosed, RouteOf, SpotAt, HasByte, byte-of-spot, crossed-spot, CanCross};
 use cells::Axis;
 use cells::Cell;
 use cells::Counts;
@@ -19,7 +19,6 @@ use cells::Verdict;
 use lines::Doubled;
 use lines::Tripod;
 use tripod::Diffs;
-use tripod::Moves;
 
 // How far the place of a byte moves with a cell towards Q, on each axis.
 pub struct Strides {
@@ -148,7 +147,7 @@ pub fn first_spot(k: Route) -> Spot
 
 // The byte of a spot.
 pub fn byte_at(cells: &[u8], s: Spot) -> u8
-    requires { ⌜ HasByte (length (now cells)) s ⌝ }
+    requires { ⌜ HasByte (length (now cells)) (s .at) ⌝ }
     ensures { λ r. ⌜ r ≡ byte-of-spot (now (cells .entry)) s ⌝ }
 {
     let index = s.at as usize;
@@ -179,22 +178,4 @@ pub fn crossed(s: Spot, k: Route, n: Axis) -> Spot
             e: moved,
         },
     }
-}
-
-// The same where it is asked for.
-fn crossed_if(go: bool, s: Spot, k: Route, n: Axis) -> Spot
-    requires { ⌜ CanCross s k ⌝ }
-    ensures { λ r. ⌜ r ≡ crossed-where go k n s ⌝ }
-{
-    if go { crossed(s, k, n) } else { s }
-}
-
-// The spot after a long step.
-pub fn leapt(s: Spot, k: Route, m: Moves) -> Spot
-    requires { ⌜ CanLeap s k m ⌝ }
-    ensures { λ r. ⌜ r ≡ leapt-spot k m s ⌝ }
-{
-    let x = crossed_if(m.x, s, k, Axis::X);
-    let y = crossed_if(m.y, x, k, Axis::Y);
-    crossed_if(m.z, y, k, Axis::Z)
 }

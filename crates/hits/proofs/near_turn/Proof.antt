@@ -1,0 +1,57 @@
+-- `hits::near_turn` meets its contract: as many faces as the long step would cross lie before the next cell of the 26-line. Assumes nothing.
+use mathlib.Core.Path.{_≡_, sym, subst}
+use native.Mathlib.Omega.{arith}
+use borrow.Author.Needs.{needs}
+use Rattle.lines.specs.Steps.{X, Y, Z}
+use Rattle.lines.specs.Lines.{differences}
+use Rattle.tripod.specs.Tripod.{LongMoves}
+use Rattle.routes.proofs.Spots.{short-at}
+use Rattle.hits.specs.Found.{Walked, CanWalk, adaptively}
+use Rattle.hits.proofs.Turns.{turn-calm, near-faces, near-turn}
+use Rattle.hits.proofs.near_turn.Statement.{statement}
+use Rattle.hits.proofs.near_turn.Tie as tie
+
+long-moves-requires : tie.Need-long-moves-requires
+long-moves-requires c κs =
+    let (g, near) = c .before .before .before .pre in
+    (turn-calm _ _ _ _ _ _ g, g .plan .short, g .long)
+
+-- the moves, of the ends' own differences
+moves : (c : tie.After-long-moves) → let s = c .before .before .before .before in LongMoves (differences (s .args .k .p) (s .args .k .q)) (s .args .s .e) (c .long-moves .result)
+moves c = let s = c .before .before .before .before in subst (λ E. LongMoves E (s .args .s .e) (c .long-moves .result)) (s .pre .0 .plan .is) (c .long-moves .ensures)
+
+faces-of-requires : tie.Need-faces-of-requires
+faces-of-requires c κs = search needs
+
+walk-faces-requires : tie.Need-walk-faces-requires
+walk-faces-requires c κs =
+    let s = c .before .before .before .before .before in
+    let (g, near) = s .pre in
+    let l = s .args .cells .now in (
+      g .plan,
+      subst (CanWalk l (s .args .k) (s .args .s) (s .args .reads)) (sym (c .faces-of .ensures))
+          (record { next = adaptively l (s .args .k); from = _; crossing = near-faces _ (s .args .k) (g .plan) l (s .args .m) (s .args .s) (s .args .reads) (g .at) _ (moves (c .before)) near }),
+    )
+
+add-t11 : tie.Need-add-t11
+add-t11 c =
+    let s = c .before .before .before .before .before .before .before in
+    let (g, near) = s .pre in
+    record { fits = omega (arith, g .at .below, short-at _ (s .args .k) (g .plan) X, short-at _ (s .args .k) (g .plan) Y, short-at _ (s .args .k) (g .plan) Z) }
+
+returns : tie.Need-returns
+returns c =
+    let s = c .before .before .before .before .before .before .before in
+    let (g, near) = s .pre in
+    let l = s .args .cells .now in
+    record {
+      further = omega arith;
+      most = omega (arith, g .at .below);
+      came =
+          near-turn _ (s .args .k) (g .plan) l (s .args .m) (s .args .s) (s .args .reads) (g .at) _ (moves (c .before .before .before)) (c .before .walk-faces .result) near
+          (subst (λ f. Walked l (s .args .k) (s .args .s) (s .args .reads) f (c .before .walk-faces .result)) (c .before .before .faces-of .ensures) (c .before .walk-faces .ensures));
+    }
+
+pub near-turn-spec : {M : Type 1} → statement M
+near-turn-spec =
+    tie.close (tie.spec long-moves-requires faces-of-requires walk-faces-requires add-t11 returns)

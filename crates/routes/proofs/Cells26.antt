@@ -1,0 +1,34 @@
+-- The spot of a cell of the 26-line, and the faces from there to the next one. Assumes nothing.
+use mathlib.Core.Path.{_≡_, sym, subst, fun-ext}
+use Prim.Native.Nat.{ℕ, _+_, _≤_, _<_}
+use native.Mathlib.Omega.{arith}
+use Rattle.lines.specs.Steps.{X, Y, Z, Steps, total}
+use Rattle.lines.specs.Preference.{rule-1}
+use Rattle.lines.specs.Crossings.{place}
+use Rattle.lines.specs.Lines.{differences, longest, place-26}
+use Rattle.lines.proofs.Centres.{is-place-26}
+use Rattle.tripod.specs.declared.Moves.{Moves}
+use Rattle.tripod.specs.Tripod.{LongMoves, moves-on}
+use Rattle.walks.proofs.Numbers.{number-26}
+use Rattle.routes.specs.declared.Route.{Route}
+use Rattle.routes.specs.declared.Spot.{Spot}
+use Rattle.routes.specs.Route.{course, SpotAt}
+
+module _ (k : Route) where
+  abbrev D : Steps
+  D = differences (k .p) (k .q)
+
+  -- the spot of 26-line cell m is that of its number
+  pub at-26 : (m : ℕ) (s : Spot) → m ≤ longest D → SpotAt k (place (course k) (number-26 (k .p) (k .q) m)) s → SpotAt k (place-26 D m) s
+  at-26 m s le = subst (λ t. SpotAt k t s) (sym (fun-ext (is-place-26 D rule-1 m le)))
+
+  pub from-26 : (m : ℕ) (s : Spot) → m ≤ longest D → SpotAt k (place-26 D m) s → SpotAt k (place (course k) (number-26 (k .p) (k .q) m)) s
+  from-26 m s le = subst (λ t. SpotAt k t s) (fun-ext (is-place-26 D rule-1 m le))
+
+  -- so many faces lie before the next
+  pub faces-between :
+      (m : ℕ) (s : Spot) (r : Moves) → m < longest D → SpotAt k (place (course k) (number-26 (k .p) (k .q) m)) s → LongMoves D (s .e) r →
+      number-26 (k .p) (k .q) (m + 1) ≡ number-26 (k .p) (k .q) m + total (moves-on r)
+  faces-between m s r lt h moves =
+      let value = at-26 m s (omega arith) h .value in
+      omega (arith, moves .go-on m lt value X, moves .go-on m lt value Y, moves .go-on m lt value Z)
