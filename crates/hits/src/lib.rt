@@ -154,7 +154,7 @@ fn next_26(cells: &[u8], k: Route, h: Slope, long: Axis, s: Spot, reads: u32, m:
 }
 
 // The adaptive walk: from cell to cell of the 26-line, with long steps where the byte is 0, to the first solid cell or to Q.
-fn walk_adaptive(cells: &[u8], k: Route, start: Spot) -> Stop
+pub fn walk_adaptive(cells: &[u8], k: Route, start: Spot) -> Stop
     requires { ⌜ Planned (length (now cells)) k × SpotAt k (at 0 0 0) start ⌝ }
     ensures { λ r. ⌜ Stops (now (cells .entry)) k (adaptively (now (cells .entry)) k) r ⌝ }
 {
@@ -184,7 +184,7 @@ fn walk_adaptive(cells: &[u8], k: Route, start: Spot) -> Stop
 }
 
 // The answer of a walk from where it stopped.
-fn answer_of(cells: &[u8], k: Route, r: Stop) -> FirstHit
+pub fn answer_of(cells: &[u8], k: Route, r: Stop) -> FirstHit
     requires { ⌜ Planned (length (now cells)) k × HasByte (length (now cells)) (r .spot .at) ⌝ }
     ensures { λ a. ⌜ a ≡ answer-from (now (cells .entry)) k r ⌝ }
 {

@@ -17,7 +17,6 @@ use Rattle.lines.specs.Lines.{differences, cell-of, longest, place-26, cell-26}
 use Rattle.lines.specs.Decisions.{values, doubled}
 use Rattle.lines.proofs.Centres.{within-26}
 use Rattle.lines.proofs.Cells.{is-26}
-use Rattle.tripod.specs.Tripod.{steps}
 use Rattle.tripod.proofs.Leap.{where-to, where-at}
 use Rattle.grids.specs.Grid.{byte-of}
 use Rattle.routes.specs.declared.Route.{Route}
@@ -26,7 +25,6 @@ use Rattle.routes.specs.Route.{byte-index, stride, strides, stride-on, Planned,
 use Rattle.routes.proofs.Spots.{short-at, index-next, spot-byte, byte-is, can-cross}
 use Rattle.runs.specs.declared.Slope.{Slope}
 use Rattle.runs.specs.declared.Lean.{Lean}
-use Rattle.runs.specs.declared.Run.{Run}
 use Rattle.runs.specs.Run.{second, third, twice-on, slope, leaning, lean-from, picked, stepped-lean, Upto, CanSwing, CanLean, index-26, LeanAt, Running, ClearTo, Ran}
 use Rattle.runs.proofs.Leaning.{turned, value-next, leaning-upto, goes, after-1, after-2, after-3, leads-to}
 

@@ -1,8 +1,8 @@
 // The sight answer: is anything in the way from a camera to the ball? Two lookups, then the adaptive walk.
 ghost use mathlib.Core.Path.{_≡_};
-ghost use lib.ListN.{length};
 ghost use Rattle.cells.specs.declared.Verdict.the-variants.{Fine};
 ghost use Rattle.grids.specs.Grid.{count-check};
+ghost use Rattle.walks.specs.Answers.{AdaptiveHit};
 ghost use Rattle.sights.specs.Survey.{Tested, placement-check};
 ghost use Rattle.sight.specs.Sight.{told-by, if-fine, looked, Sees};
 use cells::Cell;
@@ -50,6 +50,20 @@ fn told_by(h: FirstHit) -> Sight
     }
 }
 
+// The adaptive first-hit call, from its pieces: were the whole call shared with the C interface, its answer would go through memory once more.
+fn first_hit(n: Counts, cells: &[u8], p: Cell, q: Cell) -> FirstHit
+    ensures { λ r. ⌜ AdaptiveHit n (now (cells .entry)) p q r ⌝ }
+{
+    match routes::check_walk(n, cells.len(), p, q) {
+        Verdict::Refused(r) => FirstHit::Refused(r),
+        Verdict::Fine => {
+            let k = routes::route_of(n, p, q);
+            let stop = hits::walk_adaptive(cells, k, routes::first_spot(k));
+            hits::answer_of(cells, k, stop)
+        }
+    }
+}
+
 // Where counts and placement passed their tests: the camera's refusal first, then the ball's.
 fn look(n: Counts, cells: &[u8], at: Placement, camera: Point, ball: Point) -> Sight
     requires { ⌜ Tested n at ⌝ }
@@ -69,7 +83,7 @@ fn look(n: Counts, cells: &[u8], at: Placement, camera: Point, ball: Point) -> S
             Lookup::Cell(_) => Sight::Clear,
         };
     };
-    told_by(hits::first_adaptive(n, cells, p, q))
+    told_by(first_hit(n, cells, p, q))
 }
 
 // Where the counts passed their test: refusal 7, then the lookups.

@@ -1,5 +1,5 @@
 -- `hits::near_turn` meets its contract: as many faces as the long step would cross lie before the next cell of the 26-line. Assumes nothing.
-use mathlib.Core.Path.{_≡_, sym, subst}
+use mathlib.Core.Path.{sym, subst}
 use native.Mathlib.Omega.{arith}
 use borrow.Author.Needs.{needs}
 use Rattle.lines.specs.Steps.{X, Y, Z}

@@ -1,6 +1,5 @@
 -- `hits::next_26` meets its contract: a run where the byte is 0, else the faces to the next cell. Assumes nothing.
 use mathlib.Core.Path.{sym, _∙_}
-use borrow.Author.Needs.{needs}
 use Rattle.hits.proofs.Turns.{turn-byte}
 use Rattle.hits.proofs.next_26.Statement.{statement}
 use Rattle.hits.proofs.next_26.Tie as tie

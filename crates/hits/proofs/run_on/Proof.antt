@@ -1,9 +1,7 @@
 -- `hits::run_on` meets its contract: the run starts at a clear cell, so it leads on, and each long step of it is one of the walk's. Assumes nothing.
-use mathlib.Core.Path.{_≡_}
 use Prim.Native.Nat.{_+_, _-_}
 use native.Mathlib.Omega.{arith}
 use mathlib.Core.Bool.{false}
-use borrow.Author.Needs.{needs}
 use Rattle.lines.specs.Steps.{X, Y, Z}
 use Rattle.routes.proofs.Spots.{short-at}
 use Rattle.hits.specs.Found.{Reached}

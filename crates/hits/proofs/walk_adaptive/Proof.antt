@@ -1,13 +1,13 @@
 -- `hits::walk_adaptive` meets its contract. The invariant: the walk is at cell t.m of the 26-line; a turn leads it to a later one, or stops it. The
 -- measure is how many cells of the 26-line are left. Assumes nothing.
 use mathlib.Core.Path.{_≡_, sym, ap, _∙_, subst}
-use Prim.Native.Nat.{_+_, _-_, _≤_}
+use Prim.Native.Nat.{_-_, _≤_}
 use native.Mathlib.Omega.{arith, both-ways}
 use borrow.Author.Needs.{needs}
 use Rattle.lines.specs.Steps.{X, Y, Z}
 use Rattle.lines.specs.Lines.{differences, longest}
 use Rattle.walks.proofs.Numbers.{number-26}
-use Rattle.hits.specs.Found.{adaptively, Walking, CanGo, Reached}
+use Rattle.hits.specs.Found.{adaptively, Walking, CanGo}
 use Rattle.routes.proofs.Spots.{short-at}
 use Rattle.hits.proofs.Walking.{walk-starts, at-end}
 use Rattle.hits.proofs.Turns.{outcome-stopped, outcome-walking, first-26, last-26}

@@ -1,12 +1,10 @@
 -- `runs::clear_run` meets its contract. The invariant: the run is at cell m of the 26-line, over clear cells alone; at its start the byte is 0, so
 -- it makes a step. The measure is how many cells are left. Assumes nothing.
-use mathlib.Core.Path.{_≡_, sym, ap, _∙_, subst}
-use Prim.Native.Nat.{_+_, _-_, _≤_, _<_}
+use mathlib.Core.Path.{sym, _∙_, subst}
+use Prim.Native.Nat.{_+_, _-_, _<_}
 use native.Mathlib.Omega.{arith, by-contra}
 use borrow.Author.Needs.{needs}
 use Rattle.cells.proofs.Machine.{held, small-held}
-use Rattle.lines.specs.Lines.{longest, differences}
-use Rattle.routes.specs.Route.{byte-there}
 use Rattle.runs.specs.Run.{Ran, CanLean}
 use Rattle.runs.proofs.Along.{Follows, last-is, not-begun, one-step, stopped, lean-byte, can-lean}
 use Rattle.runs.proofs.clear_run.Statement.{statement}

@@ -1,8 +1,7 @@
 -- `runs::lean_of` meets its contract: a value and a short difference have a sum and a difference that fit. Assumes nothing.
-use mathlib.Core.Path.{_≡_, sym, ap, _∙_}
+use mathlib.Core.Path.{sym, ap, _∙_}
 use borrow.Author.Needs.{needs}
 use Rattle.cells.proofs.Machine.{held-is}
-use Rattle.lines.specs.Steps.{X, Y, Z}
 use Rattle.tripod.specs.Tripod.{steps}
 use Rattle.tripod.proofs.Laws.{plus-fits}
 use Rattle.runs.specs.Run.{lean-from}

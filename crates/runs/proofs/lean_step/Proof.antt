@@ -1,5 +1,5 @@
 -- `runs::lean_step` meets its contract: the place of the byte and two values, each moved by sums that fit. Assumes nothing.
-use mathlib.Core.Path.{_≡_, sym, ap, _∙_, subst}
+use mathlib.Core.Path.{sym, ap, _∙_, subst}
 use lib.IntN.{_+ℤ_}
 use borrow.Author.Needs.{needs}
 use Rattle.cells.specs.Small.{Small}

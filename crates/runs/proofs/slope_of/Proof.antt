@@ -1,8 +1,7 @@
 -- `runs::slope_of` meets its contract: a number is read back as it is, whichever axis is the longest. Assumes nothing.
-use mathlib.Core.Path.{_≡_, sym, ap, _∙_}
+use mathlib.Core.Path.{sym, ap, _∙_}
 use borrow.Author.Needs.{needs}
 use Rattle.cells.proofs.Machine.{held-is}
-use Rattle.lines.specs.Steps.{X, Y, Z}
 use Rattle.runs.specs.Run.{slope}
 use Rattle.runs.proofs.slope_of.Statement.{statement}
 use Rattle.runs.proofs.slope_of.Tie as tie

@@ -54,8 +54,8 @@ returns-3 c =
 returns-4 : tie.Need-returns-4
 returns-4 c = search needs
 
-first-adaptive-requires : tie.Need-first-adaptive-requires
-first-adaptive-requires c κs = search needs
+first-hit-requires : tie.Need-first-hit-requires
+first-hit-requires c κs = search needs
 
 told-by-requires : tie.Need-told-by-requires
 told-by-requires c κs = search needs
@@ -68,7 +68,7 @@ returns-5 c =
     (walked (a .n) (a .cells .now) (a .at) (a .camera) (a .ball)
     (c .before .before .before .before .before .before .before .before .before .look-up .ensures) (c .before .before .before .before .before .before .before .from .given .1)
     (c .before .before .before .before .before .look-up2 .ensures) (c .before .before .before .to .given .1)
-    (c .before .first-adaptive .ensures .says))
+    (c .before .first-hit .ensures .says))
 
 pub look-spec : {M : Type 1} → statement M
 look-spec =
@@ -88,6 +88,6 @@ look-spec =
     enum-told-2
     returns-3
     returns-4
-    first-adaptive-requires
+    first-hit-requires
     told-by-requires
     returns-5)
