@@ -2,6 +2,7 @@
 use Prim.Native.Nat.{ℕ}
 use mathlib.Core.Path.{_≡_, refl, sym, ap, _∙_}
 use mathlib.Core.Bool.{Bool, cond}
+use mathlib.Core.Logic.{_⊎_, inl, inr}
 use mathlib.Core.Option.{Option, none, some, Option·map, Option·some-injective}
 use lib.Dec.{eqb}
 use Rattle.cells.specs.declared.Axis.{Axis}
@@ -49,6 +50,15 @@ told-back (OffSurvey e a) = refl
 told-back Record = refl
 told-back Version = refl
 
+-- a definition with a left inverse tells answers apart
+pub apart : {A T : Type 0} (say : A → T) (unsay : T → Option A) → ((a : A) → unsay (say a) ≡ some a) → (a b : A) → say a ≡ say b → a ≡ b
+apart say unsay back a b e = Option·some-injective a b (sym (back a) ∙ ap unsay e ∙ back b)
+
+-- the answer that is meant, if one is: a refusal, or the answer made of the values
+abbrev pub untold-by : {A B : Type 0} → (Refusal → A) → (B → A) → Told ⊎ B → Option A
+untold-by refused answered (inl t) = Option·map refused (untold t)
+untold-by refused answered (inr v) = some (answered v)
+
 -- so two refusals that say the same are the same
 pub told-one : (r s : Refusal) → told r ≡ told s → r ≡ s
-told-one r s e = Option·some-injective r s (sym (told-back r) ∙ ap untold e ∙ told-back s)
+told-one = apart told untold told-back

@@ -3,8 +3,8 @@ use Prim.Native.Nat.{ℕ, _*_}
 use mathlib.Core.Path.{_≡_, refl, sym, ap, _∙_}
 use mathlib.Core.Bool.{true}
 use mathlib.Core.List.{List}
-use mathlib.Core.Logic.{_⊎_, inl, inr}
-use mathlib.Core.Option.{Option, some, Option·map, Option·some-injective}
+use mathlib.Core.Logic.{_⊎_}
+use mathlib.Core.Option.{Option, some, Option·map}
 use native.Mathlib.Omega.{arith}
 use lib.IntN.{ℤ, pos, natAbs}
 use lib.ListN.{length, getD}
@@ -16,7 +16,7 @@ use Rattle.cells.specs.declared.Verdict.{Verdict}
 use Rattle.cells.specs.declared.Verdict.the-variants.{Fine, Refused as Fails}
 use Rattle.cells.specs.Touching.{on}
 use Rattle.cells.specs.Refusals.{Told, told}
-use Rattle.cells.proofs.Refusals.{untold, told-back}
+use Rattle.cells.proofs.Refusals.{told-back, apart, untold-by}
 use Rattle.lines.specs.Preference.{rule-1}
 use Rattle.lines.specs.Lines.{six-line, line-26, in-limit}
 use Rattle.lines.proofs.Cells.{limited-difference}
@@ -66,17 +66,15 @@ longest-list =
     high Z = refl
 
 -- what document 01 says of an answer tells which it is
-listed-back : Told ⊎ ℕ → Option Listed
-listed-back (inl t) = Option·map Refused (untold t)
-listed-back (inr n) = some (Cells n)
+abbrev listed-back : Told ⊎ ℕ → Option Listed
+listed-back = untold-by Refused Cells
 
 told-listed-back : (l : Listed) → listed-back (told-listed l) ≡ some l
-unfolding listed-back
 told-listed-back (Cells n) = refl
 told-listed-back (Refused r) = ap (Option·map Refused) (told-back r)
 
 pub listed-one-to-one : (l k : Listed) → told-listed l ≡ told-listed k → l ≡ k
-listed-one-to-one l k e = Option·some-injective l k (sym (told-listed-back l) ∙ ap listed-back e ∙ told-listed-back k)
+listed-one-to-one = apart told-listed listed-back told-listed-back
 
 pub wrong-lists : WrongLists
 unfolding six-line line-26 accepted

@@ -3,7 +3,7 @@ use Prim.Native.Nat.{ℕ}
 use mathlib.Core.Path.{_≡_, refl, sym, ap, ap₂, _∙_}
 use mathlib.Core.List.{List}
 use mathlib.Core.Logic.{_⊎_, inl, inr}
-use mathlib.Core.Option.{Option, some, Option·map, Option·some-injective}
+use mathlib.Core.Option.{Option, some, Option·map}
 use native.Mathlib.Omega.{arith}
 use lib.Ieee.{le, lt, ofInt, div, sub}
 use lib.ListN.{length}
@@ -13,8 +13,7 @@ use Rattle.cells.specs.declared.End.the-variants.{P, Q}
 use Rattle.cells.specs.declared.Refusal.{Refusal}
 use Rattle.cells.specs.declared.Verdict.{Verdict}
 use Rattle.cells.specs.declared.Verdict.the-variants.{Fine, Refused as Fails}
-use Rattle.cells.specs.Refusals.{Told}
-use Rattle.cells.proofs.Refusals.{untold, told-back}
+use Rattle.cells.proofs.Refusals.{told-back, apart, untold-by}
 use Rattle.grids.specs.Grid.{shape}
 use Rattle.walks.specs.declared.FirstHit.{FirstHit}
 use Rattle.walks.specs.declared.FirstHit.the-variants.{Clear as Open, Hit, Refused as NotWalked}
@@ -100,19 +99,17 @@ camera-first n l at camera =
 
 -- ---- what document 01 says of an answer tells which it is
 
-sight-back : Told ⊎ (Unit {0} ⊎ Block) → Option Sight
-sight-back (inl t) = Option·map Refused (untold t)
-sight-back (inr (inl u)) = some Clear
-sight-back (inr (inr b)) = some (Blocked b)
+abbrev seen-as : Unit {0} ⊎ Block → Sight
+seen-as (inl u) = Clear
+seen-as (inr b) = Blocked b
 
-told-sight-back : (a : Sight) → sight-back (told-sight a) ≡ some a
-unfolding sight-back
+told-sight-back : (a : Sight) → untold-by Refused seen-as (told-sight a) ≡ some a
 told-sight-back Clear = refl
 told-sight-back (Blocked b) = refl
 told-sight-back (Refused r) = ap (Option·map Refused) (told-back r)
 
 pub sights-one-to-one : (a b : Sight) → told-sight a ≡ told-sight b → a ≡ b
-sights-one-to-one a b e = Option·some-injective a b (sym (told-sight-back a) ∙ ap sight-back e ∙ told-sight-back b)
+sights-one-to-one = apart told-sight (untold-by Refused seen-as) told-sight-back
 
 -- ---- wrong sights
 

@@ -4,7 +4,7 @@ use mathlib.Core.Path.{_≡_, refl, sym, ap, ap₂, _∙_, subst, subst₂}
 use mathlib.Core.Bool.{Bool, true, false, cond}
 use mathlib.Core.List.{List}
 use mathlib.Core.Logic.{_⊎_, inl, inr}
-use mathlib.Core.Option.{Option, some, Option·map, Option·some-injective}
+use mathlib.Core.Option.{Option, some, Option·map}
 use native.Mathlib.Omega.{arith}
 use lib.IntN.{pos}
 use lib.ListN.{length}
@@ -13,8 +13,8 @@ use Rattle.cells.specs.declared.Counts.{Counts}
 use Rattle.cells.specs.declared.Refusal.{Refusal}
 use Rattle.cells.specs.declared.Verdict.{Verdict}
 use Rattle.cells.specs.declared.Verdict.the-variants.{Fine, Refused as Fails}
-use Rattle.cells.specs.Refusals.{Told, told}
-use Rattle.cells.proofs.Refusals.{untold, told-back}
+use Rattle.cells.specs.Refusals.{told}
+use Rattle.cells.proofs.Refusals.{told-back, apart, untold-by}
 use Rattle.lines.specs.Steps.{total}
 use Rattle.lines.specs.Preference.{rule-1}
 use Rattle.lines.specs.Lines.{differences, longest, six-cell}
@@ -201,19 +201,17 @@ marked-first n l exit = record { premise = λ m. ap (complete 3 n) (m .holds ∙
 
 -- ---- what document 01 says of an answer tells which it is
 
-hit-back : Told ⊎ (ℕ ⊎ Hit) → Option FirstHit
-hit-back (inl t) = Option·map Refused (untold t)
-hit-back (inr (inl reads)) = some (Clear reads)
-hit-back (inr (inr h)) = some (Blocked h)
+abbrev hit-as : ℕ ⊎ Hit → FirstHit
+hit-as (inl reads) = Clear reads
+hit-as (inr h) = Blocked h
 
-told-hit-back : (a : FirstHit) → hit-back (told-hit a) ≡ some a
-unfolding hit-back
+told-hit-back : (a : FirstHit) → untold-by Refused hit-as (told-hit a) ≡ some a
 told-hit-back (Clear reads) = refl
 told-hit-back (Blocked h) = refl
 told-hit-back (Refused r) = ap (Option·map Refused) (told-back r)
 
 pub hits-one-to-one : (a b : FirstHit) → told-hit a ≡ told-hit b → a ≡ b
-hits-one-to-one a b e = Option·some-injective a b (sym (told-hit-back a) ∙ ap hit-back e ∙ told-hit-back b)
+hits-one-to-one = apart told-hit (untold-by Refused hit-as) told-hit-back
 
 -- ---- wrong walks
 

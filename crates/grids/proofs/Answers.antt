@@ -1,13 +1,13 @@
 -- What an answer says tells which answer it is: each definition of `Answers` has a left inverse. Assumes nothing.
 use Prim.Native.Nat.{ℕ}
-use mathlib.Core.Path.{_≡_, refl, sym, ap, _∙_}
+use mathlib.Core.Path.{_≡_, refl, ap}
 use mathlib.Core.Bool.{Bool, true, false}
-use mathlib.Core.Option.{Option, none, some, Option·map, Option·some-injective}
+use mathlib.Core.Option.{Option, none, some, Option·map}
 use Rattle.cells.specs.declared.Refusal.{Refusal}
 use Rattle.cells.specs.declared.Verdict.{Verdict}
 use Rattle.cells.specs.declared.Verdict.the-variants.{Fine, Refused}
 use Rattle.cells.specs.Refusals.{Told, told}
-use Rattle.cells.proofs.Refusals.{untold, told-back}
+use Rattle.cells.proofs.Refusals.{untold, told-back, apart}
 use Rattle.grids.specs.declared.LayerPart.{LayerPart}
 use Rattle.grids.specs.declared.LayerPart.the-variants.{Part, Refused as NoPart}
 use Rattle.grids.specs.declared.Completeness.{Completeness}
@@ -26,10 +26,6 @@ unsaid {W} {A} accept refuse s = go (s .refusal)
 refusal-back : {W A : Type 0} (accept : W → A) (refuse : Refusal → A) (r : Refusal) → unsaid accept refuse (record { refusal = some (told r); values = none }) ≡ some (refuse r)
 unfolding unsaid
 refusal-back accept refuse r = ap (Option·map refuse) (told-back r)
-
--- two answers that say the same are the same, where one can be told back
-one : {W A : Type 0} (say : A → Said W) (back : Said W → Option A) → ((a : A) → back (say a) ≡ some a) → (a b : A) → say a ≡ say b → a ≡ b
-one say back inverse a b e = Option·some-injective a b (sym (inverse a) ∙ ap back e ∙ inverse b)
 
 -- ---- each enum
 
@@ -60,10 +56,10 @@ completeness-back No = refl
 completeness-back (NotAsked r) = refusal-back yes-no NotAsked r
 
 pub verdict-one : (a b : Verdict) → said-verdict a ≡ said-verdict b → a ≡ b
-verdict-one = one said-verdict (unsaid fine Refused) verdict-back
+verdict-one = apart said-verdict (unsaid fine Refused) verdict-back
 
 pub part-one : (a b : LayerPart) → said-part a ≡ said-part b → a ≡ b
-part-one = one said-part (unsaid part NoPart) part-back
+part-one = apart said-part (unsaid part NoPart) part-back
 
 pub completeness-one : (a b : Completeness) → said-completeness a ≡ said-completeness b → a ≡ b
-completeness-one = one said-completeness (unsaid yes-no NotAsked) completeness-back
+completeness-one = apart said-completeness (unsaid yes-no NotAsked) completeness-back

@@ -1,27 +1,17 @@
 -- Each answer's case and values tell which answer it is: the definitions that say them have left inverses. Assumes nothing.
 use Prim.Native.Nat.{ℕ}
-use mathlib.Core.Path.{_≡_, refl, sym, ap, _∙_}
-use mathlib.Core.Logic.{_⊎_, inl, inr}
-use mathlib.Core.Option.{Option, some, Option·map, Option·some-injective}
+use mathlib.Core.Path.{_≡_, refl, ap}
+use mathlib.Core.Logic.{_⊎_}
+use mathlib.Core.Option.{Option, some, Option·map}
 use Rattle.cells.specs.declared.Cell.{Cell}
 use Rattle.cells.specs.declared.Counts.{Counts}
-use Rattle.cells.specs.declared.Refusal.{Refusal}
 use Rattle.cells.specs.Refusals.{Told}
-use Rattle.cells.proofs.Refusals.{untold, told-back}
+use Rattle.cells.proofs.Refusals.{told-back, apart, untold-by}
 use Rattle.records.specs.declared.VenueRead.{VenueRead}
 use Rattle.records.specs.declared.VenueRead.the-variants.{Read, Refused as NoVenue}
 use Rattle.records.specs.declared.PairRead.{PairRead}
 use Rattle.records.specs.declared.PairRead.the-variants.{Read as ReadPair, Refused as NoPair}
 use Rattle.records.specs.Records.{told-venue, told-pair}
-
--- the answer that is meant, if one is: a refusal, or the answer made of the values
-abbrev pub untold-by : {A B : Type 0} → (Refusal → A) → (B → A) → Told ⊎ B → Option A
-untold-by refused answered (inl t) = Option·map refused (untold t)
-untold-by refused answered (inr v) = some (answered v)
-
--- a definition with such a left inverse tells answers apart
-pub apart : {A T : Type 0} (say : A → T) (unsay : T → Option A) → ((a : A) → unsay (say a) ≡ some a) → (a b : A) → say a ≡ say b → a ≡ b
-apart say unsay back a b e = Option·some-injective a b (sym (back a) ∙ ap unsay e ∙ back b)
 
 abbrev untold-venue : Told ⊎ (Counts × ℕ × ℕ) → Option VenueRead
 untold-venue = untold-by NoVenue (λ v. Read (record { counts = v .0; start = v .1; long = v .2 }))

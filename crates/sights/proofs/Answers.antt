@@ -1,8 +1,8 @@
 -- What document 01 has for an answer tells which answer it is: `said` has a left inverse. Assumes nothing.
-use mathlib.Core.Path.{_≡_, refl, sym, ap, _∙_}
-use mathlib.Core.Option.{Option, none, some, Option·map, Option·some-injective}
+use mathlib.Core.Path.{_≡_, refl, ap}
+use mathlib.Core.Option.{Option, none, some, Option·map}
 use Rattle.cells.specs.Refusals.{Told}
-use Rattle.cells.proofs.Refusals.{untold, told-back}
+use Rattle.cells.proofs.Refusals.{untold, told-back, apart}
 use Rattle.sights.specs.declared.Lookup.{Lookup}
 use Rattle.sights.specs.declared.Lookup.the-variants.{Cell, Refused}
 use Rattle.sights.specs.Answers.{Said, said}
@@ -23,4 +23,4 @@ said-back (Refused r) = ap (Option·map Refused) (told-back r)
 
 -- so two answers that say the same are the same
 pub said-one : (k l : Lookup) → said k ≡ said l → k ≡ l
-said-one k l e = Option·some-injective k l (sym (said-back k) ∙ ap unsaid e ∙ said-back l)
+said-one = apart said unsaid said-back

@@ -4,8 +4,7 @@ use mathlib.Core.Path.{_≡_, refl, ap}
 use mathlib.Core.Logic.{_⊎_}
 use mathlib.Core.Option.{Option, some, Option·map}
 use Rattle.cells.specs.Refusals.{Told}
-use Rattle.cells.proofs.Refusals.{told-back}
-use Rattle.records.proofs.Told.{untold-by, apart}
+use Rattle.cells.proofs.Refusals.{told-back, apart, untold-by}
 use Rattle.venues.specs.declared.Written.{Written}
 use Rattle.venues.specs.declared.Written.the-variants.{Wrote, Refused as NotWritten}
 use Rattle.venues.specs.Writing.{told-written}
