@@ -86,6 +86,7 @@ shut-out =
     record {
       one-byte-short = λ e. let z : _≡_ {A = ℕ} 0 1 = cc in omega arith;
       no-shape = λ r e. let z : _≡_ {A = ℕ} 0 1 = cc in omega arith;
+      bytes-first = λ e. let z : _≡_ {A = ℕ} 0 1 = cc in omega arith;
       marks-nothing = λ r m. let z : _≡_ {A = ℕ} 0 1 = ap (λ (l : List ℕ). getD l 0 0) (m .holds) in omega arith;
       refuses = λ r a m. let e : Refused r ≡ Fine = m .says in let z : _≡_ {A = ℕ} 0 1 = cc in omega arith;
       complete-always = λ e. let f : Yes ≡ No = e in let z : _≡_ {A = ℕ} 0 1 = cc in omega arith;

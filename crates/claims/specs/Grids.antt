@@ -9,6 +9,7 @@ use lib.IntN.{ℤ, pos}
 use lib.ListN.{length, getD}
 use Rattle.cells.specs.declared.Counts.{Counts}
 use Rattle.cells.specs.declared.Refusal.{Refusal}
+use Rattle.cells.specs.declared.Refusal.the-variants.{Bytes}
 use Rattle.cells.specs.declared.Verdict.{Verdict}
 use Rattle.cells.specs.declared.Verdict.the-variants.{Fine, Refused}
 use Rattle.cells.specs.Touching.{Touches}
@@ -71,8 +72,9 @@ pub record Complete (k : ℕ) (n : Counts) (l : List ℕ) : Type 0 where
   pub means : (complete k n l ≡ true)
       ↔ ((i j : ℕ) → i < length l → j < length l → clear (getD l i 0) ≡ true → solid (getD l j 0) ≡ true → Touches k (cell-at n i) (cell-at n j) → ⊥)
 
--- 7. What the contracts shut out, on the program's venue and on a grid of two layers: a shape of one byte short, or none; a marker that touches
--- nothing, one that refuses; complete always, or never; a layer that is empty, or always the first.
+-- 7. What the contracts shut out, on the program's venue and on a grid of two layers: a shape of one byte short, none, or one whose bytes are
+-- tested before its counts; a marker that touches nothing, one that refuses; complete always, or never; a layer that is empty, or always the
+-- first.
 abbrev pub venue : Counts
 venue = record { nx = 4; ny = 2; nz = 1 }
 
@@ -85,6 +87,8 @@ two-layers = record { nx = 2; ny = 1; nz = 2 }
 pub record ShutOut : Type 0 where
   pub one-byte-short : Fine ≡ shape venue 7 → ⊥
   pub no-shape : (r : Refusal) → Refused r ≡ shape venue 8 → ⊥
+  -- 2 and 3 both apply
+  pub bytes-first : Refused Bytes ≡ shape (record { nx = 0; ny = 2; nz = 1 }) 8 → ⊥
   pub marks-nothing : (r : Verdict) → Marks venue unmarked r unmarked → ⊥
   pub refuses : (r : Refusal) (a : List ℕ) → Marks venue unmarked (Refused r) a → ⊥
   pub complete-always : Yes ≡ completeness venue unmarked → ⊥
