@@ -1,8 +1,10 @@
 -- `lists::in_limit` meets its contract: the two comparisons are those of the limit. Assumes nothing.
 use mathlib.Core.Path.{_≡_, sym, ap, _∙_}
 use mathlib.Core.Bool.{true, false}
+use native.Mathlib.Omega.{arith}
 use lib.IntN.{ℤ, pos, negsuc}
 use lib.Signed.{leZ}
+use Rattle.cells.proofs.Signed.{up, dn, leZ-true, leZ-false, ltZ-true, ltZ-false, le-leZ, lt-leZ}
 use Rattle.cells.proofs.Machine.{held-is}
 use Rattle.lines.specs.Lines.{in-limit}
 use Rattle.lists.proofs.in_limit.Statement.{statement}
@@ -17,11 +19,15 @@ lower-fails z h = rw h
 
 returns : tie.Need-returns
 returns c =
-    let b = held-is _ (c .before .fits .v) in
-    ap (λ z. leZ z (pos 8191)) b ∙ sym (upper-decides (c .before .args .v) (sym (ap (leZ (negsuc 8191)) b) ∙ c .if1 .taken))
+    let v = c .before .args .v in
+    let e = held-is _ (c .before .fits .v) in
+    ap (λ z. leZ z (pos 8191)) e ∙ sym (upper-decides v (le-leZ (negsuc 8191) v (omega (arith, leZ-true, ltZ-true, ap up e, ap dn e))))
 
 returns-2 : tie.Need-returns-2
-returns-2 c = c .if1 .left ∙ sym (lower-fails (c .before .args .v) (sym (ap (leZ (negsuc 8191)) (held-is _ (c .before .fits .v))) ∙ c .if1 .left))
+returns-2 c =
+    let v = c .before .args .v in
+    let e = held-is _ (c .before .fits .v) in
+    c .if1 .left ∙ sym (lower-fails v (lt-leZ (negsuc 8191) v (omega (arith, leZ-false, ltZ-false, ap up e, ap dn e))))
 
 pub in-limit-spec : {M : Type 1} → statement M
 in-limit-spec = tie.close (tie.spec returns returns-2)

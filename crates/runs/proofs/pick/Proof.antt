@@ -1,7 +1,8 @@
 -- `runs::pick` meets its contract: the test is the definition's. Assumes nothing.
-use mathlib.Core.Path.{sym, ap, _∙_}
+use mathlib.Core.Path.{ap}
+use native.Mathlib.Omega.{arith}
 use lib.IntN.{pos}
-use lib.Signed.{leZ}
+use Rattle.cells.proofs.Signed.{up, dn, leZ-true, leZ-false, ltZ-true, ltZ-false, le-leZ, lt-leZ}
 use Rattle.cells.proofs.Machine.{held-is}
 use Rattle.runs.proofs.pick.Statement.{statement}
 use Rattle.runs.proofs.pick.Tie as tie
@@ -9,10 +10,14 @@ use Rattle.runs.proofs.pick.Tie as tie
 returns : tie.Need-returns
 returns c =
     let s = c .before in
-    rw (sym (ap (leZ (pos 0)) (held-is _ (s .fits .e))) ∙ c .if1 .taken) (held-is _ (s .fits .v))
+    let e = held-is _ (s .fits .e) in
+    rw (le-leZ (pos 0) (s .args .e) (omega (arith, leZ-true, ltZ-true, ap up e, ap dn e))) (held-is _ (s .fits .v))
 
 returns-2 : tie.Need-returns-2
-returns-2 c = rw (sym (ap (leZ (pos 0)) (held-is _ (c .before .fits .e))) ∙ c .if1 .left)
+returns-2 c =
+    let s = c .before in
+    let e = held-is _ (s .fits .e) in
+    rw (lt-leZ (pos 0) (s .args .e) (omega (arith, leZ-false, ltZ-false, ap up e, ap dn e)))
 
 pub pick-spec : {M : Type 1} → statement M
 pick-spec = tie.close (tie.spec returns returns-2)
