@@ -15,9 +15,10 @@ use Rattle.cells.specs.declared.Verdict.{Verdict}
 use Rattle.cells.specs.declared.Verdict.the-variants.{Fine, Refused as Fails}
 use Rattle.cells.proofs.Refusals.{told-back, apart, untold-by}
 use Rattle.grids.specs.Grid.{shape}
+use Rattle.walks.specs.declared.Walker.the-variants.{Adaptive}
 use Rattle.walks.specs.declared.FirstHit.{FirstHit}
 use Rattle.walks.specs.declared.FirstHit.the-variants.{Clear as Open, Hit, Refused as NotWalked}
-use Rattle.walks.specs.Answers.{adaptive}
+use Rattle.walks.specs.Answers.{first-hit}
 use Rattle.sights.specs.declared.Lookup.{Lookup}
 use Rattle.sights.specs.declared.Lookup.the-variants.{Cell, Refused as NoCell}
 use Rattle.sights.specs.declared.Placement.{Placement}
@@ -51,9 +52,9 @@ fine-clear Fine s e = e
 fine-clear (Fails r) s e = absurd (let z : _≡_ {A = ℕ} 2 0 = ap kind e in omega arith)
 
 seen-clear : (n : Counts) (l : List ℕ) (f t : Lookup) → seen n l f t ≡ Clear →
-    (c : cell.Cell) × (b : cell.Cell) × (reads : ℕ) × (f ≡ Cell c) × (t ≡ Cell b) × (adaptive n l c b ≡ Open reads)
+    (c : cell.Cell) × (b : cell.Cell) × (reads : ℕ) × (f ≡ Cell c) × (t ≡ Cell b) × (first-hit Adaptive n l c b ≡ Open reads)
 unfolding kind
-seen-clear n l (Cell c) (Cell b) e = let (reads, is) = walk-clear (adaptive n l c b) e in (c, b, reads, refl, refl, is)
+seen-clear n l (Cell c) (Cell b) e = let (reads, is) = walk-clear (first-hit Adaptive n l c b) e in (c, b, reads, refl, refl, is)
 seen-clear n l (Cell c) (NoCell r) e = absurd (let z : _≡_ {A = ℕ} 2 0 = ap kind e in omega arith)
 seen-clear n l (NoCell r) t e = absurd (let z : _≡_ {A = ℕ} 2 0 = ap kind e in omega arith)
 

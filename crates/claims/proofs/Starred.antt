@@ -5,7 +5,7 @@ use Rattle.lines.specs.Lines.{six-line, line-26}
 use Rattle.grids.specs.Grid.{shape}
 use Rattle.grids.specs.Marks.{marked}
 use Rattle.records.specs.Records.{whole, venue-version, venue-head, venue-check, venue-read, venue-cells, signed, pair-version, pair-length, pair-check, pair-read}
-use Rattle.walks.specs.Answers.{plain, adaptive}
+use Rattle.walks.specs.Answers.{first-hit}
 use Rattle.texts.specs.Text.{decimal, hit-line, clear-line}
 use Rattle.program.specs.Program.{beyond, output}
 use Rattle.sight.specs.Sight.{sight}
@@ -13,11 +13,11 @@ use Rattle.claims.specs.Program.{example-input, example-output}
 use Rattle.claims.specs.Starred.{Every, no-more, _and_, program-rows, record-rows, sight-rows, table}
 
 pub example-writes : output example-input ≡ example-output
-unfolding beyond output decimal hit-line clear-line shape whole venue-version venue-head venue-check venue-read venue-cells signed pair-version pair-length pair-check pair-read plain adaptive
+unfolding beyond output decimal hit-line clear-line shape whole venue-version venue-head venue-check venue-read venue-cells signed pair-version pair-length pair-check pair-read first-hit
 example-writes = refl
 
 programs-hold : Every program-rows
-unfolding beyond output decimal hit-line clear-line shape whole venue-version venue-head venue-check venue-read venue-cells signed pair-version pair-length pair-check pair-read plain adaptive
+unfolding beyond output decimal hit-line clear-line shape whole venue-version venue-head venue-check venue-read venue-cells signed pair-version pair-length pair-check pair-read first-hit
 programs-hold = example-writes and refl and no-more
 
 records-hold : Every record-rows
@@ -29,7 +29,7 @@ unfolding sight le lt ofInt ofBits div sub
 sights-hold = refl and records-hold
 
 pub starred : Every table
-unfolding six-line line-26 marked plain adaptive
+unfolding six-line line-26 marked first-hit
 starred =
     refl and refl and refl and refl and refl and refl and refl and refl and refl and refl and refl and refl and
     refl and refl and refl and refl and refl and refl and refl and refl and refl and refl and refl and refl and sights-hold

@@ -23,19 +23,20 @@ use Rattle.lines.proofs.Cells.{six-misses-none}
 use Rattle.grids.specs.Grid.{byte-of, solid}
 use Rattle.grids.specs.Marks.{complete, marked, after-marking, Marks}
 use Rattle.grids.proofs.Marking.{marked-complete}
+use Rattle.walks.specs.declared.Walker.the-variants.{Plain, Adaptive}
 use Rattle.walks.specs.declared.Place.{Place}
 use Rattle.walks.specs.declared.Hit.{Hit}
 use Rattle.walks.specs.declared.FirstHit.{FirstHit}
 use Rattle.walks.specs.declared.FirstHit.the-variants.{Clear, Hit as Blocked, Refused}
 use Rattle.walks.specs.Walks.{hit-at, six-count}
-use Rattle.walks.specs.Answers.{entered-at, walk-check, answer-by, plain, adaptive, PlainHit, AdaptiveHit, told-hit}
+use Rattle.walks.specs.Answers.{entered-at, walk-check, answer-by, first-hit, told-hit}
 use Rattle.walks.proofs.Runs.{plain-first, by-one, visits-all}
-use Rattle.walks.proofs.Numbers.{solid-at, plain-end, adaptive-end, plain-reads, adaptive-reads}
+use Rattle.walks.proofs.Numbers.{solid-at, end-of, reads-of}
 use Rattle.walks.specs.Safe.{InGrid}
 use Rattle.walks.proofs.Inside.{accepted, six-inside}
 use Rattle.walks.proofs.Safe.{complete-safe}
 use Rattle.walks.proofs.Places.{never-falls}
-use Rattle.walks.proofs.Story.{answer-at, plain-answer, adaptive-answer, plain-stops, adaptive-stops, plain-below, adaptive-below, no-earlier, not-invented, ends-alike, reads-no-more, plain-clear, plain-clear-reads, adaptive-clear-most, adaptive-clear-least}
+use Rattle.walks.proofs.Story.{answer-at, first-hit-is, walk-stops, end-below, no-earlier, not-invented, ends-alike, reads-no-more, plain-clear, plain-clear-reads, adaptive-clear-most, adaptive-clear-least}
 use Rattle.claims.specs.Story.{SameStory, hits, clears, refusals, OneStory, NoLater, NeverInvented, NothingInTheWay, Reads, WalksEnd, FirstSolid, HitInside, MarkedFirst, HitOnce, WrongWalks}
 
 -- what an answer carries
@@ -60,17 +61,17 @@ module _ (n : Counts) (l : List ℕ) (p q : Cell) where
   check = walk-check n (length l) p q
 
   -- where the marks are complete and the ends are in the grid, both walks end at the same number
-  alike : check ≡ Fine → complete 3 n l ≡ true → adaptive-end n l p q ≡ plain-end n l p q
+  alike : check ≡ Fine → complete 3 n l ≡ true → end-of n l p q Adaptive ≡ end-of n l p q Plain
   alike fine whole =
       let a = accepted n (length l) p q fine in
       ends-alike n l p q 3 (omega arith) (a .p-in) (a .q-in) (complete-safe 3 n l (a .shaped) whole)
 
-  same-answers : complete 3 n l ≡ true → (v : Verdict) → check ≡ v → SameStory (answer-by v (answer-at n l p q (plain-end n l p q) (plain-reads n l p q))) (answer-by v (answer-at n l p q (adaptive-end n l p q) (adaptive-reads n l p q)))
+  same-answers : complete 3 n l ≡ true → (v : Verdict) → check ≡ v → SameStory (answer-by v (answer-at n l p q (end-of n l p q Plain) (reads-of n l p q Plain))) (answer-by v (answer-at n l p q (end-of n l p q Adaptive) (reads-of n l p q Adaptive)))
   same-answers whole (Fails r) h = refusals
   same-answers whole Fine h =
       let e = alike h whole in
-      subst (λ k. SameStory (answer-at n l p q (plain-end n l p q) (plain-reads n l p q)) (answer-at n l p q k (adaptive-reads n l p q))) (sym e)
-      (by (hit-at n l (six-cell rule-1 p q (plain-end n l p q))) _ _ _ (reads-no-more n l p q e))
+      subst (λ k. SameStory (answer-at n l p q (end-of n l p q Plain) (reads-of n l p q Plain)) (answer-at n l p q k (reads-of n l p q Adaptive))) (sym e)
+      (by (hit-at n l (six-cell rule-1 p q (end-of n l p q Plain))) _ _ _ (reads-no-more n l p q e))
     where
       by :
           (b : Bool) (c : Cell) (code : ℕ) (place : Place) {r s : ℕ} → s ≤ r →
@@ -82,7 +83,7 @@ module _ (n : Counts) (l : List ℕ) (p q : Cell) where
   one-story =
       record {
         story = λ whole rp ra hp ha.
-            subst₂ SameStory (sym (hp .says ∙ plain-answer n l p q)) (sym (ha .says ∙ adaptive-answer n l p q)) (same-answers whole check refl);
+            subst₂ SameStory (sym (hp .says ∙ first-hit-is n l p q Plain)) (sym (ha .says ∙ first-hit-is n l p q Adaptive)) (same-answers whole check refl);
       }
 
   -- ---- in any grid
@@ -122,18 +123,17 @@ module _ (n : Counts) (l : List ℕ) (p q : Cell) where
   pub hit-inside : HitInside n l p q
   hit-inside =
       record {
-        plain = λ h a. inside-at h _ _ (plain-below n l p q) (a .says ∙ plain-answer n l p q);
-        adaptive = λ h a. inside-at h _ _ (adaptive-below n l p q) (a .says ∙ adaptive-answer n l p q);
+        inside = λ w h a. inside-at h _ _ (end-below n l p q w) (a .says ∙ first-hit-is n l p q w);
       }
 
   pub first-solid : FirstSolid n l p q
   first-solid =
       record {
         hit = λ h a.
-            let (fine, hit, there) = hit-told check h (plain-end n l p q) (plain-reads n l p q) (a .says ∙ plain-answer n l p q) in (
-              plain-end n l p q,
+            let (fine, hit, there) = hit-told check h (end-of n l p q Plain) (reads-of n l p q Plain) (a .says ∙ first-hit-is n l p q Plain) in (
+              end-of n l p q Plain,
               record {
-                most = plain-below n l p q;
+                most = end-below n l p q Plain;
                 cell = ap (λ k. k .cell) there;
                 solid-there = hit;
                 none-before = plain-first (solid-at n l p q) (total (differences p q)) suc (by-one (total (differences p q)));
@@ -141,7 +141,7 @@ module _ (n : Counts) (l : List ℕ) (p q : Cell) where
               },
             );
         none = λ reads a.
-            let (fine, clear, there) = clear-told check reads (plain-end n l p q) (plain-reads n l p q) (a .says ∙ plain-answer n l p q) in
+            let (fine, clear, there) = clear-told check reads (end-of n l p q Plain) (reads-of n l p q Plain) (a .says ∙ first-hit-is n l p q Plain) in
             plain-clear n l p q clear;
       }
 
@@ -149,18 +149,18 @@ module _ (n : Counts) (l : List ℕ) (p q : Cell) where
   never-invented =
       record {
         plain-too = λ k rp ha hp.
-            let (fine, hit, is) = hit-told check k (adaptive-end n l p q) (adaptive-reads n l p q) (ha .says ∙ adaptive-answer n l p q) in
-            let there : Hit = record { cell = six-cell rule-1 p q (plain-end n l p q); code = byte-of n l (six-cell rule-1 p q (plain-end n l p q)); place = entered-at p q (plain-end n l p q); reads = plain-reads n l p q } in (
+            let (fine, hit, is) = hit-told check k (end-of n l p q Adaptive) (reads-of n l p q Adaptive) (ha .says ∙ first-hit-is n l p q Adaptive) in
+            let there : Hit = record { cell = six-cell rule-1 p q (end-of n l p q Plain); code = byte-of n l (six-cell rule-1 p q (end-of n l p q Plain)); place = entered-at p q (end-of n l p q Plain); reads = reads-of n l p q Plain } in (
               there,
-              hp .says ∙ plain-answer n l p q ∙ ap (λ v. answer-by v (answer-at n l p q (plain-end n l p q) (plain-reads n l p q))) fine ∙ ap (λ b. cond b (Blocked there) (Clear (plain-reads n l p q))) (not-invented n l p q hit),
-              subst (λ h. there .place .num * h .place .den ≤ h .place .num * there .place .den) (sym is) (never-falls p q (plain-end n l p q) (adaptive-end n l p q) (no-earlier n l p q) (adaptive-below n l p q)),
+              hp .says ∙ first-hit-is n l p q Plain ∙ ap (λ v. answer-by v (answer-at n l p q (end-of n l p q Plain) (reads-of n l p q Plain))) fine ∙ ap (λ b. cond b (Blocked there) (Clear (reads-of n l p q Plain))) (not-invented n l p q hit),
+              subst (λ h. there .place .num * h .place .den ≤ h .place .num * there .place .den) (sym is) (never-falls p q (end-of n l p q Plain) (end-of n l p q Adaptive) (no-earlier n l p q) (end-below n l p q Adaptive)),
               record {
-                of-c = plain-end n l p q;
-                of-d = adaptive-end n l p q;
+                of-c = end-of n l p q Plain;
+                of-d = end-of n l p q Adaptive;
                 c-is = refl;
                 d-is = ap (λ h. h .cell) is;
                 order = no-earlier n l p q;
-                most = adaptive-below n l p q;
+                most = end-below n l p q Adaptive;
               },
             );
       }
@@ -171,7 +171,7 @@ module _ (n : Counts) (l : List ℕ) (p q : Cell) where
   nothing-in-the-way =
       record {
         open-way = λ whole reads ha k d c share inside.
-            let (fine, none, many) = clear-told check reads (adaptive-end n l p q) (adaptive-reads n l p q) (ha .says ∙ adaptive-answer n l p q) in
+            let (fine, none, many) = clear-told check reads (end-of n l p q Adaptive) (reads-of n l p q Adaptive) (ha .says ∙ first-hit-is n l p q Adaptive) in
             let free = subst (λ e. hit-at n l (six-cell rule-1 p q e) ≡ false) (alike fine whole) none in
             let (s, le, is) = six-misses-none rule-1 p q k d c share inside in
             subst (λ w. hit-at n l w ≡ false) is (plain-clear n l p q free s le);
@@ -181,18 +181,18 @@ module _ (n : Counts) (l : List ℕ) (p q : Cell) where
   reads-hold =
       record {
         plain = λ reads hp.
-            let (fine, none, many) = clear-told check reads (plain-end n l p q) (plain-reads n l p q) (hp .says ∙ plain-answer n l p q) in
+            let (fine, none, many) = clear-told check reads (end-of n l p q Plain) (reads-of n l p q Plain) (hp .says ∙ first-hit-is n l p q Plain) in
             many ∙ plain-clear-reads n l p q none;
         adaptive = λ reads ha.
-            let (fine, none, many) = clear-told check reads (adaptive-end n l p q) (adaptive-reads n l p q) (ha .says ∙ adaptive-answer n l p q) in
+            let (fine, none, many) = clear-told check reads (end-of n l p q Adaptive) (reads-of n l p q Adaptive) (ha .says ∙ first-hit-is n l p q Adaptive) in
             (omega (arith, adaptive-clear-least n l p q none), omega (arith, adaptive-clear-most n l p q none));
       }
 
   pub walks-end : WalksEnd n l p q
-  walks-end = record { plain = plain-stops n l p q; adaptive = adaptive-stops n l p q }
+  walks-end = record { ends = walk-stops n l p q }
 
   pub hit-once : HitOnce n l p q
-  hit-once = record { plain = λ r s h k. h .says ∙ sym (k .says); adaptive = λ r s h k. h .says ∙ sym (k .says) }
+  hit-once = record { once = λ w r s h k. h .says ∙ sym (k .says) }
 
 -- ---- mark, then walk
 
@@ -216,7 +216,7 @@ hits-one-to-one = apart told-hit (untold-by Refused hit-as) told-hit-back
 -- ---- wrong walks
 
 pub wrong-walks : WrongWalks
-unfolding plain adaptive kind reads-or hit-or
+unfolding first-hit kind reads-or hit-or
 wrong-walks =
     record {
       plain-refuses = λ r h. absurd (let z : _≡_ {A = ℕ} 2 0 = ap kind (h .says) in omega arith);

@@ -12,8 +12,9 @@ use Rattle.cells.specs.declared.Verdict.the-variants.{Fine}
 use Rattle.lines.specs.Segment.{Share, InOpen}
 use Rattle.grids.specs.Grid.{shape, byte-of, solid}
 use Rattle.grids.specs.Marks.{complete}
+use Rattle.walks.specs.declared.Walker.the-variants.{Adaptive}
 use Rattle.walks.specs.declared.FirstHit.{FirstHit}
-use Rattle.walks.specs.Answers.{AdaptiveHit}
+use Rattle.walks.specs.Answers.{Finds}
 use Rattle.sights.specs.declared.Lookup.the-variants.{Cell, Refused as NoCell}
 use Rattle.sights.specs.declared.Placement.{Placement}
 use Rattle.sights.specs.declared.Point.{Point}
@@ -32,7 +33,7 @@ module _ (n : Counts) (l : List ℕ) (at : Placement) where
   -- 2. Where both points have a cell, blocked or clear is what the adaptive first-hit call says of the two cells.
   pub record AsTheWalk (camera ball : Point) : Type 0 where
     pub same : (c b : cell.Cell) (r : Sight) (h : FirstHit) → shape n (length l) ≡ Fine → placement-check at ≡ Fine →
-        look-up P n at camera ≡ Cell c → look-up Q n at ball ≡ Cell b → Sees n l at camera ball r → AdaptiveHit n l c b h → r ≡ told-by h
+        look-up P n at camera ≡ Cell c → look-up Q n at ball ≡ Cell b → Sees n l at camera ball r → Finds Adaptive n l c b h → r ≡ told-by h
 
   -- camera and ball have cells, and no cell whose open inside the segment between their centres meets is solid
   pub record OpenWay (camera ball : Point) : Type 0 where

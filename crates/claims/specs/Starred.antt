@@ -13,9 +13,11 @@ use Rattle.lines.specs.Lines.{six-line, line-26}
 use Rattle.grids.specs.Marks.{marked}
 use Rattle.records.specs.Records.{venue-read, venue-cells, told-venue, pair-read, told-pair}
 use Rattle.program.specs.Program.{output}
+use Rattle.walks.specs.declared.Walker.{Walker}
+use Rattle.walks.specs.declared.Walker.the-variants.{Plain, Adaptive}
 use Rattle.walks.specs.declared.FirstHit.{FirstHit}
 use Rattle.walks.specs.declared.FirstHit.the-variants.{Clear, Hit as Blocked}
-use Rattle.walks.specs.Answers.{plain, adaptive}
+use Rattle.walks.specs.Answers.{first-hit}
 use Rattle.sights.specs.declared.Placement.{Placement}
 use Rattle.sights.specs.declared.Point.{Point}
 use Rattle.sights.specs.Quotient.{whole}
@@ -45,15 +47,14 @@ hit c code num den reads = Blocked (record { cell = c; code = code; place = reco
 abbrev pub halves : ℕ → Float
 halves k = div binary64 (whole k) (whole 2)
 
--- a row: the ends P and Q and the cells of the line between them; counts, bytes, and the bytes marked; a grid, the ends, and what the plain and
--- the adaptive walk answer; a venue's record, its counts and its cells; a pair's record, P and Q; the program's whole
+-- a row: the ends P and Q and the cells of the line between them; counts, bytes, and the bytes marked; a walk, its grid
+-- and ends, and what it finds; a venue's record, its counts and its cells; a pair's record, P and Q; the program's whole
 -- input and output; or a grid, its placement, camera and ball, and the 64 bits of the share, the cell, code and reads of what is in the way
 pub data Row : Type 0 where
   six : Cell → Cell → List Cell → Row
   twenty-six : Cell → Cell → List Cell → Row
   marks : Counts → List ℕ → List ℕ → Row
-  plainly : Counts → List ℕ → Cell → Cell → FirstHit → Row
-  adaptively : Counts → List ℕ → Cell → Cell → FirstHit → Row
+  finds : Walker → Counts → List ℕ → Cell → Cell → FirstHit → Row
   venue : List ℕ → Counts → List ℕ → Row
   venue-part : List ℕ → List ℕ → Row
   pair : List ℕ → Cell → Cell → Row
@@ -65,8 +66,7 @@ abbrev pub Holds : Row → Type 0
 Holds (six p q l) = six-line rule-1 p q ≡ l
 Holds (twenty-six p q l) = line-26 p q ≡ l
 Holds (marks n l m) = marked 3 n l ≡ m
-Holds (plainly n l p q a) = plain n l p q ≡ a
-Holds (adaptively n l p q a) = adaptive n l p q ≡ a
+Holds (finds w n l p q a) = first-hit w n l p q ≡ a
 Holds (venue s n cells) = told-venue (venue-read s) ≡ inr (n, length s - length cells, length cells)
 Holds (venue-part s cells) = venue-cells s ≡ cells
 Holds (sees n l place camera ball share c code reads) =
@@ -115,20 +115,20 @@ table =
     ∷ marks (counts 4 2 1) (0 ∷ 0 ∷ 0 ∷ 0 ∷ 0 ∷ 2 ∷ 0 ∷ 0 ∷ []) (1 ∷ 1 ∷ 1 ∷ 0 ∷ 1 ∷ 2 ∷ 1 ∷ 0 ∷ [])
     -- a corner touches
     ∷ marks (counts 2 2 2) (0 ∷ 0 ∷ 0 ∷ 0 ∷ 0 ∷ 0 ∷ 0 ∷ 9 ∷ []) (1 ∷ 1 ∷ 1 ∷ 1 ∷ 1 ∷ 1 ∷ 1 ∷ 9 ∷ [])
-    ∷ plainly (counts 4 2 1) (0 ∷ 0 ∷ 0 ∷ 0 ∷ 0 ∷ 2 ∷ 0 ∷ 0 ∷ []) (at 0 0 0) (at 3 1 0) (hit (at 1 1 0) 2 1 2 3)
-    ∷ adaptively (counts 4 2 1) (0 ∷ 0 ∷ 0 ∷ 0 ∷ 0 ∷ 2 ∷ 0 ∷ 0 ∷ []) (at 0 0 0) (at 3 1 0) (Clear 4)
-    ∷ plainly (counts 4 2 1) (1 ∷ 1 ∷ 1 ∷ 0 ∷ 1 ∷ 2 ∷ 1 ∷ 0 ∷ []) (at 0 0 0) (at 3 1 0) (hit (at 1 1 0) 2 1 2 3)
-    ∷ adaptively (counts 4 2 1) (1 ∷ 1 ∷ 1 ∷ 0 ∷ 1 ∷ 2 ∷ 1 ∷ 0 ∷ []) (at 0 0 0) (at 3 1 0) (hit (at 1 1 0) 2 1 2 3)
+    ∷ finds Plain (counts 4 2 1) (0 ∷ 0 ∷ 0 ∷ 0 ∷ 0 ∷ 2 ∷ 0 ∷ 0 ∷ []) (at 0 0 0) (at 3 1 0) (hit (at 1 1 0) 2 1 2 3)
+    ∷ finds Adaptive (counts 4 2 1) (0 ∷ 0 ∷ 0 ∷ 0 ∷ 0 ∷ 2 ∷ 0 ∷ 0 ∷ []) (at 0 0 0) (at 3 1 0) (Clear 4)
+    ∷ finds Plain (counts 4 2 1) (1 ∷ 1 ∷ 1 ∷ 0 ∷ 1 ∷ 2 ∷ 1 ∷ 0 ∷ []) (at 0 0 0) (at 3 1 0) (hit (at 1 1 0) 2 1 2 3)
+    ∷ finds Adaptive (counts 4 2 1) (1 ∷ 1 ∷ 1 ∷ 0 ∷ 1 ∷ 2 ∷ 1 ∷ 0 ∷ []) (at 0 0 0) (at 3 1 0) (hit (at 1 1 0) 2 1 2 3)
     -- equal ends: one cell, one read
-    ∷ plainly (counts 4 2 1) (1 ∷ 1 ∷ 1 ∷ 0 ∷ 1 ∷ 2 ∷ 1 ∷ 0 ∷ []) (at 3 1 0) (at 3 1 0) (Clear 1)
-    ∷ adaptively (counts 4 2 1) (1 ∷ 1 ∷ 1 ∷ 0 ∷ 1 ∷ 2 ∷ 1 ∷ 0 ∷ []) (at 3 1 0) (at 3 1 0) (Clear 1)
+    ∷ finds Plain (counts 4 2 1) (1 ∷ 1 ∷ 1 ∷ 0 ∷ 1 ∷ 2 ∷ 1 ∷ 0 ∷ []) (at 3 1 0) (at 3 1 0) (Clear 1)
+    ∷ finds Adaptive (counts 4 2 1) (1 ∷ 1 ∷ 1 ∷ 0 ∷ 1 ∷ 2 ∷ 1 ∷ 0 ∷ []) (at 3 1 0) (at 3 1 0) (Clear 1)
     -- complete marks, both clear, the adaptive walk reads fewer
-    ∷ plainly (counts 3 2 1) (0 ∷ 0 ∷ 0 ∷ 0 ∷ 0 ∷ 0 ∷ []) (at 0 0 0) (at 2 1 0) (Clear 4)
-    ∷ adaptively (counts 3 2 1) (0 ∷ 0 ∷ 0 ∷ 0 ∷ 0 ∷ 0 ∷ []) (at 0 0 0) (at 2 1 0) (Clear 3)
+    ∷ finds Plain (counts 3 2 1) (0 ∷ 0 ∷ 0 ∷ 0 ∷ 0 ∷ 0 ∷ []) (at 0 0 0) (at 2 1 0) (Clear 4)
+    ∷ finds Adaptive (counts 3 2 1) (0 ∷ 0 ∷ 0 ∷ 0 ∷ 0 ∷ 0 ∷ []) (at 0 0 0) (at 2 1 0) (Clear 3)
     -- missing marks: a long step lands on the hit
-    ∷ plainly (counts 6 3 1) (0 ∷ 0 ∷ 0 ∷ 0 ∷ 0 ∷ 0 ∷ 0 ∷ 0 ∷ 2 ∷ 0 ∷ 0 ∷ 0 ∷ 0 ∷ 0 ∷ 0 ∷ 0 ∷ 0 ∷ 0 ∷ []) (at 0 0 0) (at 5 2 0) (hit (at 2 1 0) 2 3 10 4)
-    ∷ adaptively (counts 6 3 1) (0 ∷ 0 ∷ 0 ∷ 0 ∷ 0 ∷ 0 ∷ 0 ∷ 0 ∷ 2 ∷ 0 ∷ 0 ∷ 0 ∷ 0 ∷ 0 ∷ 0 ∷ 0 ∷ 0 ∷ 0 ∷ []) (at 0 0 0) (at 5 2 0) (hit (at 2 1 0) 2 3 10 3)
+    ∷ finds Plain (counts 6 3 1) (0 ∷ 0 ∷ 0 ∷ 0 ∷ 0 ∷ 0 ∷ 0 ∷ 0 ∷ 2 ∷ 0 ∷ 0 ∷ 0 ∷ 0 ∷ 0 ∷ 0 ∷ 0 ∷ 0 ∷ 0 ∷ []) (at 0 0 0) (at 5 2 0) (hit (at 2 1 0) 2 3 10 4)
+    ∷ finds Adaptive (counts 6 3 1) (0 ∷ 0 ∷ 0 ∷ 0 ∷ 0 ∷ 0 ∷ 0 ∷ 0 ∷ 2 ∷ 0 ∷ 0 ∷ 0 ∷ 0 ∷ 0 ∷ 0 ∷ 0 ∷ 0 ∷ 0 ∷ []) (at 0 0 0) (at 5 2 0) (hit (at 2 1 0) 2 3 10 3)
     -- missing marks: the adaptive walk is clear and reads more than the plain one
-    ∷ plainly (counts 3 2 1) (0 ∷ 0 ∷ 0 ∷ 0 ∷ 2 ∷ 0 ∷ []) (at 0 1 0) (at 2 0 0) (hit (at 1 1 0) 2 1 4 2)
-    ∷ adaptively (counts 3 2 1) (0 ∷ 0 ∷ 0 ∷ 0 ∷ 2 ∷ 0 ∷ []) (at 0 1 0) (at 2 0 0) (Clear 3)
+    ∷ finds Plain (counts 3 2 1) (0 ∷ 0 ∷ 0 ∷ 0 ∷ 2 ∷ 0 ∷ []) (at 0 1 0) (at 2 0 0) (hit (at 1 1 0) 2 1 4 2)
+    ∷ finds Adaptive (counts 3 2 1) (0 ∷ 0 ∷ 0 ∷ 0 ∷ 2 ∷ 0 ∷ []) (at 0 1 0) (at 2 0 0) (Clear 3)
     ∷ sight-rows

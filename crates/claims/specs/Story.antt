@@ -16,13 +16,15 @@ use Rattle.lines.specs.Lines.{differences, longest, six-cell}
 use Rattle.lines.specs.Segment.{Share, InOpen}
 use Rattle.grids.specs.Grid.{byte-of, solid}
 use Rattle.grids.specs.Marks.{complete, Marks}
+use Rattle.walks.specs.declared.Walker.{Walker}
+use Rattle.walks.specs.declared.Walker.the-variants.{Plain, Adaptive}
 use Rattle.walks.specs.declared.Place.{Place}
 use Rattle.walks.specs.declared.Hit.{Hit}
 use Rattle.walks.specs.declared.FirstHit.{FirstHit}
 use Rattle.walks.specs.declared.FirstHit.the-variants.{Clear, Hit as Blocked, Refused}
-use Rattle.walks.specs.Walks.{hit-at, plain-walk, adaptive-walk}
+use Rattle.walks.specs.Walks.{hit-at, walk-of}
 use Rattle.walks.specs.Safe.{InGrid}
-use Rattle.walks.specs.Answers.{last-of, PlainHit, AdaptiveHit}
+use Rattle.walks.specs.Answers.{last-of, Finds}
 use Rattle.claims.specs.Starred.{at}
 
 -- the first answer is the plain walk's, the second the adaptive one's: the same cell, code and place, or both clear, or both refuse alike; and the
@@ -34,7 +36,7 @@ pub data SameStory : FirstHit → FirstHit → Type 0 where
 
 -- 1. Same story: where no clear cell touches a solid one by face, edge or corner.
 pub record OneStory (n : Counts) (l : List ℕ) (p q : Cell) : Type 0 where
-  pub story : complete 3 n l ≡ true → (rp ra : FirstHit) → PlainHit n l p q rp → AdaptiveHit n l p q ra → SameStory rp ra
+  pub story : complete 3 n l ≡ true → (rp ra : FirstHit) → Finds Plain n l p q rp → Finds Adaptive n l p q ra → SameStory rp ra
 
 -- cell c stands in the 6-line where d stands, or before it
 pub record NoLater (p q c d : Cell) : Type 0 where
@@ -47,17 +49,17 @@ pub record NoLater (p q c d : Cell) : Type 0 where
 
 -- 2. Never invented, never earlier: in any grid whatever, an adaptive hit is a plain hit, there or before.
 pub record NeverInvented (n : Counts) (l : List ℕ) (p q : Cell) : Type 0 where
-  pub plain-too : (k : Hit) (rp : FirstHit) → AdaptiveHit n l p q (Blocked k) → PlainHit n l p q rp →
+  pub plain-too : (k : Hit) (rp : FirstHit) → Finds Adaptive n l p q (Blocked k) → Finds Plain n l p q rp →
       (h : Hit) × (rp ≡ Blocked h) × (h .place .num * k .place .den ≤ k .place .num * h .place .den) × NoLater p q (h .cell) (k .cell)
 
 -- 3. Nothing in the way: marks complete and the adaptive answer clear, then no cell whose open inside the segment meets is solid.
 pub record NothingInTheWay (n : Counts) (l : List ℕ) (p q : Cell) : Type 0 where
-  pub open-way : complete 3 n l ≡ true → (reads : ℕ) → AdaptiveHit n l p q (Clear reads) → (k d : ℕ) (c : Cell) → Share k d → InOpen p q k d c → solid (byte-of n l c) ≡ false
+  pub open-way : complete 3 n l ≡ true → (reads : ℕ) → Finds Adaptive n l p q (Clear reads) → (k d : ℕ) (c : Cell) → Share k d → InOpen p q k d c → solid (byte-of n l c) ≡ false
 
 -- 4. With no hit plain reads A+B+C+1 cells, and adaptive between M+1 and A+B+C+1.
 pub record Reads (n : Counts) (l : List ℕ) (p q : Cell) : Type 0 where
-  pub plain : (reads : ℕ) → PlainHit n l p q (Clear reads) → reads ≡ total (differences p q) + 1
-  pub adaptive : (reads : ℕ) → AdaptiveHit n l p q (Clear reads) → (longest (differences p q) + 1 ≤ reads) × (reads ≤ total (differences p q) + 1)
+  pub plain : (reads : ℕ) → Finds Plain n l p q (Clear reads) → reads ≡ total (differences p q) + 1
+  pub adaptive : (reads : ℕ) → Finds Adaptive n l p q (Clear reads) → (longest (differences p q) + 1 ≤ reads) × (reads ≤ total (differences p q) + 1)
 
 -- "The plain walk is the 6-line to its first solid cell": cell number s of the 6-line is solid and none before it; or none is at all.
 pub record FirstOf (n : Counts) (l : List ℕ) (p q : Cell) (h : Hit) (s : ℕ) : Type 0 where
@@ -68,18 +70,16 @@ pub record FirstOf (n : Counts) (l : List ℕ) (p q : Cell) (h : Hit) (s : ℕ) 
   pub reads : h .reads ≡ s + 1
 
 pub record FirstSolid (n : Counts) (l : List ℕ) (p q : Cell) : Type 0 where
-  pub hit : (h : Hit) → PlainHit n l p q (Blocked h) → (s : ℕ) × FirstOf n l p q h s
-  pub none : (reads : ℕ) → PlainHit n l p q (Clear reads) → (s : ℕ) → s ≤ total (differences p q) → hit-at n l (six-cell rule-1 p q s) ≡ false
+  pub hit : (h : Hit) → Finds Plain n l p q (Blocked h) → (s : ℕ) × FirstOf n l p q h s
+  pub none : (reads : ℕ) → Finds Plain n l p q (Clear reads) → (s : ℕ) → s ≤ total (differences p q) → hit-at n l (six-cell rule-1 p q s) ≡ false
 
 -- A hit lies in the grid.
 pub record HitInside (n : Counts) (l : List ℕ) (p q : Cell) : Type 0 where
-  pub plain : (h : Hit) → PlainHit n l p q (Blocked h) → InGrid n (h .cell)
-  pub adaptive : (h : Hit) → AdaptiveHit n l p q (Blocked h) → InGrid n (h .cell)
+  pub inside : (w : Walker) (h : Hit) → Finds w n l p q (Blocked h) → InGrid n (h .cell)
 
 -- 4. Each walk ends: its last cell is solid, or Q. (The number of steps that bounds its definition is never used up.)
 pub record WalksEnd (n : Counts) (l : List ℕ) (p q : Cell) : Type 0 where
-  pub plain : (hit-at n l (last-of p (plain-walk n l p q)) ≡ true) ⊎ (last-of p (plain-walk n l p q) ≡ q)
-  pub adaptive : (hit-at n l (last-of p (adaptive-walk n l p q)) ≡ true) ⊎ (last-of p (adaptive-walk n l p q) ≡ q)
+  pub ends : (w : Walker) → (hit-at n l (last-of p (walk-of w n l p q)) ≡ true) ⊎ (last-of p (walk-of w n l p q) ≡ q)
 
 -- 5. Mark, then walk: after an accepted marking the premise of 1 and 3 holds.
 pub record MarkedFirst (n : Counts) (l exit : List ℕ) : Type 0 where
@@ -87,8 +87,7 @@ pub record MarkedFirst (n : Counts) (l exit : List ℕ) : Type 0 where
 
 -- 6. One answer for each input.
 pub record HitOnce (n : Counts) (l : List ℕ) (p q : Cell) : Type 0 where
-  pub plain : (r s : FirstHit) → PlainHit n l p q r → PlainHit n l p q s → r ≡ s
-  pub adaptive : (r s : FirstHit) → AdaptiveHit n l p q r → AdaptiveHit n l p q s → r ≡ s
+  pub once : (w : Walker) (r s : FirstHit) → Finds w n l p q r → Finds w n l p q s → r ≡ s
 
 -- ---- wrong walks, on named inputs
 
@@ -118,10 +117,10 @@ abbrev pub first-face : Hit
 first-face = record { cell = at 2 1 0; code = 2; place = record { num = 1; den = 4 }; reads = 3 }
 
 pub record WrongWalks : Type 0 where
-  pub plain-refuses : (r : Refusal) → PlainHit venue no-marks (at 0 0 0) (at 3 1 0) (Refused r) → ⊥
-  pub adaptive-refuses : (r : Refusal) → AdaptiveHit venue no-marks (at 0 0 0) (at 3 1 0) (Refused r) → ⊥
-  pub secretly-plain : (r : FirstHit) → PlainHit venue no-marks (at 0 0 0) (at 3 1 0) r → AdaptiveHit venue no-marks (at 0 0 0) (at 3 1 0) r → ⊥
-  pub clear-always : (reads : ℕ) → PlainHit venue no-marks (at 0 0 0) (at 3 1 0) (Clear reads) → ⊥
-  pub reads-made-up : (reads : ℕ) → AdaptiveHit venue no-marks (at 0 0 0) (at 3 1 0) (Clear reads) → reads ≡ 4
-  pub long-at-any-clear : AdaptiveHit near-start near-bytes (at 0 0 0) (at 2 1 0) (Clear 3) → ⊥
-  pub place-of-first-face : AdaptiveHit long-way long-bytes (at 0 0 0) (at 5 2 0) (Blocked first-face) → ⊥
+  pub plain-refuses : (r : Refusal) → Finds Plain venue no-marks (at 0 0 0) (at 3 1 0) (Refused r) → ⊥
+  pub adaptive-refuses : (r : Refusal) → Finds Adaptive venue no-marks (at 0 0 0) (at 3 1 0) (Refused r) → ⊥
+  pub secretly-plain : (r : FirstHit) → Finds Plain venue no-marks (at 0 0 0) (at 3 1 0) r → Finds Adaptive venue no-marks (at 0 0 0) (at 3 1 0) r → ⊥
+  pub clear-always : (reads : ℕ) → Finds Plain venue no-marks (at 0 0 0) (at 3 1 0) (Clear reads) → ⊥
+  pub reads-made-up : (reads : ℕ) → Finds Adaptive venue no-marks (at 0 0 0) (at 3 1 0) (Clear reads) → reads ≡ 4
+  pub long-at-any-clear : Finds Adaptive near-start near-bytes (at 0 0 0) (at 2 1 0) (Clear 3) → ⊥
+  pub place-of-first-face : Finds Adaptive long-way long-bytes (at 0 0 0) (at 5 2 0) (Blocked first-face) → ⊥

@@ -1,3 +1,4 @@
 pub mod Stops
 pub mod Walking
 pub mod Turns
+pub mod Answering

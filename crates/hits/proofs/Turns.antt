@@ -28,9 +28,10 @@ use Rattle.runs.specs.declared.Lean.{Lean}
 use Rattle.runs.specs.declared.Run.{Run}
 use Rattle.runs.specs.Run.{slope, lean-from, index-26, LeanAt, Running, CanRun, ClearTo, Ran, spot-at}
 use Rattle.runs.proofs.Along.{lean-starts}
+use Rattle.walks.specs.declared.Walker.the-variants.{Adaptive}
 use Rattle.hits.specs.declared.Turn.{Turn}
 use Rattle.routes.specs.Route.{Planned, SpotAt, HasByte, byte-there, byte-of-spot}
-use Rattle.hits.specs.Found.{last, hits, adaptively, Walking, Stops, Outcome, Crossing, Walked, At26, CanGo, Reached}
+use Rattle.hits.specs.Found.{last, hits, going, Walking, Stops, Outcome, Crossing, Walked, At26, CanGo, Reached}
 use Rattle.hits.proofs.Walking.{walk-starts, walk-byte, goes-on}
 use Rattle.routes.proofs.Spots.{spot-byte, can-cross}
 use Rattle.routes.proofs.Cells26.{at-26, from-26, faces-between}
@@ -53,7 +54,7 @@ module _ (bytes : ℕ) (k : Route) (plan : Planned bytes k) (l : List ℕ) where
   at-number m = number-26 (k .p) (k .q) m
 
   abbrev go : ℕ → ℕ
-  go = adaptively l k
+  go = going l k Adaptive
 
   -- the plain walk crosses every face
   pub all-faces : (s : Spot) (faces : ℕ) → SpotAt k (at 0 0 0) s → faces ≡ last l k → Crossing l k s 0 faces suc 0
@@ -175,7 +176,7 @@ module _ (l : List ℕ) (k : Route) (u : Axis) (s : Spot) (reads m : ℕ) (c : C
             most = below;
             came =
                 let (index, clear) = ran .leads k u run-starts in
-                subst (Walking l k (adaptively l k) (number-26 (k .p) (k .q) (r .m)) (reads + (r .m - m))) (sym (e ∙ ap (λ F. spot-at F r) (c .plan .is)))
+                subst (Walking l k (going l k Adaptive) (number-26 (k .p) (k .q) (r .m)) (reads + (r .m - m))) (sym (e ∙ ap (λ F. spot-at F r) (c .plan .is)))
                 (clear-turn (length l) k (c .plan) l m s reads (c .at) r (ran .further) below index clear);
           }
         where

@@ -8,11 +8,11 @@ use Rattle.lines.specs.Steps.{Axis}
 use Rattle.lines.specs.Crossings.{place}
 use Rattle.lines.specs.Lines.{differences, longest}
 use Rattle.tripod.specs.Tripod.{steps}
-use Rattle.walks.specs.declared.FirstHit.{FirstHit}
+use Rattle.walks.specs.declared.Walker.{Walker}
+use Rattle.walks.specs.declared.Walker.the-variants.{Adaptive}
 use Rattle.walks.proofs.Runs.{ends, visits, Rises}
 use Rattle.walks.proofs.Progress.{OnWay}
-use Rattle.walks.proofs.Numbers.{last-number, number-26, solid-at, go}
-use Rattle.walks.proofs.Story.{answer-at}
+use Rattle.walks.proofs.Numbers.{last-number, number-26, solid-at, step}
 use Rattle.routes.specs.declared.Route.{Route}
 use Rattle.routes.specs.declared.Spot.{Spot}
 use Rattle.hits.specs.declared.Turn.{Turn}
@@ -34,9 +34,9 @@ module _ (l : List ℕ) (k : Route) where
   abbrev pub hits : ℕ → Bool
   hits = solid-at (k .n) l (k .p) (k .q)
 
-  -- the adaptive walk's step from number to number; the plain walk's is `suc`
-  abbrev pub adaptively : ℕ → ℕ
-  adaptively = go (k .n) l (k .p) (k .q)
+  -- a walk's step from number to number
+  abbrev pub going : Walker → ℕ → ℕ
+  going w = step (k .n) l (k .p) (k .q) w
 
   -- at place number m of a walk that goes by `next`, r cells read before it
   pub record Walking (next : ℕ → ℕ) (m r : ℕ) (s : Spot) : Type 0 where
@@ -72,7 +72,7 @@ module _ (l : List ℕ) (k : Route) where
   -- at 26-line cell m, which is not the last
   pub record At26 (s : Spot) (reads m : ℕ) : Type 0 where
     pub below : m < longest (differences (k .p) (k .q))
-    pub walking : Walking adaptively (number-26 (k .p) (k .q) m) reads s
+    pub walking : Walking (going Adaptive) (number-26 (k .p) (k .q) m) reads s
 
   -- what a turn of the adaptive walk asks: the longest axis, and that cell
   pub record CanGo (u : Axis) (s : Spot) (reads m : ℕ) : Type 0 where
@@ -84,8 +84,4 @@ module _ (l : List ℕ) (k : Route) where
   pub record Reached (m : ℕ) (r : Reach) : Type 0 where
     pub further : m < r .m
     pub most : r .m ≤ longest (differences (k .p) (k .q))
-    pub came : Outcome adaptively (number-26 (k .p) (k .q) (r .m)) (r .hit) (r .spot) (r .reads)
-
-  -- what a walk answers
-  abbrev pub found : (ℕ → ℕ) → FirstHit
-  found next = answer-at (k .n) l (k .p) (k .q) (ends hits last next (last + 1) 0) (visits hits last next (last + 1) 0)
+    pub came : Outcome (going Adaptive) (number-26 (k .p) (k .q) (r .m)) (r .hit) (r .spot) (r .reads)

@@ -1,15 +1,16 @@
 // The first-hit calls: the plain and the adaptive walk through a grid. A walk goes from spot to spot of its route; what a hit needs is worked out
 // once, where the walk stopped.
 ghost use mathlib.Core.Path.{_≡_};
-ghost use Prim.Native.Nat.{suc, _≤_};
+ghost use Prim.Native.Nat.{_≤_};
 ghost use lib.ListN.{length};
 ghost use Rattle.lines.specs.Steps.{at, total};
 ghost use Rattle.tripod.specs.Tripod.{bit, moves-on};
 ghost use Rattle.grids.specs.Grid.{solid};
-ghost use Rattle.walks.specs.Answers.{PlainHit, AdaptiveHit};
+ghost use Rattle.walks.specs.declared.Walker.the-variants.{Plain, Adaptive};
+ghost use Rattle.walks.specs.Answers.{Finds};
 ghost use Rattle.routes.specs.Route.{Planned, SpotAt, HasByte, byte-of-spot};
 ghost use Rattle.runs.specs.Run.{slope};
-ghost use Rattle.hits.specs.Found.{adaptively, Stops, CanWalk, Walked, CanGo, Reached, found};
+ghost use Rattle.hits.specs.Found.{going, Stops, CanWalk, Walked, CanGo, Reached};
 ghost use Rattle.hits.specs.Answer.{answer-from};
 use cells::Axis;
 use cells::Cell;
@@ -78,7 +79,7 @@ fn walk_faces(cells: &[u8], k: Route, start: Spot, reads: u32, faces: u32) -> Tu
 // The plain walk: the 6-line to its first solid cell, or to Q.
 fn walk_plain(cells: &[u8], k: Route, start: Spot) -> Stop
     requires { ⌜ Planned (length (now cells)) k × SpotAt k (at 0 0 0) start ⌝ }
-    ensures { λ r. ⌜ Stops (now (cells .entry)) k suc r ⌝ }
+    ensures { λ r. ⌜ Stops (now (cells .entry)) k (going (now (cells .entry)) k Plain) r ⌝ }
 {
     let d = k.d;
     let t = walk_faces(cells, k, start, 0, d.a + d.b + d.c);
@@ -156,7 +157,7 @@ fn next_26(cells: &[u8], k: Route, h: Slope, long: Axis, s: Spot, reads: u32, m:
 // The adaptive walk: from cell to cell of the 26-line, with long steps where the byte is 0, to the first solid cell or to Q.
 pub fn walk_adaptive(cells: &[u8], k: Route, start: Spot) -> Stop
     requires { ⌜ Planned (length (now cells)) k × SpotAt k (at 0 0 0) start ⌝ }
-    ensures { λ r. ⌜ Stops (now (cells .entry)) k (adaptively (now (cells .entry)) k) r ⌝ }
+    ensures { λ r. ⌜ Stops (now (cells .entry)) k (going (now (cells .entry)) k Adaptive) r ⌝ }
 {
     let long = tripod::longest_axis(k.d);
     let h = runs::slope_of(k, long);
@@ -204,40 +205,30 @@ pub fn answer_of(cells: &[u8], k: Route, r: Stop) -> FirstHit
     })
 }
 
-// What the plain walk finds along a route.
-fn plain_answer(cells: &[u8], k: Route) -> FirstHit
-    requires { ⌜ Planned (length (now cells)) k ⌝ }
-    ensures { λ r. ⌜ r ≡ found (now (cells .entry)) k suc ⌝ }
-{
-    let stop = walk_plain(cells, k, routes::first_spot(k));
-    answer_of(cells, k, stop)
-}
-
-// What the adaptive walk finds along a route.
-fn adaptive_answer(cells: &[u8], k: Route) -> FirstHit
-    requires { ⌜ Planned (length (now cells)) k ⌝ }
-    ensures { λ r. ⌜ r ≡ found (now (cells .entry)) k (adaptively (now (cells .entry)) k) ⌝ }
-{
-    let stop = walk_adaptive(cells, k, routes::first_spot(k));
-    answer_of(cells, k, stop)
-}
-
 // The first solid cell of the plain walk from p to q.
 pub fn first_plain(n: Counts, cells: &[u8], p: Cell, q: Cell) -> FirstHit
-    ensures { λ r. ⌜ PlainHit n (now (cells .entry)) p q r ⌝ }
+    ensures { λ r. ⌜ Finds Plain n (now (cells .entry)) p q r ⌝ }
 {
     match routes::check_walk(n, cells.len(), p, q) {
         Verdict::Refused(r) => FirstHit::Refused(r),
-        Verdict::Fine => plain_answer(cells, routes::route_of(n, p, q)),
+        Verdict::Fine => {
+            let k = routes::route_of(n, p, q);
+            let stop = walk_plain(cells, k, routes::first_spot(k));
+            answer_of(cells, k, stop)
+        }
     }
 }
 
 // The first solid cell of the adaptive walk from p to q.
 pub fn first_adaptive(n: Counts, cells: &[u8], p: Cell, q: Cell) -> FirstHit
-    ensures { λ r. ⌜ AdaptiveHit n (now (cells .entry)) p q r ⌝ }
+    ensures { λ r. ⌜ Finds Adaptive n (now (cells .entry)) p q r ⌝ }
 {
     match routes::check_walk(n, cells.len(), p, q) {
         Verdict::Refused(r) => FirstHit::Refused(r),
-        Verdict::Fine => adaptive_answer(cells, routes::route_of(n, p, q)),
+        Verdict::Fine => {
+            let k = routes::route_of(n, p, q);
+            let stop = walk_adaptive(cells, k, routes::first_spot(k));
+            answer_of(cells, k, stop)
+        }
     }
 }

@@ -11,7 +11,8 @@ use Rattle.cells.specs.declared.Refusal.the-variants.{Record}
 use Rattle.cells.specs.declared.Verdict.{Verdict}
 use Rattle.cells.specs.declared.Verdict.the-variants.{Fine, Refused}
 use Rattle.walks.specs.declared.FirstHit.{FirstHit}
-use Rattle.walks.specs.Answers.{walk-check, plain, adaptive}
+use Rattle.walks.specs.declared.Walker.the-variants.{Plain, Adaptive}
+use Rattle.walks.specs.Answers.{walk-check, first-hit}
 use Rattle.records.specs.declared.PairRead.{PairRead}
 use Rattle.records.specs.declared.PairRead.the-variants.{Read, Refused as NoPair}
 use Rattle.records.specs.Records.{pair-read}
@@ -27,7 +28,7 @@ after-walks k Fine a b = refl
 module _ (n : Counts) (cells : List ℕ) (k : ℕ) where
   after-pair : (r : PairRead) → Follows k (said-of-pair n cells k r .next)
   after-pair (NoPair r) = tt
-  after-pair (Read e) = after-walks k (walk-check n (length cells) (e .p) (e .q)) (plain n cells (e .p) (e .q)) (adaptive n cells (e .p) (e .q))
+  after-pair (Read e) = after-walks k (walk-check n (length cells) (e .p) (e .q)) (first-hit Plain n cells (e .p) (e .q)) (first-hit Adaptive n cells (e .p) (e .q))
 
   follows : (s : List ℕ) → Follows k (pair-said n cells k s .next)
   unfolding pair-said

@@ -14,15 +14,15 @@ use Rattle.cells.specs.declared.Verdict.the-variants.{Fine, Refused}
 use Rattle.cells.specs.Refusals.{told}
 use Rattle.walks.specs.declared.FirstHit.{FirstHit}
 use Rattle.walks.specs.declared.FirstHit.the-variants.{Clear, Hit as Blocked, Refused as NotWalked}
-use Rattle.walks.specs.Answers.{walk-check, plain, adaptive}
+use Rattle.walks.specs.Answers.{walk-check, first-hit}
 use Rattle.records.specs.declared.VenueRead.{VenueRead}
 use Rattle.records.specs.declared.VenueRead.the-variants.{Read, Refused as NoVenue}
 use Rattle.records.specs.declared.Pair.{Pair}
 use Rattle.records.specs.declared.PairRead.{PairRead}
 use Rattle.records.specs.declared.PairRead.the-variants.{Read as ReadPair, Refused as NoPair}
 use Rattle.records.specs.Records.{length-field, announced, venue-read, venue-cells, pair-read}
-use Rattle.texts.specs.declared.Walker.{Walker}
-use Rattle.texts.specs.declared.Walker.the-variants.{Plain, Adaptive}
+use Rattle.walks.specs.declared.Walker.{Walker}
+use Rattle.walks.specs.declared.Walker.the-variants.{Plain, Adaptive}
 use Rattle.texts.specs.Text.{hit-line, clear-line, pair-refused-line, venue-refused-line, line-room, PutsLine}
 use Rattle.program.specs.declared.Next.{Next}
 use Rattle.program.specs.declared.Next.the-variants.{On, Over}
@@ -87,7 +87,7 @@ module _ (n : Counts) (cells : List ℕ) (k : ℕ) where
   -- "after 10 or 11 the program ends"
   abbrev pub said-of-pair : PairRead → Said
   said-of-pair (NoPair r) = pair-refused k r Over
-  said-of-pair (ReadPair e) = said-of-walks k (walk-check n (length cells) (e .p) (e .q)) (plain n cells (e .p) (e .q)) (adaptive n cells (e .p) (e .q))
+  said-of-pair (ReadPair e) = said-of-walks k (walk-check n (length cells) (e .p) (e .q)) (first-hit Plain n cells (e .p) (e .q)) (first-hit Adaptive n cells (e .p) (e .q))
 
   -- "Input that ends where a pair would begin ends it silently"; "a pair length above 255 is refused 10"
   unfoldable pub pair-said : List ℕ → Said

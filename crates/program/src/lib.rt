@@ -6,7 +6,7 @@ ghost use lib.ListN.{length};
 ghost use Rattle.io.specs.Counts.{Counts as Count};
 ghost use Rattle.walks.specs.declared.FirstHit.the-variants.{Hit as Blocked};
 ghost use Rattle.records.specs.declared.PairRead.the-variants.{Read as ReadPair};
-ghost use Rattle.texts.specs.declared.Walker.the-variants.{Plain, Adaptive};
+ghost use Rattle.walks.specs.declared.Walker.the-variants.{Plain, Adaptive};
 ghost use Rattle.texts.specs.Text.{line-room, PutsLine};
 ghost use Rattle.program.specs.Program.{beyond, venue-refused, venue-said, pair-refused, coordinate, walk-line, said-of-pair, pair-said, text-room, Says, Follows};
 use cells::Counts;
@@ -15,9 +15,9 @@ use cells::Verdict;
 use records::Pair;
 use records::PairRead;
 use records::VenueRead;
-use texts::Walker;
 use walks::FirstHit;
 use walks::Hit;
+use walks::Walker;
 
 // The longest venue and the longest pair that the program reads, as their four bytes announce them.
 pub const VENUE_MOST: usize = 65532;

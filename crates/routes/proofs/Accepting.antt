@@ -8,6 +8,7 @@ use Rattle.cells.specs.declared.Verdict.{Verdict}
 use Rattle.cells.specs.declared.Verdict.the-variants.{Fine, Refused}
 use Rattle.lines.specs.Lines.{differences}
 use Rattle.lines.specs.Decisions.{doubled}
+use Rattle.tripod.specs.Tripod.{steps, Short}
 use Rattle.grids.proofs.Shapes.{Shaped, shaped}
 use Rattle.walks.specs.declared.FirstHit.{FirstHit}
 use Rattle.walks.specs.declared.FirstHit.the-variants.{Refused as NotWalked}
@@ -36,6 +37,10 @@ module _ (n : Counts) (bytes : ℕ) (p q : Cell) (fine : walk-check n bytes p q 
         moves = r .moves ∙ ap (λ m. strides m p q) (sym (r .grid)) ∙ ap₂ (strides (k .n)) (sym (r .start)) (sym (r .end));
         twice = r .twice ∙ ap₂ (λ a b. doubled (differences a b)) (sym (r .start)) (sym (r .end));
       }
+
+-- its start has a spot
+pub p-enclosed : {bytes : ℕ} {k : Route} → Planned bytes k → Enclosed (k .n) (k .p) × Short (k .d) × (steps (k .d) ≡ differences (k .p) (k .q))
+p-enclosed {bytes} plan = (record { bytes = bytes; shaped = plan .shaped; inside = plan .p-in }, plan .short, plan .is)
 
 -- what is said of a route's grid and ends is said of those of the call
 pub of-route : {A : Type 0} (n : Counts) (p q : Cell) (k : Route) → RouteOf n p q k → (f : Counts → Cell → Cell → A) → f (k .n) (k .p) (k .q) ≡ f n p q

@@ -8,8 +8,9 @@ use Rattle.cells.specs.declared.Counts.{Counts}
 use Rattle.cells.specs.declared.End.the-variants.{P, Q}
 use Rattle.cells.specs.declared.Refusal.{Refusal}
 use Rattle.grids.specs.Grid.{shape}
+use Rattle.walks.specs.declared.Walker.the-variants.{Adaptive}
 use Rattle.walks.specs.declared.FirstHit.{FirstHit}
-use Rattle.walks.specs.Answers.{adaptive}
+use Rattle.walks.specs.Answers.{first-hit}
 use Rattle.sights.specs.declared.Lookup.{Lookup}
 use Rattle.sights.specs.declared.Lookup.the-variants.{Cell, Refused as NoCell}
 use Rattle.sights.specs.declared.Placement.{Placement}
@@ -38,5 +39,5 @@ module _ (n : Counts) (l : List ℕ) (at : Placement) (camera ball : Point) wher
   ball-refused hf f-is ht t-is = from-lookups hf f-is ht t-is
 
   pub walked : {f t : Lookup} {c b : cell.Cell} {h : FirstHit} →
-      f ≡ look-up P n at camera → f ≡ Cell c → t ≡ look-up Q n at ball → t ≡ Cell b → h ≡ adaptive n l c b → looked n l at camera ball ≡ told-by h
+      f ≡ look-up P n at camera → f ≡ Cell c → t ≡ look-up Q n at ball → t ≡ Cell b → h ≡ first-hit Adaptive n l c b → looked n l at camera ball ≡ told-by h
   walked hf f-is ht t-is h-is = from-lookups hf f-is ht t-is ∙ ap told-by (sym h-is)

@@ -11,9 +11,10 @@ use Rattle.cells.specs.declared.Verdict.{Verdict}
 use Rattle.cells.specs.declared.Verdict.the-variants.{Fine, Refused as Fails}
 use Rattle.cells.specs.Refusals.{Told, told}
 use Rattle.grids.specs.Grid.{shape}
+use Rattle.walks.specs.declared.Walker.the-variants.{Adaptive}
 use Rattle.walks.specs.declared.FirstHit.{FirstHit}
 use Rattle.walks.specs.declared.FirstHit.the-variants.{Clear as Open, Hit, Refused as NotWalked}
-use Rattle.walks.specs.Answers.{adaptive}
+use Rattle.walks.specs.Answers.{first-hit}
 use Rattle.sights.specs.declared.Lookup.{Lookup}
 use Rattle.sights.specs.declared.Lookup.the-variants.{Cell, Refused as NoCell}
 use Rattle.sights.specs.declared.Placement.{Placement}
@@ -34,7 +35,7 @@ told-by (NotWalked r) = Refused r
 abbrev pub seen : Counts → List ℕ → Lookup → Lookup → Sight
 seen n l (NoCell r) ball = Refused r
 seen n l (Cell c) (NoCell r) = Refused r
-seen n l (Cell c) (Cell b) = told-by (adaptive n l c b)
+seen n l (Cell c) (Cell b) = told-by (first-hit Adaptive n l c b)
 
 -- an answer that is given only where the tests before it are passed
 abbrev pub if-fine : Verdict → Sight → Sight
@@ -43,7 +44,7 @@ if-fine (Fails r) s = Refused r
 
 -- the two lookups, camera P and ball Q, counts and placement being tested
 unfoldable pub looked : Counts → List ℕ → Placement → Point → Point → Sight
-unfolding look-up adaptive
+unfolding look-up first-hit
 looked n l at camera ball = seen n l (look-up P n at camera) (look-up Q n at ball)
 
 -- "2, 3, 7 (origin x, y, z, edge), camera x (8, then 9), y, z, then the ball"

@@ -2,7 +2,8 @@
 ghost use mathlib.Core.Path.{_≡_};
 ghost use Rattle.cells.specs.declared.Verdict.the-variants.{Fine};
 ghost use Rattle.grids.specs.Grid.{count-check};
-ghost use Rattle.walks.specs.Answers.{AdaptiveHit};
+ghost use Rattle.walks.specs.declared.Walker.the-variants.{Adaptive};
+ghost use Rattle.walks.specs.Answers.{Finds};
 ghost use Rattle.sights.specs.Survey.{Tested, placement-check};
 ghost use Rattle.sight.specs.Sight.{told-by, if-fine, looked, Sees};
 use cells::Cell;
@@ -52,7 +53,7 @@ fn told_by(h: FirstHit) -> Sight
 
 // The adaptive first-hit call, from its pieces: were the whole call shared with the C interface, its answer would go through memory once more.
 fn first_hit(n: Counts, cells: &[u8], p: Cell, q: Cell) -> FirstHit
-    ensures { λ r. ⌜ AdaptiveHit n (now (cells .entry)) p q r ⌝ }
+    ensures { λ r. ⌜ Finds Adaptive n (now (cells .entry)) p q r ⌝ }
 {
     match routes::check_walk(n, cells.len(), p, q) {
         Verdict::Refused(r) => FirstHit::Refused(r),

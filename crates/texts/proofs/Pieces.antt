@@ -6,7 +6,7 @@ use native.Mathlib.Nat.{zero-add}
 use native.Mathlib.Omega.{arith}
 use lib.ListN.{length, length-append}
 use Rattle.buffers.proofs.Over.{over-front, then-over}
-use Rattle.texts.specs.declared.Walker.{Walker}
+use Rattle.walks.specs.declared.Walker.{Walker}
 use Rattle.texts.specs.Text.{decimal, letter, hit-word, clear-word, refused-word, venue-word, parted, ended, hit-line, clear-line, pair-refused-line, venue-refused-line, Puts, PutsLine}
 
 pub then-puts : {p q s : List ℕ} {at b c : ℕ} {m l : List ℕ} → b ≤ length s → Puts p at s b m → Puts q b m c l → Puts (p ++ q) at s c l

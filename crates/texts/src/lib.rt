@@ -4,12 +4,7 @@ ghost use mathlib.Core.List.{[], _∷_, _++_};
 ghost use Prim.Native.Nat.{_+_, _≤_, _<_};
 ghost use lib.ListN.{length};
 ghost use Rattle.texts.specs.Text.{decimal, letter, refused-word, parted, ended, line-room, hit-line, clear-line, pair-refused-line, venue-refused-line, PutsLine, Puts};
-
-// Which of the two walks a line tells of.
-pub enum Walker {
-    Plain,
-    Adaptive,
-}
+use walks::Walker;
 
 const SPACE: u8 = 32;
 

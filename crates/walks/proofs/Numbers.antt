@@ -20,7 +20,9 @@ use Rattle.lines.specs.Lines.{differences, longest, six-cell, cell-26, place-26
 use Rattle.lines.proofs.Centres.{within-26, grows-26}
 use Rattle.lines.proofs.Cells.{six-start, six-end, six-different, six-at-26, end-26, skipped-touches}
 use Rattle.grids.specs.Grid.{byte-of, clear}
-use Rattle.walks.specs.Walks.{is-cell, number-of, six-count, count-26, after, long-or-plain, next-plain, next-adaptive, hit-at, walk, plain-walk, adaptive-walk}
+use Rattle.walks.specs.declared.Walker.{Walker}
+use Rattle.walks.specs.declared.Walker.the-variants.{Plain, Adaptive}
+use Rattle.walks.specs.Walks.{is-cell, number-of, six-count, count-26, after, long-or-plain, next-plain, next-adaptive, hit-at, walk, next-cell, walk-of}
 use Rattle.walks.specs.Answers.{last-of}
 use Rattle.walks.proofs.Find.{found, found-is, same-is-cell, other-is-not}
 use Rattle.walks.proofs.Runs.{stop, ends, visits, Rises, not-stopped, by-one}
@@ -181,32 +183,30 @@ module _ (n : Counts) (l : List ℕ) (p q : Cell) (next : Cell → Cell) (g : �
   pub whole-last : (c : Cell) → last-of c (walk (hit-at n l) next q (six-count p q) p) ≡ F (ends (solid-at n l p q) (last-number p q) g (six-count p q) 0)
   whole-last c = ap (λ w. last-of c (walk (hit-at n l) next q (six-count p q) w)) (sym (six-start rule-1 p q)) ∙ whole .last c
 
--- the plain walk goes from number to number, the adaptive one by `go`: the number where each ends, and its reads
+-- each walk goes by its own step from number to number: the number where it ends, and its reads
 module _ (n : Counts) (l : List ℕ) (p q : Cell) where
-  abbrev pub plain-end : ℕ
-  plain-end = ends (solid-at n l p q) (last-number p q) suc (six-count p q) 0
+  abbrev pub step : Walker → ℕ → ℕ
+  step Plain = suc
+  step Adaptive = go n l p q
 
-  abbrev pub adaptive-end : ℕ
-  adaptive-end = ends (solid-at n l p q) (last-number p q) (go n l p q) (six-count p q) 0
+  pub step-rises : (k : Walker) → Rises (last-number p q) (step k)
+  step-rises Plain = by-one (last-number p q)
+  step-rises Adaptive = go-rises n l p q
 
-  abbrev pub plain-reads : ℕ
-  plain-reads = visits (solid-at n l p q) (last-number p q) suc (six-count p q) 0
+  step-next : (k : Walker) (s : ℕ) → s < last-number p q → next-cell k n l p q (six-cell rule-1 p q s) ≡ six-cell rule-1 p q (step k s)
+  step-next Plain = plain-next p q
+  step-next Adaptive = adaptive-next n l p q
 
-  abbrev pub adaptive-reads : ℕ
-  adaptive-reads = visits (solid-at n l p q) (last-number p q) (go n l p q) (six-count p q) 0
+  abbrev pub end-of : Walker → ℕ
+  end-of k = ends (solid-at n l p q) (last-number p q) (step k) (six-count p q) 0
 
-  pub plain-length : length (plain-walk n l p q) ≡ plain-reads
-  unfolding plain-walk
-  plain-length = whole-long n l p q (next-plain p q) suc (by-one (last-number p q)) (plain-next p q)
+  abbrev pub reads-of : Walker → ℕ
+  reads-of k = visits (solid-at n l p q) (last-number p q) (step k) (six-count p q) 0
 
-  pub plain-last : (c : Cell) → last-of c (plain-walk n l p q) ≡ six-cell rule-1 p q plain-end
-  unfolding plain-walk
-  plain-last = whole-last n l p q (next-plain p q) suc (by-one (last-number p q)) (plain-next p q)
+  pub walk-length : (k : Walker) → length (walk-of k n l p q) ≡ reads-of k
+  unfolding walk-of
+  walk-length k = whole-long n l p q (next-cell k n l p q) (step k) (step-rises k) (step-next k)
 
-  pub adaptive-length : length (adaptive-walk n l p q) ≡ adaptive-reads
-  unfolding adaptive-walk
-  adaptive-length = whole-long n l p q (next-adaptive n l p q) (go n l p q) (go-rises n l p q) (adaptive-next n l p q)
-
-  pub adaptive-last : (c : Cell) → last-of c (adaptive-walk n l p q) ≡ six-cell rule-1 p q adaptive-end
-  unfolding adaptive-walk
-  adaptive-last = whole-last n l p q (next-adaptive n l p q) (go n l p q) (go-rises n l p q) (adaptive-next n l p q)
+  pub walk-last : (k : Walker) (c : Cell) → last-of c (walk-of k n l p q) ≡ six-cell rule-1 p q (end-of k)
+  unfolding walk-of
+  walk-last k = whole-last n l p q (next-cell k n l p q) (step k) (step-rises k) (step-next k)

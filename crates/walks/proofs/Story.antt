@@ -20,15 +20,17 @@ use Rattle.lines.proofs.Fractions.{place-start, place-suc, place-end}
 use Rattle.lines.proofs.Cells.{six-end}
 use Rattle.lines.proofs.Centres.{centres-good, longest-axis, is-place-26, moved-longest}
 use Rattle.grids.specs.Grid.{byte-of, solid}
+use Rattle.walks.specs.declared.Walker.{Walker}
+use Rattle.walks.specs.declared.Walker.the-variants.{Plain, Adaptive}
 use Rattle.walks.specs.declared.Place.{Place}
 use Rattle.walks.specs.declared.Hit.{Hit}
 use Rattle.walks.specs.declared.FirstHit.{FirstHit}
 use Rattle.walks.specs.declared.FirstHit.the-variants.{Clear, Hit as Blocked}
-use Rattle.walks.specs.Walks.{hit-at, number-of, six-count, plain-walk, adaptive-walk}
-use Rattle.walks.specs.Answers.{entered-at, place-by, place-of, last-of, answer-of, answer-by, walk-check, plain, adaptive}
+use Rattle.walks.specs.Walks.{hit-at, number-of, six-count, walk-of}
+use Rattle.walks.specs.Answers.{entered-at, place-by, place-of, last-of, answer-of, answer-by, walk-check, first-hit}
 use Rattle.walks.specs.Safe.{InGrid, NoClearTouches}
 use Rattle.walks.proofs.Runs.{stop, stopped, ended, Ended, by-one, ends, visits, visits-all, at-least, plain-first, never-earlier, never-invented, same-end, no-more-visits}
-use Rattle.walks.proofs.Numbers.{last-number, number-26, six-found, go, go-rises, solid-at, skipped, way, Way, face, long, plain-end, adaptive-end, plain-reads, adaptive-reads, plain-length, plain-last, adaptive-length, adaptive-last}
+use Rattle.walks.proofs.Numbers.{last-number, number-26, six-found, go, go-rises, solid-at, skipped, way, Way, face, long, step, step-rises, end-of, reads-of, walk-length, walk-last}
 use Rattle.walks.proofs.Inside.{Accepted, six-inside}
 
 module _ (n : Counts) (l : List ℕ) (p q : Cell) where
@@ -51,48 +53,35 @@ module _ (n : Counts) (l : List ℕ) (p q : Cell) where
       ap₂ (λ w k. cond (hit-at n l w) (Blocked (record { cell = w; code = byte-of n l w; place = place-of p q w; reads = k })) (Clear k)) last many
       ∙ ap (λ a. cond (hit-at n l (f e)) (Blocked (record { cell = f e; code = byte-of n l (f e); place = a; reads = r })) (Clear r)) (ap (place-by p q) (six-found p q e le))
 
-  plain-ended : Ended (solid-at n l p q) N suc (by-one N) 0 (plain-end n l p q) (plain-reads n l p q)
-  plain-ended = ended (solid-at n l p q) N suc (by-one N) (six-count p q) 0 (omega arith) (omega arith)
+  walk-ended : (k : Walker) → Ended (solid-at n l p q) N (step n l p q k) (step-rises n l p q k) 0 (end-of n l p q k) (reads-of n l p q k)
+  walk-ended k = ended (solid-at n l p q) N (step n l p q k) (step-rises n l p q k) (six-count p q) 0 (omega arith) (omega arith)
 
-  adaptive-ended : Ended (solid-at n l p q) N (go n l p q) (go-rises n l p q) 0 (adaptive-end n l p q) (adaptive-reads n l p q)
-  adaptive-ended = ended (solid-at n l p q) N (go n l p q) (go-rises n l p q) (six-count p q) 0 (omega arith) (omega arith)
+  pub end-below : (k : Walker) → end-of n l p q k ≤ N
+  end-below k = walk-ended k .most
 
-  pub plain-below : plain-end n l p q ≤ N
-  plain-below = plain-ended .most
-
-  pub adaptive-below : adaptive-end n l p q ≤ N
-  adaptive-below = adaptive-ended .most
-
-  pub plain-answer : plain n l p q ≡ answer-by (walk-check n (length l) p q) (answer-at (plain-end n l p q) (plain-reads n l p q))
-  unfolding plain
-  plain-answer = ap (answer-by (walk-check n (length l) p q)) (answer-is (plain-walk n l p q) _ _ plain-below (plain-last n l p q p) (plain-length n l p q))
-
-  pub adaptive-answer : adaptive n l p q ≡ answer-by (walk-check n (length l) p q) (answer-at (adaptive-end n l p q) (adaptive-reads n l p q))
-  unfolding adaptive
-  adaptive-answer = ap (answer-by (walk-check n (length l) p q)) (answer-is (adaptive-walk n l p q) _ _ adaptive-below (adaptive-last n l p q p) (adaptive-length n l p q))
+  pub first-hit-is : (k : Walker) → first-hit k n l p q ≡ answer-by (walk-check n (length l) p q) (answer-at (end-of n l p q k) (reads-of n l p q k))
+  unfolding first-hit
+  first-hit-is k = ap (answer-by (walk-check n (length l) p q)) (answer-is (walk-of k n l p q) _ _ (end-below k) (walk-last n l p q k p) (walk-length n l p q k))
 
   -- ---- no walk runs out: its last cell is solid, or Q
 
-  at-end : (e : ℕ) → stop (solid-at n l p q) N e ≡ true → (hit-at n l (f e) ≡ true) ⊎ (f e ≡ q)
-  at-end e s = ⊎-elim (λ hit. inl hit) (λ last. inr (ap f last ∙ six-end rule-1 p q)) (stopped (solid-at n l p q e) e N s)
-
-  pub plain-stops : (hit-at n l (last-of p (plain-walk n l p q)) ≡ true) ⊎ (last-of p (plain-walk n l p q) ≡ q)
-  plain-stops = rw (plain-last n l p q p) (at-end (plain-end n l p q) (plain-ended .stops))
-
-  pub adaptive-stops : (hit-at n l (last-of p (adaptive-walk n l p q)) ≡ true) ⊎ (last-of p (adaptive-walk n l p q) ≡ q)
-  adaptive-stops = rw (adaptive-last n l p q p) (at-end (adaptive-end n l p q) (adaptive-ended .stops))
+  pub walk-stops : (k : Walker) → (hit-at n l (last-of p (walk-of k n l p q)) ≡ true) ⊎ (last-of p (walk-of k n l p q) ≡ q)
+  walk-stops k = rw (walk-last n l p q k p) (at-end (end-of n l p q k) (walk-ended k .stops))
+    where
+      at-end : (e : ℕ) → stop (solid-at n l p q) N e ≡ true → (hit-at n l (f e) ≡ true) ⊎ (f e ≡ q)
+      at-end e s = ⊎-elim (λ hit. inl hit) (λ last. inr (ap f last ∙ six-end rule-1 p q)) (stopped (solid-at n l p q e) e N s)
 
   -- ---- in any grid
 
-  pub no-earlier : plain-end n l p q ≤ adaptive-end n l p q
+  pub no-earlier : end-of n l p q Plain ≤ end-of n l p q Adaptive
   no-earlier = never-earlier (solid-at n l p q) N (go n l p q) (go-rises n l p q)
 
-  pub not-invented : solid-at n l p q (adaptive-end n l p q) ≡ true → solid-at n l p q (plain-end n l p q) ≡ true
+  pub not-invented : solid-at n l p q (end-of n l p q Adaptive) ≡ true → solid-at n l p q (end-of n l p q Plain) ≡ true
   not-invented = never-invented (solid-at n l p q) N (go n l p q) (go-rises n l p q)
 
   -- ---- where no clear cell touches a solid one by face or edge
 
-  pub ends-alike : (k : ℕ) → 2 ≤ k → InGrid n p → InGrid n q → NoClearTouches k n l → adaptive-end n l p q ≡ plain-end n l p q
+  pub ends-alike : (k : ℕ) → 2 ≤ k → InGrid n p → InGrid n q → NoClearTouches k n l → end-of n l p q Adaptive ≡ end-of n l p q Plain
   ends-alike k two hp hq safe = same-end (solid-at n l p q) N (go n l p q) (go-rises n l p q) nothing-solid
     where
       wider : {c d : Cell} → Touches 2 c d → Touches k c d
@@ -108,7 +97,7 @@ module _ (n : Counts) (l : List ℕ) (p q : Cell) where
               let most : go n l p q s ≤ N = go-rises n l p q .most s lt in
               absurd (safe .none (f s) (f t) (six-inside n p q hp hq s (omega arith)) (six-inside n p q hp hq t (omega arith)) clear e (wider touch))
 
-  pub reads-no-more : adaptive-end n l p q ≡ plain-end n l p q → adaptive-reads n l p q ≤ plain-reads n l p q
+  pub reads-no-more : end-of n l p q Adaptive ≡ end-of n l p q Plain → reads-of n l p q Adaptive ≤ reads-of n l p q Plain
   reads-no-more = no-more-visits (solid-at n l p q) N (go n l p q) (go-rises n l p q)
 
   -- ---- with no hit
@@ -120,28 +109,28 @@ module _ (n : Counts) (l : List ℕ) (p q : Cell) where
       (stopped (solid-at n l p q e) e N s)
 
   -- the plain walk then passed every cell, none of them solid
-  pub plain-clear : solid-at n l p q (plain-end n l p q) ≡ false → (s : ℕ) → s ≤ N → solid-at n l p q s ≡ false
+  pub plain-clear : solid-at n l p q (end-of n l p q Plain) ≡ false → (s : ℕ) → s ≤ N → solid-at n l p q s ≡ false
   plain-clear h s le =
-      let e = ends-at-q (plain-end n l p q) (plain-ended .stops) h in
-      elim (decLt s (plain-end n l p q)) [
+      let e = ends-at-q (end-of n l p q Plain) (walk-ended Plain .stops) h in
+      elim (decLt s (end-of n l p q Plain)) [
         | yes lt ↦ plain-first (solid-at n l p q) N suc (by-one N) s lt
-        | no ge ↦ ap (solid-at n l p q) (both-ways s (plain-end n l p q) (omega arith) (omega arith)) ∙ h
+        | no ge ↦ ap (solid-at n l p q) (both-ways s (end-of n l p q Plain) (omega arith) (omega arith)) ∙ h
       ]
 
-  pub plain-clear-reads : solid-at n l p q (plain-end n l p q) ≡ false → plain-reads n l p q ≡ N + 1
+  pub plain-clear-reads : solid-at n l p q (end-of n l p q Plain) ≡ false → reads-of n l p q Plain ≡ N + 1
   plain-clear-reads h =
-      omega (arith, ends-at-q (plain-end n l p q) (plain-ended .stops) h, visits-all (solid-at n l p q) N (six-count p q) 0 (omega arith) (omega arith))
+      omega (arith, ends-at-q (end-of n l p q Plain) (walk-ended Plain .stops) h, visits-all (solid-at n l p q) N (six-count p q) 0 (omega arith) (omega arith))
 
-  pub adaptive-clear-most : solid-at n l p q (adaptive-end n l p q) ≡ false → adaptive-reads n l p q ≤ N + 1
-  adaptive-clear-most h = omega (arith, ends-at-q (adaptive-end n l p q) (adaptive-ended .stops) h, adaptive-ended .few)
+  pub adaptive-clear-most : solid-at n l p q (end-of n l p q Adaptive) ≡ false → reads-of n l p q Adaptive ≤ N + 1
+  adaptive-clear-most h = omega (arith, ends-at-q (end-of n l p q Adaptive) (walk-ended Adaptive .stops) h, walk-ended Adaptive .few)
 
   -- each step moves along the longest axis by at most one
-  pub adaptive-clear-least : solid-at n l p q (adaptive-end n l p q) ≡ false → longest (differences p q) + 1 ≤ adaptive-reads n l p q
+  pub adaptive-clear-least : solid-at n l p q (end-of n l p q Adaptive) ≡ false → longest (differences p q) + 1 ≤ reads-of n l p q Adaptive
   adaptive-clear-least h =
-      let e = ends-at-q (adaptive-end n l p q) (adaptive-ended .stops) h in
-      let w : μ (adaptive-end n l p q) + 1 ≤ μ 0 + adaptive-reads n l p q = at-least (solid-at n l p q) N (go n l p q) (go-rises n l p q) μ (λ s lt. grows s lt (way n l p q s lt)) (six-count p q) 0 (omega arith) (omega arith) in
+      let e = ends-at-q (end-of n l p q Adaptive) (walk-ended Adaptive .stops) h in
+      let w : μ (end-of n l p q Adaptive) + 1 ≤ μ 0 + reads-of n l p q Adaptive = at-least (solid-at n l p q) N (go n l p q) (go-rises n l p q) μ (λ s lt. grows s lt (way n l p q s lt)) (six-count p q) 0 (omega arith) (omega arith) in
       let z : μ 0 ≡ 0 = place-start (centres rule-1 (differences p q)) a in
-      let y : μ (adaptive-end n l p q) ≡ longest (differences p q) = ap μ e ∙ place-end (centres rule-1 (differences p q)) (centres-good rule-1 (differences p q)) a ∙ is-longest in
+      let y : μ (end-of n l p q Adaptive) ≡ longest (differences p q) = ap μ e ∙ place-end (centres rule-1 (differences p q)) (centres-good rule-1 (differences p q)) a ∙ is-longest in
       omega (arith, w)
     where
       a : Axis

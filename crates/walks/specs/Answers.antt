@@ -24,11 +24,12 @@ use Rattle.lines.specs.Crossings.{Course, next, place}
 use Rattle.lines.specs.Preference.{rule-1}
 use Rattle.lines.specs.Lines.{differences, centres, six-cell}
 use Rattle.grids.specs.Grid.{shape, byte-of}
+use Rattle.walks.specs.declared.Walker.{Walker}
 use Rattle.walks.specs.declared.Place.{Place}
 use Rattle.walks.specs.declared.Hit.{Hit}
 use Rattle.walks.specs.declared.FirstHit.{FirstHit}
 use Rattle.walks.specs.declared.FirstHit.the-variants.{Clear, Hit as Blocked, Refused as NotWalked}
-use Rattle.walks.specs.Walks.{hit-at, number-of, six-count, plain-walk, adaptive-walk}
+use Rattle.walks.specs.Walks.{hit-at, number-of, six-count, walk-of}
 
 -- ---- the place of a hit
 
@@ -88,22 +89,15 @@ abbrev pub answer-by : Verdict → FirstHit → FirstHit
 answer-by Fine a = a
 answer-by (Refused r) a = NotWalked r
 
--- ---- the two calls
+-- ---- the calls, by their walk
 
-unfoldable pub plain : Counts → List ℕ → Cell → Cell → FirstHit
-unfolding walk-check answer-of plain-walk
-plain n l p q = answer-by (walk-check n (length l) p q) (answer-of n l p q (plain-walk n l p q))
+unfoldable pub first-hit : Walker → Counts → List ℕ → Cell → Cell → FirstHit
+unfolding walk-check answer-of walk-of
+first-hit k n l p q = answer-by (walk-check n (length l) p q) (answer-of n l p q (walk-of k n l p q))
 
-unfoldable pub adaptive : Counts → List ℕ → Cell → Cell → FirstHit
-unfolding walk-check answer-of adaptive-walk
-adaptive n l p q = answer-by (walk-check n (length l) p q) (answer-of n l p q (adaptive-walk n l p q))
-
--- their contracts
-pub record PlainHit (n : Counts) (l : List ℕ) (p q : Cell) (r : FirstHit) : Type 0 where
-  pub says : r ≡ plain n l p q
-
-pub record AdaptiveHit (n : Counts) (l : List ℕ) (p q : Cell) (r : FirstHit) : Type 0 where
-  pub says : r ≡ adaptive n l p q
+-- their contract
+pub record Finds (k : Walker) (n : Counts) (l : List ℕ) (p q : Cell) (r : FirstHit) : Type 0 where
+  pub says : r ≡ first-hit k n l p q
 
 -- each case of the answer: what is said of a refusal, the reads, or the hit's values
 abbrev pub told-hit : FirstHit → Told ⊎ (ℕ ⊎ Hit)

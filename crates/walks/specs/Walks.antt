@@ -12,6 +12,8 @@ use Rattle.lines.specs.Steps.{total}
 use Rattle.lines.specs.Preference.{rule-1}
 use Rattle.lines.specs.Lines.{differences, six-cell, longest, cell-26}
 use Rattle.grids.specs.Grid.{byte-of, clear, solid}
+use Rattle.walks.specs.declared.Walker.{Walker}
+use Rattle.walks.specs.declared.Walker.the-variants.{Plain, Adaptive}
 
 -- two cells are one
 abbrev pub is-same : ℤ → ℤ → Bool
@@ -61,11 +63,12 @@ unfoldable pub walk : (Cell → Bool) → (Cell → Cell) → Cell → ℕ → C
 walk hit next q zero w = []
 walk hit next q (suc fuel) w = w ∷ cond (hit w || is-cell w q) [] (walk hit next q fuel (next w))
 
--- "The plain walk is the 6-line to its first solid cell."
-unfoldable pub plain-walk : Counts → List ℕ → Cell → Cell → List Cell
-unfolding walk next-plain
-plain-walk n l p q = walk (hit-at n l) (next-plain p q) q (six-count p q) p
+-- what comes next: "The plain walk is the 6-line to its first solid cell."
+abbrev pub next-cell : Walker → Counts → List ℕ → Cell → Cell → Cell → Cell
+next-cell Plain n l p q w = next-plain p q w
+next-cell Adaptive n l p q w = next-adaptive n l p q w
 
-unfoldable pub adaptive-walk : Counts → List ℕ → Cell → Cell → List Cell
-unfolding walk next-adaptive
-adaptive-walk n l p q = walk (hit-at n l) (next-adaptive n l p q) q (six-count p q) p
+-- the cells of a walk
+unfoldable pub walk-of : Walker → Counts → List ℕ → Cell → Cell → List Cell
+unfolding walk next-plain next-adaptive
+walk-of k n l p q = walk (hit-at n l) (next-cell k n l p q) q (six-count p q) p

@@ -2,6 +2,12 @@
 use cells::Cell;
 use cells::Refusal;
 
+// Which of the two walks.
+pub enum Walker {
+    Plain,
+    Adaptive,
+}
+
 // The place of a hit: the fraction of the way at which the line enters the cell, not reduced.
 pub struct Place {
     pub num: u32,

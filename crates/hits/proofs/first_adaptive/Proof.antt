@@ -1,12 +1,13 @@
--- `hits::first_adaptive` meets its contract: a refusal is the verdict's, and an accepted walk answers by its end. Assumes nothing.
+-- The answer of the adaptive walk, from its pieces. Assumes nothing.
 use mathlib.Core.Path.{_≡_, sym, _∙_}
 use lib.ListN.{length}
 use borrow.Author.Needs.{needs}
 use Rattle.cells.specs.declared.Verdict.the-variants.{Fine}
+use Rattle.walks.specs.declared.Walker.the-variants.{Adaptive}
 use Rattle.walks.specs.Answers.{walk-check}
-use Rattle.walks.proofs.Numbers.{adaptive-end, adaptive-reads}
-use Rattle.walks.proofs.Story.{answer-at, adaptive-answer}
-use Rattle.routes.proofs.Accepting.{ends-enclosed, route-planned, of-route, answer-fine, answer-refused}
+use Rattle.routes.specs.Route.{Planned}
+use Rattle.routes.proofs.Accepting.{ends-enclosed, route-planned, p-enclosed}
+use Rattle.hits.proofs.Answering.{refused-finds, stop-byte, stop-finds}
 use Rattle.hits.proofs.first_adaptive.Statement.{statement}
 use Rattle.hits.proofs.first_adaptive.Tie as tie
 
@@ -19,30 +20,37 @@ enum-known-r c = search needs
 enum-told : tie.Need-enum-told
 enum-told c = search needs
 
--- where the call has passed its tests
+-- where the call has passed its tests, there is a route
 fine : (c : tie.After-enum-told) → let a = c .before .before .before .before .args in walk-check (a .n) (length (a .cells .now)) (a .p) (a .q) ≡ Fine
 fine c = sym (c .before .before .check-walk .ensures) ∙ c .enum-told .given .1
+
+planned : (c : tie.After-route-of) → Planned (length (c .before .before .before .before .before .args .cells .now)) (c .route-of .result)
+planned c = route-planned _ _ _ _ (fine (c .before)) _ (c .route-of .ensures)
 
 route-of-requires : tie.Need-route-of-requires
 route-of-requires c κs = ends-enclosed _ _ _ _ (fine c)
 
-adaptive-answer-requires : tie.Need-adaptive-answer-requires
-adaptive-answer-requires c κs = route-planned _ _ _ _ (fine (c .before)) _ (c .route-of .ensures)
+first-spot-requires : tie.Need-first-spot-requires
+first-spot-requires c κs = p-enclosed (planned c)
+
+walk-adaptive-requires : tie.Need-walk-adaptive-requires
+walk-adaptive-requires c κs = (planned (c .before), c .first-spot .ensures)
+
+answer-of-requires : tie.Need-answer-of-requires
+answer-of-requires c κs =
+    let plan = planned (c .before .before) in
+    (plan, stop-byte Adaptive (c .before .before .before .before .before .before .before .args .cells .now) _ plan _ (c .walk-adaptive .ensures))
 
 returns : tie.Need-returns
 returns c =
-    let s = c .before .before .before .before .before in
-    record { says = answer-refused _ _ (sym (c .before .before .before .check-walk .ensures) ∙ c .before .r .given .1) ∙ sym (adaptive-answer (s .args .n) (s .args .cells .now) (s .args .p) (s .args .q)) }
+    let a = c .before .before .before .before .before .args in
+    refused-finds Adaptive (a .n) (a .cells .now) (a .p) (a .q) (sym (c .before .before .before .check-walk .ensures) ∙ c .before .r .given .1)
 
 returns-2 : tie.Need-returns-2
 returns-2 c =
-    let s = c .before .before .before .before .before .before in
-    let l = s .args .cells .now in
-    record {
-      says =
-          c .adaptive-answer .ensures ∙ of-route _ _ _ _ (c .before .route-of .ensures) (λ n p q. answer-at n l p q (adaptive-end n l p q) (adaptive-reads n l p q))
-          ∙ answer-fine _ (fine (c .before .before)) ∙ sym (adaptive-answer (s .args .n) l (s .args .p) (s .args .q));
-    }
+    let r = c .before .before .before in
+    let a = r .before .before .before .before .before .args in
+    stop-finds Adaptive (a .n) (a .cells .now) (a .p) (a .q) (r .route-of .result) (planned r) _ (c .before .walk-adaptive .ensures) (fine (r .before)) (r .route-of .ensures) (c .answer-of .ensures)
 
 pub first-adaptive-spec : {M : Type 1} → statement M
 first-adaptive-spec =
@@ -52,6 +60,8 @@ first-adaptive-spec =
     enum-known-r
     enum-told
     route-of-requires
-    adaptive-answer-requires
+    first-spot-requires
+    walk-adaptive-requires
+    answer-of-requires
     returns
     returns-2)

@@ -6,7 +6,8 @@ use Rattle.lines.specs.Steps.{X, Y, Z}
 use Rattle.lines.specs.Lines.{differences}
 use Rattle.tripod.specs.Tripod.{LongMoves}
 use Rattle.routes.proofs.Spots.{short-at}
-use Rattle.hits.specs.Found.{Walked, CanWalk, adaptively}
+use Rattle.walks.specs.declared.Walker.the-variants.{Adaptive}
+use Rattle.hits.specs.Found.{Walked, CanWalk, going}
 use Rattle.hits.proofs.Turns.{turn-calm, near-faces, near-turn}
 use Rattle.hits.proofs.near_turn.Statement.{statement}
 use Rattle.hits.proofs.near_turn.Tie as tie
@@ -30,7 +31,7 @@ walk-faces-requires c κs =
     let l = s .args .cells .now in (
       g .plan,
       subst (CanWalk l (s .args .k) (s .args .s) (s .args .reads)) (sym (c .faces-of .ensures))
-          (record { next = adaptively l (s .args .k); from = _; crossing = near-faces _ (s .args .k) (g .plan) l (s .args .m) (s .args .s) (s .args .reads) (g .at) _ (moves (c .before)) near }),
+          (record { next = going l (s .args .k) Adaptive; from = _; crossing = near-faces _ (s .args .k) (g .plan) l (s .args .m) (s .args .s) (s .args .reads) (g .at) _ (moves (c .before)) near }),
     )
 
 add-t11 : tie.Need-add-t11

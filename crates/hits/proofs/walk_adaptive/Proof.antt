@@ -7,7 +7,8 @@ use borrow.Author.Needs.{needs}
 use Rattle.lines.specs.Steps.{X, Y, Z}
 use Rattle.lines.specs.Lines.{differences, longest}
 use Rattle.walks.proofs.Numbers.{number-26}
-use Rattle.hits.specs.Found.{adaptively, Walking, CanGo}
+use Rattle.walks.specs.declared.Walker.the-variants.{Adaptive}
+use Rattle.hits.specs.Found.{going, Walking, CanGo}
 use Rattle.routes.proofs.Spots.{short-at}
 use Rattle.hits.proofs.Walking.{walk-starts, at-end}
 use Rattle.hits.proofs.Turns.{outcome-stopped, outcome-walking, first-26, last-26}
@@ -15,7 +16,7 @@ use Rattle.hits.proofs.walk_adaptive.Statement.{statement}
 use Rattle.hits.proofs.walk_adaptive.Tie as tie
 
 abbrev Inv-loop : tie.InvT-loop
-Inv-loop cells k long h t₀ t = (t .m ≤ h .last) × Walking cells k (adaptively cells k) (number-26 (k .p) (k .q) (t .m)) (t .reads) (t .spot)
+Inv-loop cells k long h t₀ t = (t .m ≤ h .last) × Walking cells k (going cells k Adaptive) (number-26 (k .p) (k .q) (t .m)) (t .reads) (t .spot)
 
 abbrev μ-loop : tie.MeasureT-loop
 μ-loop cells k long h t₀ t = h .last - t .m
@@ -35,7 +36,7 @@ loop-holds c =
     let s = c .before .before .before in
     let l = s .args .cells .now in
     let k = s .args .k in
-    (omega arith, subst (λ j. Walking l k (adaptively l k) j 0 (s .args .start)) (sym (first-26 _ k (s .pre .0) l)) (walk-starts _ k (s .pre .0) l (adaptively l k) (s .args .start) (s .pre .1)))
+    (omega arith, subst (λ j. Walking l k (going l k Adaptive) j 0 (s .args .start)) (sym (first-26 _ k (s .pre .0) l)) (walk-starts _ k (s .pre .0) l (going l k Adaptive) (s .args .start) (s .pre .1)))
 
 -- at a cell of the 26-line that is not the last
 here : (c : tie.Then1 Inv-loop μ-loop) →

@@ -1,0 +1,43 @@
+-- A first-hit call, whichever its walk: a refusal is the verdict's; an accepted walk stops where the definition's ends, and answers from there.
+-- Assumes nothing.
+use mathlib.Core.Path.{_≡_, sym, _∙_}
+use mathlib.Core.List.{List}
+use Prim.Native.Nat.{ℕ}
+use lib.ListN.{length}
+use Rattle.cells.specs.declared.Cell.{Cell}
+use Rattle.cells.specs.declared.Counts.{Counts}
+use Rattle.cells.specs.declared.Refusal.{Refusal}
+use Rattle.cells.specs.declared.Verdict.the-variants.{Fine, Refused}
+use Rattle.walks.specs.declared.Walker.{Walker}
+use Rattle.walks.specs.declared.FirstHit.{FirstHit}
+use Rattle.walks.specs.declared.FirstHit.the-variants.{Refused as NotWalked}
+use Rattle.walks.specs.Answers.{walk-check, Finds}
+use Rattle.walks.proofs.Numbers.{end-of, reads-of}
+use Rattle.walks.proofs.Story.{answer-at, end-below, first-hit-is}
+use Rattle.routes.specs.declared.Route.{Route}
+use Rattle.routes.specs.Route.{RouteOf, Planned, HasByte}
+use Rattle.routes.proofs.Spots.{spot-byte, place-within}
+use Rattle.routes.proofs.Accepting.{of-route, answer-fine, answer-refused}
+use Rattle.hits.specs.declared.Stop.{Stop}
+use Rattle.hits.specs.Found.{going, Stops}
+use Rattle.hits.specs.Answer.{answer-from}
+use Rattle.hits.proofs.Stops.{stop-answers}
+
+-- the cell where a walk stopped has a byte
+pub stop-byte : (w : Walker) (l : List ℕ) (k : Route) → Planned (length l) k → (s : Stop) → Stops l k (going l k w) s → HasByte (length l) (s .spot .at)
+stop-byte w l k plan s stops = spot-byte _ k plan _ _ (place-within _ k plan _ (end-below (k .n) l (k .p) (k .q) w)) (stops .spot)
+
+module _ (w : Walker) (n : Counts) (l : List ℕ) (p q : Cell) where
+  pub refused-finds : {r : Refusal} → walk-check n (length l) p q ≡ Refused r → Finds w n l p q (NotWalked r)
+  refused-finds h = record { says = answer-refused _ _ h ∙ sym (first-hit-is n l p q w) }
+
+  pub stop-finds :
+      (k : Route) → Planned (length l) k → (s : Stop) → Stops l k (going l k w) s → walk-check n (length l) p q ≡ Fine → RouteOf n p q k → {a : FirstHit} →
+      a ≡ answer-from l k s → Finds w n l p q a
+  stop-finds k plan s stops fine route is =
+      record {
+        says =
+            is ∙ stop-answers _ k plan l _ _ _ (end-below (k .n) l (k .p) (k .q) w) stops
+            ∙ of-route _ _ _ _ route (λ m c d. answer-at m l c d (end-of m l c d w) (reads-of m l c d w))
+            ∙ answer-fine _ fine ∙ sym (first-hit-is n l p q w);
+      }
