@@ -1,4 +1,4 @@
--- What document 01 says of a refusal tells which refusal it is: `told` has a left inverse. Assumes nothing.
+-- What document 01 says of a refusal tells which refusal it is: `told` has a left inverse; and so has `told-verdict`. Assumes nothing.
 use Prim.Native.Nat.{ℕ}
 use mathlib.Core.Path.{_≡_, refl, sym, ap, _∙_}
 use mathlib.Core.Bool.{Bool, cond}
@@ -9,7 +9,9 @@ use Rattle.cells.specs.declared.Axis.{Axis}
 use Rattle.cells.specs.declared.End.{End}
 use Rattle.cells.specs.declared.Refusal.{Refusal}
 use Rattle.cells.specs.declared.Refusal.the-variants.{Limit, Count, Bytes, Layer, OffGrid, Room, Placement, NotFinite, OffSurvey, Record, Version}
-use Rattle.cells.specs.Refusals.{Told, told}
+use Rattle.cells.specs.declared.Verdict.{Verdict}
+use Rattle.cells.specs.declared.Verdict.the-variants.{Fine, Refused}
+use Rattle.cells.specs.Refusals.{Told, told, told-verdict}
 
 -- a case that says an end and an axis
 abbrev both : (End → Axis → Refusal) → Option End → Option Axis → Option Refusal
@@ -62,3 +64,14 @@ untold-by refused answered (inr v) = some (answered v)
 -- so two refusals that say the same are the same
 pub told-one : (r s : Refusal) → told r ≡ told s → r ≡ s
 told-one = apart told untold told-back
+
+-- and two verdicts
+abbrev untold-verdict : Told ⊎ Unit {0} → Option Verdict
+untold-verdict = untold-by Refused (λ u. Fine)
+
+pub told-verdict-back : (v : Verdict) → untold-verdict (told-verdict v) ≡ some v
+told-verdict-back (Refused r) = ap (Option·map Refused) (told-back r)
+told-verdict-back Fine = refl
+
+pub told-verdict-one : (a b : Verdict) → told-verdict a ≡ told-verdict b → a ≡ b
+told-verdict-one = apart told-verdict untold-verdict told-verdict-back

@@ -1,12 +1,15 @@
 -- Document 01, "Refusal numbers": each refusal's number, and what it says with it: which end, which axis, which of the four parts of a
--- placement. Assumes nothing.
+-- placement; and each case of a verdict. Assumes nothing.
 use Prim.Native.Nat.{ℕ}
+use mathlib.Core.Logic.{_⊎_, inl, inr}
 use mathlib.Core.Option.{Option, none, some}
 use Rattle.cells.specs.declared.Axis.{Axis}
 use Rattle.cells.specs.declared.End.{End}
 use Rattle.cells.specs.declared.Part.{Part}
 use Rattle.cells.specs.declared.Refusal.{Refusal}
 use Rattle.cells.specs.declared.Refusal.the-variants.{Limit, Count, Bytes, Layer, OffGrid, Room, Placement, NotFinite, OffSurvey, Record, Version}
+use Rattle.cells.specs.declared.Verdict.{Verdict}
+use Rattle.cells.specs.declared.Verdict.the-variants.{Fine, Refused}
 
 -- a refusal as document 01 has it: the number, and the details that it says
 pub record Told : Type 0 where
@@ -36,3 +39,8 @@ told (NotFinite e a) = at-end 8 e a
 told (OffSurvey e a) = at-end 9 e a
 told Record = alone 10
 told Version = alone 11
+
+-- each case of a verdict: what is said of a refusal, or nothing but that it is fine
+abbrev pub told-verdict : Verdict → Told ⊎ Unit {0}
+told-verdict (Refused r) = inl (told r)
+told-verdict Fine = inr tt

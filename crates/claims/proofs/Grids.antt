@@ -8,13 +8,14 @@ use lib.ListN.{length, getD}
 use Rattle.cells.specs.declared.Counts.{Counts}
 use Rattle.cells.specs.declared.Verdict.{Verdict}
 use Rattle.cells.specs.declared.Verdict.the-variants.{Fine, Refused}
+use Rattle.cells.proofs.Refusals.{told-verdict-one}
 use Rattle.grids.specs.declared.LayerPart.{LayerPart}
 use Rattle.grids.specs.declared.LayerPart.the-variants.{Part, Refused as NoPart}
 use Rattle.grids.specs.declared.Completeness.{Completeness}
 use Rattle.grids.specs.declared.Completeness.the-variants.{Yes, No}
 use Rattle.grids.specs.Grid.{shape, index, layer-part, layer}
 use Rattle.grids.specs.Marks.{after-marking, marked, complete, completeness, Marks}
-use Rattle.grids.proofs.Answers.{verdict-one, part-one, completeness-one}
+use Rattle.grids.proofs.Told.{told-part-one, told-completeness-one}
 use Rattle.grids.proofs.Shapes.{Shaped, shaped}
 use Rattle.grids.proofs.Layers.{layer-empty, layer-long, layer-own}
 use Rattle.grids.proofs.Places.{cell-at-index, index-of-cell, index-below, x-below, y-below, z-below}
@@ -36,7 +37,7 @@ one-answer =
     }
 
 pub one-to-one : OneToOne
-one-to-one = record { of-verdict = verdict-one; of-part = part-one; of-completeness = completeness-one }
+one-to-one = record { of-verdict = told-verdict-one; of-part = told-part-one; of-completeness = told-completeness-one }
 
 pub places : (n : Counts) (bytes : ℕ) → shape n bytes ≡ Fine → Places n bytes
 places n bytes fine =

@@ -2,16 +2,16 @@
 use Prim.Native.Nat.{ℕ, _≤_}
 use mathlib.Core.Path.{_≡_, refl, sym, ap, subst, _∙_}
 use mathlib.Core.Bool.{false}
-use mathlib.Core.Option.{none, some}
+use mathlib.Core.Logic.{_⊎_, inl, inr}
 use native.Mathlib.Omega.{arith}
-use lib.IntN.{ℤ, pos}
+use lib.IntN.{ℤ, pos, natAbs}
 use lib.Ieee.{Float, le, lt, ofInt, div, sub, neg, toBits}
 use Rattle.cells.specs.declared.Cell as cell
 use Rattle.cells.specs.declared.Counts.{Counts}
 use Rattle.cells.specs.declared.End.the-variants.{P}
 use Rattle.cells.specs.declared.Axis.{Axis}
 use Rattle.cells.specs.declared.Axis.the-variants.{X, Y, Z}
-use Rattle.cells.specs.Refusals.{at-end}
+use Rattle.cells.specs.Refusals.{Told, at-end}
 use Rattle.cells.specs.Touching.{on}
 use Rattle.lines.proofs.Cells.{same-cell}
 use Rattle.sights.specs.declared.Lookup.the-variants.{Cell}
@@ -19,19 +19,18 @@ use Rattle.sights.specs.declared.Placement.{Placement}
 use Rattle.sights.specs.declared.Point.{Point}
 use Rattle.sights.specs.Quotient.{outside, cell-number}
 use Rattle.sights.specs.Search.{Inside}
-use Rattle.sights.specs.Survey.{Tested, quotients, cell-at, cell-of}
-use Rattle.sights.specs.Answers.{Said, said}
+use Rattle.sights.specs.Survey.{Tested, quotients, cell-at, cell-of, told-lookup}
 use Rattle.sights.proofs.Whole.{whole-exact}
 use Rattle.sights.proofs.Finite.{quotient-no-nan}
 use Rattle.sights.proofs.Numbers.{one-number, number-whole-part, number-found, number-in, cell-not-outside, outside-exactly}
 use Rattle.grids.proofs.Shapes.{Counted, counted}
 use Rattle.sights.proofs.Survey.{placed, point-fine}
 use Rattle.sights.proofs.Lookups.{cell-given, cell-found}
-use Rattle.sights.proofs.Answers.{said-one}
+use Rattle.sights.proofs.Told.{told-lookup-one}
 use Rattle.claims.specs.Points.{OneAnswer, Coordinate, InItsCell, Finite, TheCell, Outside, Exact, Shares, Refuted, Every, table, cube, placement, metres, tenths, point, cell-is, refused}
 
 pub one-answer : (n : Counts) (at : Placement) (p : Point) → OneAnswer n at p
-one-answer n at p = record { alone = λ r s e f. e ∙ sym f; told-apart = λ r e. said-one r (cell-of n at p) e }
+one-answer n at p = record { alone = λ r s e f. e ∙ sym f; told-apart = λ r. told-lookup-one r (cell-of n at p) }
 
 -- ---- the cell
 
@@ -110,28 +109,23 @@ unfolding cell-of le lt ofInt div sub neg
 surveyed = (refl, (refl, (refl, (refl, (refl, (refl, (refl, (refl, (refl, (refl, (refl, (refl, (refl, (refl, (refl, (refl, (refl, tt)))))))))))))))))
 
 -- what the definition says at the two inputs
-at-one-and-a-half : said (cell-of (cube 4) (placement (metres 0) (metres 1)) (point (tenths 15) (metres 0) (metres 0))) ≡ cell-is 1 0 0
+at-one-and-a-half : told-lookup (cell-of (cube 4) (placement (metres 0) (metres 1)) (point (tenths 15) (metres 0) (metres 0))) ≡ cell-is 1 0 0
 unfolding cell-of le lt ofInt div sub
 at-one-and-a-half = refl
 
-at-the-count : said (cell-of (cube 4) (placement (metres 0) (metres 1)) (point (metres 4) (metres 0) (metres 0))) ≡ refused (at-end 9 P X)
+at-the-count : told-lookup (cell-of (cube 4) (placement (metres 0) (metres 1)) (point (metres 4) (metres 0) (metres 0))) ≡ refused (at-end 9 P X)
 unfolding cell-of le lt ofInt div sub
 at-the-count = refl
 
--- the x of an answer's cell, and whether there is one
-x-of : Said → ℤ
-x-of s = elim (s .cell) [ some c ↦ c .x | none ↦ pos 0 ]
-
-is-cell : Said → ℕ
-is-cell s = elim (s .cell) [ some c ↦ 1 | none ↦ 0 ]
+-- the x of an answer's cell, 0 where there is none
+x-of : Told ⊎ cell.Cell → ℕ
+x-of (inl t) = 0
+x-of (inr c) = natAbs (c .x)
 
 pub refuted : Refuted
-unfolding x-of is-cell
+unfolding x-of
 refuted =
     record {
-      always-first-cell = λ e. apart (ap x-of (sym at-one-and-a-half ∙ e));
-      count-accepted = λ e. let z : _≡_ {A = ℕ} 0 1 = ap is-cell (sym at-the-count ∙ e) in omega arith;
+      always-first-cell = λ e. let z : _≡_ {A = ℕ} 1 0 = ap x-of (sym at-one-and-a-half ∙ e) in omega arith;
+      count-accepted = λ e. let z : _≡_ {A = ℕ} 0 3 = ap x-of (sym at-the-count ∙ e) in omega arith;
     }
-  where
-    apart : pos 1 ≡ pos 0 → ⊥
-    apart e = let z : _≡_ {A = ℕ} 1 0 = cc in omega arith

@@ -12,15 +12,15 @@ use Rattle.cells.specs.declared.Refusal.{Refusal}
 use Rattle.cells.specs.declared.Refusal.the-variants.{Bytes}
 use Rattle.cells.specs.declared.Verdict.{Verdict}
 use Rattle.cells.specs.declared.Verdict.the-variants.{Fine, Refused}
+use Rattle.cells.specs.Refusals.{told-verdict}
 use Rattle.cells.specs.Touching.{Touches}
 use Rattle.grids.specs.declared.LayerPart.{LayerPart}
 use Rattle.grids.specs.declared.LayerPart.the-variants.{Part, Refused as NoPart}
 use Rattle.grids.specs.declared.Completeness.{Completeness}
 use Rattle.grids.specs.declared.Completeness.the-variants.{Yes, No}
-use Rattle.grids.specs.Grid.{size, shape, index, cell-at, clear, solid, layer-part, layer}
-use Rattle.grids.specs.Marks.{marked, complete, completeness, Marks}
+use Rattle.grids.specs.Grid.{size, shape, index, cell-at, clear, solid, layer-part, layer, told-part}
+use Rattle.grids.specs.Marks.{marked, complete, completeness, Marks, told-completeness}
 use Rattle.claims.specs.Starred.{at}
-use Rattle.grids.specs.Answers.{said-verdict, said-part, said-completeness}
 
 -- 1. Each call's contract admits one answer, and marking one final memory, for each input; of a returned layer the contents.
 pub record OneAnswer : Type 0 where
@@ -32,9 +32,9 @@ pub record OneAnswer : Type 0 where
 
 -- 2. What an answer says, as document 01 has it, tells which answer it is.
 pub record OneToOne : Type 0 where
-  pub of-verdict : (a b : Verdict) → said-verdict a ≡ said-verdict b → a ≡ b
-  pub of-part : (a b : LayerPart) → said-part a ≡ said-part b → a ≡ b
-  pub of-completeness : (a b : Completeness) → said-completeness a ≡ said-completeness b → a ≡ b
+  pub of-verdict : (a b : Verdict) → told-verdict a ≡ told-verdict b → a ≡ b
+  pub of-part : (a b : LayerPart) → told-part a ≡ told-part b → a ≡ b
+  pub of-completeness : (a b : Completeness) → told-completeness a ≡ told-completeness b → a ≡ b
 
 -- the cell (x, y, z) lies inside the grid
 abbrev pub Inside : Counts → ℕ → ℕ → ℕ → Type 0

@@ -2,7 +2,7 @@
 use Prim.Native.Nat.{ℕ, _^_, _≤_, _<_}
 use mathlib.Core.Path.{_≡_}
 use mathlib.Core.Bool.{true, false}
-use mathlib.Core.Logic.{_↔_}
+use mathlib.Core.Logic.{_↔_, _⊎_, inl, inr}
 use mathlib.Core.List.{List, [], _∷_}
 use mathlib.Core.Option.{none, some}
 use lib.IntN.{ℤ, pos, negsuc}
@@ -22,13 +22,12 @@ use Rattle.sights.specs.declared.Lookup.the-variants.{Cell}
 use Rattle.sights.specs.declared.Placement.{Placement}
 use Rattle.sights.specs.declared.Point.{Point}
 use Rattle.sights.specs.Quotient.{whole, outside, in-cell, share-of}
-use Rattle.sights.specs.Survey.{Tested, quotients, cell-of}
-use Rattle.sights.specs.Answers.{Said, said}
+use Rattle.sights.specs.Survey.{Tested, quotients, cell-of, told-lookup}
 
 -- 1. One answer for each input; and what document 01 has for an answer tells which it is.
 pub record OneAnswer (n : Counts) (at : Placement) (p : Point) : Type 0 where
   pub alone : (r s : Lookup) → r ≡ cell-of n at p → s ≡ cell-of n at p → r ≡ s
-  pub told-apart : (r : Lookup) → said r ≡ said (cell-of n at p) → r ≡ cell-of n at p
+  pub told-apart : (r : Lookup) → told-lookup r ≡ told-lookup (cell-of n at p) → r ≡ cell-of n at p
 
 -- 2. On one axis: the coordinate z is a whole number k below the count with k ≤ q < k+1, and no other whole number (up to 2^53) is.
 -- It is q's whole part.
@@ -99,25 +98,25 @@ abbrev pub point : Float → Float → Float → Point
 point x y z = record { x = x; y = y; z = z }
 
 -- what an answer says: the cell (x, y, z), or a refusal
-abbrev pub cell-is : ℕ → ℕ → ℕ → Said
-cell-is x y z = record { cell = some (record { x = pos x; y = pos y; z = pos z }); refusal = none }
+abbrev pub cell-is : ℕ → ℕ → ℕ → Told ⊎ cell.Cell
+cell-is x y z = inr (record { x = pos x; y = pos y; z = pos z })
 
-abbrev pub refused : Told → Said
-refused t = record { cell = none; refusal = some t }
+abbrev pub refused : Told → Told ⊎ cell.Cell
+refused = inl
 
-abbrev pub count-refused : Axis → Said
+abbrev pub count-refused : Axis → Told ⊎ cell.Cell
 count-refused a = refused (record { number = 2; end = none; axis = some a; part = none })
 
-abbrev pub placement-refused : Part → Said
+abbrev pub placement-refused : Part → Told ⊎ cell.Cell
 placement-refused p = refused (record { number = 7; end = none; axis = none; part = some p })
 
 -- a row: counts, placement, point, and what the answer says
 pub data Row : Type 0 where
-  row : Counts → Placement → Point → Said → Row
+  row : Counts → Placement → Point → Told ⊎ cell.Cell → Row
 
 -- what a row claims
 abbrev pub Holds : Row → Type 0
-Holds (row n at p says) = said (cell-of n at p) ≡ says
+Holds (row n at p says) = told-lookup (cell-of n at p) ≡ says
 
 -- every row of a table holds
 abbrev pub Every : List Row → Type 0
@@ -152,5 +151,5 @@ table =
 
 -- "always cell 0", at 1.5 m; "q equal to the count is accepted", at 4 m of 4 cells
 pub record Refuted : Type 0 where
-  pub always-first-cell : said (cell-of (cube 4) (placement (metres 0) (metres 1)) (point (tenths 15) (metres 0) (metres 0))) ≡ cell-is 0 0 0 → ⊥
-  pub count-accepted : said (cell-of (cube 4) (placement (metres 0) (metres 1)) (point (metres 4) (metres 0) (metres 0))) ≡ cell-is 3 0 0 → ⊥
+  pub always-first-cell : told-lookup (cell-of (cube 4) (placement (metres 0) (metres 1)) (point (tenths 15) (metres 0) (metres 0))) ≡ cell-is 0 0 0 → ⊥
+  pub count-accepted : told-lookup (cell-of (cube 4) (placement (metres 0) (metres 1)) (point (metres 4) (metres 0) (metres 0))) ≡ cell-is 3 0 0 → ⊥

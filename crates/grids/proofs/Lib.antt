@@ -1,4 +1,4 @@
-pub mod Answers
+pub mod Told
 pub mod Any
 pub mod Shapes
 pub mod Layers

@@ -2,6 +2,7 @@
 use Prim.Native.Nat.{ℕ, _+_, _*_, _/_, _%_}
 use mathlib.Core.Bool.{Bool, not, _||_}
 use mathlib.Core.List.{List, []}
+use mathlib.Core.Logic.{_⊎_, inl, inr}
 use lib.Dec.{ltb, eqb}
 use lib.IntN.{ℤ, pos, natAbs}
 use lib.Signed.{ltZ, leZ}
@@ -13,6 +14,7 @@ use Rattle.cells.specs.declared.Refusal.the-variants.{Count, Bytes, Layer}
 use Rattle.cells.specs.declared.Verdict.{Verdict}
 use Rattle.cells.specs.declared.Verdict.the-variants.{Fine, Refused}
 use Rattle.cells.specs.Checks.{refuse-when, _then_}
+use Rattle.cells.specs.Refusals.{Told, told}
 use Rattle.grids.specs.declared.LayerPart.{LayerPart}
 use Rattle.grids.specs.declared.LayerPart.the-variants.{Part, Refused as NoPart}
 
@@ -82,6 +84,11 @@ part-by (Refused r) n z = NoPart r
 unfoldable pub layer-part : Counts → ℕ → ℤ → LayerPart
 unfolding layer-check
 layer-part n bytes z = part-by (layer-check n bytes z) n z
+
+-- each case of the answer: what is said of a refusal, or the part's offset and length
+abbrev pub told-part : LayerPart → Told ⊎ (ℕ × ℕ)
+told-part (NoPart r) = inl (told r)
+told-part (Part start long) = inr (start, long)
 
 -- the layer itself: the caller's own nx·ny bytes from z·nx·ny on, or the empty part
 abbrev pub bytes-of : LayerPart → List ℕ → List ℕ

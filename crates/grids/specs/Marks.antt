@@ -4,11 +4,13 @@ use Prim.Native.Nat.{ℕ, zero, suc}
 use mathlib.Core.Bool.{Bool, true, false, cond, not, _&&_, _||_}
 use mathlib.Core.Path.{_≡_}
 use mathlib.Core.List.{List, [], _∷_, _++_}
+use mathlib.Core.Logic.{_⊎_, inl, inr}
 use lib.ListN.{length, getD}
 use Rattle.cells.specs.declared.Cell.{Cell}
 use Rattle.cells.specs.declared.Counts.{Counts}
 use Rattle.cells.specs.declared.Verdict.{Verdict}
 use Rattle.cells.specs.declared.Verdict.the-variants.{Fine, Refused}
+use Rattle.cells.specs.Refusals.{Told, told}
 use Rattle.cells.specs.Touching.{touching}
 use Rattle.grids.specs.declared.Completeness.{Completeness}
 use Rattle.grids.specs.declared.Completeness.the-variants.{Yes, No, Refused as NotAsked}
@@ -60,6 +62,12 @@ completeness-by (Refused r) n l = NotAsked r
 unfoldable pub completeness : Counts → List ℕ → Completeness
 unfolding shape
 completeness n l = completeness-by (shape n (length l)) n l
+
+-- each case of the answer: what is said of a refusal, or whether the marks are complete
+abbrev pub told-completeness : Completeness → Told ⊎ Bool
+told-completeness (NotAsked r) = inl (told r)
+told-completeness Yes = inr true
+told-completeness No = inr false
 
 -- ---- the contract of the marking call: one answer, one final memory
 

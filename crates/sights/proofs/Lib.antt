@@ -5,4 +5,4 @@ pub mod Finite
 pub mod Numbers
 pub mod Survey
 pub mod Lookups
-pub mod Answers
+pub mod Told

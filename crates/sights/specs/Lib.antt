@@ -1,4 +1,3 @@
 pub mod Quotient
 pub mod Search
 pub mod Survey
-pub mod Answers

@@ -2,6 +2,7 @@
 use Prim.Native.Nat.{ℕ}
 use mathlib.Core.Path.{_≡_}
 use mathlib.Core.Bool.{Bool, not, _||_}
+use mathlib.Core.Logic.{_⊎_, inl, inr}
 use lib.IntN.{pos}
 use lib.Ieee.{Float, lt}
 use lib.Ieee.Scale.{finite}
@@ -16,6 +17,7 @@ use Rattle.cells.specs.declared.Refusal.the-variants.{NotFinite, OffSurvey, Pla
 use Rattle.cells.specs.declared.Verdict.{Verdict}
 use Rattle.cells.specs.declared.Verdict.the-variants.{Fine, Refused as Fails}
 use Rattle.cells.specs.Checks.{refuse-when, _then_}
+use Rattle.cells.specs.Refusals.{Told, told}
 pub use Rattle.grids.specs.Grid.{count-check}
 use Rattle.sights.specs.declared.Placement.{Placement}
 use Rattle.sights.specs.declared.Point.{Point}
@@ -78,3 +80,8 @@ look-up e n at p = passed (point-check e n p (quotients at p)) (Cell (cell-at n 
 unfoldable pub cell-of : Counts → Placement → Point → Lookup
 unfolding count-check placement-check look-up
 cell-of n at p = passed (count-check n then placement-check at) (look-up P n at p)
+
+-- each case of the answer: what is said of a refusal, or the cell
+abbrev pub told-lookup : Lookup → Told ⊎ cell.Cell
+told-lookup (Refused r) = inl (told r)
+told-lookup (Cell c) = inr c
