@@ -2,10 +2,11 @@
 -- n ≤ q < n + 1 is the whole part of q.
 -- Assumes nothing.
 use mathlib.Core.Path.{_≡_, sym, ap, _∙_, subst}
-use Prim.Native.Nat.{ℕ, zero, suc, _+_, _-_, _*_, _/_, _^_, _≤_, _<_, min}
+use Prim.Native.Nat.{ℕ, zero, suc, _+_, _-_, _*_, _^_, _≤_, _<_, min}
 use native.Mathlib.Nat.{mul-one, mul-right-comm, le-of-mul-le-mul-right, lt-of-mul-lt-mul-right, div-eq-of-lt-le, min-eq-left}
 use native.Mathlib.Omega.{arith}
 use mathlib.Core.Bool.{true, false, not, true≢false}
+use lib.IntN.{ℤ}
 use lib.Dec.{T, eqb, ltb→lt, eqb→eq}
 use lib.Ieee.{Float, nan, inf, fin, binary64, up, down, lt, le, ofInt, toUnsigned, isNan}
 use lib.Ieee.Exact.{HasValue}
@@ -60,38 +61,58 @@ above-zero p zero de dd v h =
     omega arith
 above-zero p (suc n) de dd v h = omega arith
 
--- ---- x is a, y is b, and x ≤ q < y
-valued-ordered : (x y q : Float) (a b : ℕ) → HasValue x false a 1 → HasValue y false b 1 → T (le x q) → T (lt q y) → a < b
+-- ---- a ≤ q < b
+
+-- what that says of q: it is minus zero, and a is 0; or it is k times 2 to the d, between a and b
+data Between (a b : ℕ) : Float → Type 0 where
+  minus-zero : {k : ℕ} {d : ℤ} → a ≡ 0 → 0 < b → Between a b (fin true k d)
+  number : {k : ℕ} {d : ℤ} → a * down d ≤ k * up d → k * up d < b * down d → Between a b (fin false k d)
+
+-- x is a, y is b, and x ≤ q < y
+between : (x y q : Float) (a b : ℕ) → HasValue x false a 1 → HasValue y false b 1 → T (le x q) → T (lt q y) → Between a b q
 unfolding le lt
-valued-ordered nan y q a b v w h k = absurd v
-valued-ordered (inf s) y q a b v w h k = absurd v
-valued-ordered (fin true m e) y q a b v w h k = absurd (true≢false (v .0))
-valued-ordered (fin false m e) nan q a b v w h k = absurd w
-valued-ordered (fin false m e) (inf s) q a b v w h k = absurd w
-valued-ordered (fin false m e) (fin true m' e') q a b v w h k = absurd (true≢false (w .0))
-valued-ordered (fin false m e) (fin false m' e') nan a b v w h k = absurd h
-valued-ordered (fin false m e) (fin false m' e') (inf true) a b v w h k = absurd h
-valued-ordered (fin false m e) (fin false m' e') (inf false) a b v w h k = absurd k
-valued-ordered (fin false m e) (fin false m' e') (fin true n d) a b v w h k =
+between nan y q a b v w h k = absurd v
+between (inf s) y q a b v w h k = absurd v
+between (fin true m e) y q a b v w h k = absurd (true≢false (v .0))
+between (fin false m e) nan q a b v w h k = absurd w
+between (fin false m e) (inf s) q a b v w h k = absurd w
+between (fin false m e) (fin true m' e') q a b v w h k = absurd (true≢false (w .0))
+between (fin false m e) (fin false m' e') nan a b v w h k = absurd h
+between (fin false m e) (fin false m' e') (inf true) a b v w h k = absurd h
+between (fin false m e) (fin false m' e') (inf false) a b v w h k = absurd k
+between (fin false m e) (fin false m' e') (fin true n d) a b v w h k =
     -- q is minus zero, so a is 0 and b is above it
     let A = m * up e * down d in
     let B = n * up d * down e in
     let az : A ≡ 0 = eqb→eq A 0 (and-r (eqb A B) (eqb A 0) h) in
-    let bz : n * up d * down e ≡ 0 = sym (eqb→eq A B (and-l (eqb A B) (eqb A 0) h)) ∙ az in
-    let z : a ≡ 0 = zero-whole (m * up e) a (down e) (down d) (down-pos e) (down-pos d) (v .1) az in
+    let bz : B ≡ 0 = sym (eqb→eq A B (and-l (eqb A B) (eqb A 0) h)) ∙ az in
     let nz : n * up d * down e' ≡ 0 = no-product (n * up d) (down e) (down e') (down-pos e) bz in
     let s : 0 < n * up d * down e' + m' * up e' * down d = ltb→lt 0 (n * up d * down e' + m' * up e' * down d) k in
-    let p : 0 < m' * up e' * down d = omega arith in
-    let g : 0 < b = above-zero (m' * up e') b (down e') (down d) (w .1) p in
-    omega arith
-valued-ordered (fin false m e) (fin false m' e') (fin false n d) a b v w h k =
-    let l : a * down d ≤ n * up d = low-side (m * up e) a (down e) (down d) (n * up d) (down-pos e) (v .1) (test-at-most (m * up e * down d) (n * up d * down e) h) in
-    let g : n * up d < b * down d = high-side (m' * up e') b (down e') (down d) (n * up d) (w .1) (ltb→lt (n * up d * down e') (m' * up e' * down d) k) in
-    lt-of-mul-lt-mul-right (down d) (omega arith)
+    minus-zero (zero-whole (m * up e) a (down e) (down d) (down-pos e) (down-pos d) (v .1) az) (above-zero (m' * up e') b (down e') (down d) (w .1) (omega arith))
+between (fin false m e) (fin false m' e') (fin false n d) a b v w h k =
+    number
+    (low-side (m * up e) a (down e) (down d) (n * up d) (down-pos e) (v .1) (test-at-most (m * up e * down d) (n * up d * down e) h))
+    (high-side (m' * up e') b (down e') (down d) (n * up d) (w .1) (ltb→lt (n * up d * down e') (m' * up e' * down d) k))
 
--- a ≤ q < b
+whole-between : (q : Float) (a b : ℕ) → a ≤ 2 ^ 53 → b ≤ 2 ^ 53 → le (whole a) q ≡ true → lt q (whole b) ≡ true → Between a b q
+whole-between q a b r s h k = between (whole a) (whole b) q a b (whole-exact a r) (whole-exact b s) (true→T h) (true→T k)
+
+-- so a < b
+between-ordered : {q : Float} {a b : ℕ} → Between a b q → a < b
+between-ordered (minus-zero z p) = omega arith
+between-ordered (number {k} {d} l g) = lt-of-mul-lt-mul-right (down d) (omega arith)
+
 pub whole-ordered : (q : Float) (a b : ℕ) → a ≤ 2 ^ 53 → b ≤ 2 ^ 53 → le (whole a) q ≡ true → lt q (whole b) ≡ true → a < b
-whole-ordered q a b r s h k = valued-ordered (whole a) (whole b) q a b (whole-exact a r) (whole-exact b s) (true→T h) (true→T k)
+whole-ordered q a b r s h k = between-ordered (whole-between q a b r s h k)
+
+-- and n ≤ q < n + 1 makes n the whole part of q
+between-part : {q : Float} {n : ℕ} → n < 2 ^ 32 → Between n (n + 1) q → toUnsigned 32 q ≡ n
+unfolding toUnsigned
+between-part r (minus-zero z p) = sym z
+between-part r (number {k} {d} l h) = ap (λ (z : ℕ). min z (2 ^ 32 - 1)) (div-eq-of-lt-le (down d) l h) ∙ min-eq-left (omega arith)
+
+pub whole-part : (q : Float) (n : ℕ) → n < 2 ^ 32 → le (whole n) q ≡ true → lt q (whole (n + 1)) ≡ true → toUnsigned 32 q ≡ n
+whole-part q n r h k = between-part r (whole-between q n (n + 1) (omega arith) (omega arith) h k)
 
 -- a number that is not below n is at least n, and one that is not at least n is below n
 pub at-least : (q : Float) (n : ℕ) → n ≤ 2 ^ 53 → isNan q ≡ false → lt q (whole n) ≡ false → le (whole n) q ≡ true
@@ -99,27 +120,3 @@ at-least q n r p h = not-below (whole n) q (whole-no-nan n r) p h
 
 pub less-than : (q : Float) (n : ℕ) → n ≤ 2 ^ 53 → isNan q ≡ false → le (whole n) q ≡ false → lt q (whole n) ≡ true
 less-than q n r p h = not-at-most (whole n) q (whole-no-nan n r) p h
-
--- ---- n ≤ q < n + 1 makes n the whole part of q
-valued-part : (x y q : Float) (n : ℕ) → n < 2 ^ 32 → HasValue x false n 1 → HasValue y false (n + 1) 1 → T (le x q) → T (lt q y) → toUnsigned 32 q ≡ n
-unfolding le lt toUnsigned
-valued-part nan y q n r v w a b = absurd v
-valued-part (inf s) y q n r v w a b = absurd v
-valued-part (fin true m e) y q n r v w a b = absurd (true≢false (v .0))
-valued-part (fin false m e) nan q n r v w a b = absurd w
-valued-part (fin false m e) (inf s) q n r v w a b = absurd w
-valued-part (fin false m e) (fin true m' e') q n r v w a b = absurd (true≢false (w .0))
-valued-part (fin false m e) (fin false m' e') nan n r v w a b = absurd a
-valued-part (fin false m e) (fin false m' e') (inf true) n r v w a b = absurd a
-valued-part (fin false m e) (fin false m' e') (inf false) n r v w a b = absurd b
-valued-part (fin false m e) (fin false m' e') (fin true k d) n r v w a b =
-    sym (zero-whole (m * up e) n (down e) (down d) (down-pos e) (down-pos d) (v .1)
-    (eqb→eq (m * up e * down d) 0 (and-r (eqb (m * up e * down d) (k * up d * down e)) (eqb (m * up e * down d) 0) a)))
-valued-part (fin false m e) (fin false m' e') (fin false k d) n r v w a b =
-    let l : n * down d ≤ k * up d = low-side (m * up e) n (down e) (down d) (k * up d) (down-pos e) (v .1) (test-at-most (m * up e * down d) (k * up d * down e) a) in
-    let h : k * up d < (n + 1) * down d = high-side (m' * up e') (n + 1) (down e') (down d) (k * up d) (w .1) (ltb→lt (k * up d * down e') (m' * up e' * down d) b) in
-    let g : k * up d / down d ≡ n = div-eq-of-lt-le (down d) l h in
-    ap (λ (z : ℕ). min z (2 ^ 32 - 1)) g ∙ min-eq-left (omega arith)
-
-pub whole-part : (q : Float) (n : ℕ) → n < 2 ^ 32 → le (whole n) q ≡ true → lt q (whole (n + 1)) ≡ true → toUnsigned 32 q ≡ n
-whole-part q n r h k = valued-part (whole n) (whole (n + 1)) q n r (whole-exact n (omega arith)) (whole-exact (n + 1) (omega arith)) (true→T h) (true→T k)
