@@ -11,7 +11,7 @@ use borrow.Author.Tests.{ltb-false, eqb-true, eqb-false, not-false}
 use Rattle.cells.specs.declared.Refusal.the-variants.{Record, Version}
 use Rattle.cells.specs.declared.Verdict.{Verdict}
 use Rattle.cells.specs.declared.Verdict.the-variants.{Fine, Refused}
-use Rattle.cells.specs.Checks.{refuse-when}
+use Rattle.cells.specs.Checks.{refuse-when, _then_}
 use Rattle.grids.specs.Grid.{shape}
 use Rattle.cells.proofs.Checks.{fine-first, fine-rest, passed}
 use Rattle.records.specs.declared.Venue.{Venue}
@@ -31,6 +31,13 @@ head-most version = lit< tt
 pub pair-least : (version : ℕ) → 13 ≤ pair-length version
 unfolding pair-length
 pair-least version = lit< tt
+
+-- ---- tests in a row
+
+-- what follows a verdict counts only where it is fine
+pub then-same : (v : Verdict) {a b : Verdict} → (v ≡ Fine → a ≡ b) → (v then a) ≡ (v then b)
+then-same Fine h = h refl
+then-same (Refused r) h = refl
 
 -- ---- what is known of a record that was not refused
 
