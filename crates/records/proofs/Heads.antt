@@ -1,19 +1,19 @@
 -- How long the heads of the records are, and what an accepted record says of its bytes. Assumes nothing.
-use mathlib.Core.Path.{_≡_, refl, subst}
-use mathlib.Core.Bool.{true, not}
+use mathlib.Core.Path.{_≡_, refl, sym, _∙_, subst}
+use mathlib.Core.Bool.{Bool, true, false, cond, not}
 use mathlib.Core.List.{List}
 use Prim.Native.Nat.{ℕ, _+_, _≤_}
 use native.Mathlib.Nat.{pos-of-ne-zero}
 use native.Mathlib.Omega.{arith}
 use lib.Dec.{ltb, eqb, lit<}
 use lib.ListN.{length}
-use borrow.Author.Tests.{ltb-false, eqb-true, eqb-false, not-false}
+use borrow.Author.Tests.{le-ltb, ltb-false, eq-eqb, ne-eqb, eqb-true, eqb-false, not-false}
 use Rattle.cells.specs.declared.Refusal.the-variants.{Record, Version}
 use Rattle.cells.specs.declared.Verdict.{Verdict}
 use Rattle.cells.specs.declared.Verdict.the-variants.{Fine, Refused}
 use Rattle.cells.specs.Checks.{refuse-when, _then_}
 use Rattle.grids.specs.Grid.{shape}
-use Rattle.cells.proofs.Checks.{fine-first, fine-rest, passed}
+use Rattle.cells.proofs.Checks.{fine-first, fine-rest, each-fine, passed}
 use Rattle.records.specs.declared.Venue.{Venue}
 use Rattle.records.specs.declared.VenueRead.the-variants.{Read}
 use Rattle.records.specs.Records.{length-field, announced, version-of, whole, venue-version, venue-head, venue-in, venue-check, venue-by, venue-read, pair-version, pair-length, pair-check}
@@ -39,6 +39,12 @@ pub then-same : (v : Verdict) {a b : Verdict} → (v ≡ Fine → a ≡ b) → (
 then-same Fine h = h refl
 then-same (Refused r) h = refl
 
+-- four in a row, the last of them parted off
+then-four : (u v w x : Verdict) → (u then v then w then x) ≡ ((u then v then w) then x)
+then-four (Refused r) v w x = refl
+then-four Fine (Refused r) w x = refl
+then-four Fine Fine w x = refl
+
 -- ---- what is known of a record that was not refused
 
 pub record Whole (s : List ℕ) : Type 0 where
@@ -55,6 +61,63 @@ whole-is s e =
       there = ltb-false _ _ (passed _ _ past-zero);
     }
 
+-- the length as it is read: fewer than four bytes announce 0
+abbrev pub length-read : List ℕ → ℕ
+length-read s = cond (ltb (length s) length-field) 0 (announced s)
+
+pub read-whole : (s : List ℕ) → whole s ≡ Fine → length-read s ≡ announced s
+read-whole s e = let w = whole-is s e in rw (le-ltb (length s) length-field (omega arith))
+
+pub none-read : (s : List ℕ) → length-read s ≡ 0 → whole s ≡ Refused Record
+unfolding whole
+none-read s = go (ltb (length s) length-field)
+  where
+    go : (short : Bool) → cond short 0 (announced s) ≡ 0
+        → (refuse-when short Record then refuse-when (eqb (announced s) 0) Record then refuse-when (ltb (length s) (length-field + announced s)) Record) ≡ Refused Record
+    go true none = refl
+    go false none = rw (eq-eqb (announced s) 0 none)
+
+-- where some length was read, one test is left
+pub some-read : (s : List ℕ) → (length-read s ≡ 0 → ⊥) → whole s ≡ refuse-when (ltb (length s) (length-field + length-read s)) Record
+unfolding whole
+some-read s = go (ltb (length s) length-field)
+  where
+    go : (short : Bool) → (cond short 0 (announced s) ≡ 0 → ⊥)
+        → (refuse-when short Record then refuse-when (eqb (announced s) 0) Record then refuse-when (ltb (length s) (length-field + announced s)) Record)
+        ≡ refuse-when (ltb (length s) (length-field + cond short 0 (announced s))) Record
+    go true some = absurd (some refl)
+    go false some = rw (ne-eqb (announced s) 0 some)
+
+-- the tests that both kinds begin with
+abbrev pub head-tests : List ℕ → Bool → Bool → Verdict
+head-tests s known misfit = whole s then refuse-when (not known) Version then refuse-when misfit Record
+
+-- whether the length fits counts only in a record that is whole
+pub same-tests : (s : List ℕ) {a b c d : Bool} → a ≡ b → (whole s ≡ Fine → c ≡ d) → head-tests s a c ≡ head-tests s b d
+same-tests s {d = d} e h = then-same (whole s) (λ fine. rw (e, h fine))
+
+pub record Fits (s : List ℕ) (known misfit : Bool) : Type 0 where
+  pub there : length-field + announced s ≤ length s
+  pub version : known ≡ true
+  pub long : misfit ≡ false
+
+pub head-fits : (s : List ℕ) (known misfit : Bool) → head-tests s known misfit ≡ Fine → Fits s known misfit
+head-fits s known misfit e =
+    let past-whole = fine-rest (whole s) _ e in
+    record {
+      there = whole-is s (fine-first (whole s) _ e) .there;
+      version = not-false _ (passed _ _ (fine-first (refuse-when (not known) Version) _ past-whole));
+      long = passed _ _ (fine-rest (refuse-when (not known) Version) _ past-whole);
+    }
+
+-- a venue's tests: those of its head, then the shape
+abbrev pub venue-head-tests : List ℕ → Verdict
+venue-head-tests s = head-tests s (venue-version (version-of s)) (ltb (announced s) (venue-head (version-of s)))
+
+pub venue-tests : (s : List ℕ) → venue-check s ≡ (venue-head-tests s then shape (venue-in s .counts) (venue-in s .long))
+unfolding venue-check
+venue-tests s = then-four (whole s) (refuse-when (not (venue-version (version-of s))) Version) _ _
+
 pub record VenueWhole (s : List ℕ) : Type 0 where
   pub there : length-field + announced s ≤ length s
   pub version : venue-version (version-of s) ≡ true
@@ -62,16 +125,10 @@ pub record VenueWhole (s : List ℕ) : Type 0 where
   pub shaped : shape (venue-in s .counts) (venue-in s .long) ≡ Fine
 
 pub venue-whole : (s : List ℕ) → venue-check s ≡ Fine → VenueWhole s
-unfolding venue-check
 venue-whole s e =
-    let past-whole = fine-rest (whole s) _ e in
-    let past-version = fine-rest (refuse-when (not (venue-version (version-of s))) Version) _ past-whole in
-    record {
-      there = whole-is s (fine-first (whole s) _ e) .there;
-      version = not-false _ (passed _ _ (fine-first (refuse-when (not (venue-version (version-of s))) Version) _ past-whole));
-      head = ltb-false _ _ (passed _ _ (fine-first (refuse-when (ltb (announced s) (venue-head (version-of s))) Record) _ past-version));
-      shaped = fine-rest (refuse-when (ltb (announced s) (venue-head (version-of s))) Record) _ past-version;
-    }
+    let (head, shaped) = each-fine (venue-head-tests s) _ (sym (venue-tests s) ∙ e) in
+    let w = head-fits s (venue-version (version-of s)) _ head in
+    record { there = w .there; version = w .version; head = ltb-false _ _ (w .long); shaped = shaped }
 
 pub record PairWhole (s : List ℕ) : Type 0 where
   pub there : length-field + announced s ≤ length s
@@ -79,13 +136,7 @@ pub record PairWhole (s : List ℕ) : Type 0 where
 
 pub pair-whole : (s : List ℕ) → pair-check s ≡ Fine → PairWhole s
 unfolding pair-check
-pair-whole s e =
-    let past-whole = fine-rest (whole s) _ e in
-    let past-version = fine-rest (refuse-when (not (pair-version (version-of s))) Version) _ past-whole in
-    record {
-      there = whole-is s (fine-first (whole s) _ e) .there;
-      long = eqb-true _ _ (not-false _ (passed _ _ past-version));
-    }
+pair-whole s e = let w = head-fits s (pair-version (version-of s)) _ e in record { there = w .there; long = eqb-true _ _ (not-false _ (w .long)) }
 
 -- ---- an accepted venue
 

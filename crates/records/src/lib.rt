@@ -1,7 +1,11 @@
 // Records read: venues and pairs. Big-endian; four bytes, the length of what follows, stand first, then the version.
 ghost use mathlib.Core.Path.{_≡_};
+ghost use mathlib.Core.Bool.{cond, not};
 ghost use Prim.Native.Nat.{_+_, _≤_, _<_};
+ghost use lib.Dec.{ltb};
 ghost use lib.ListN.{length};
+ghost use Rattle.cells.specs.declared.Refusal.the-variants.{Record, Version};
+ghost use Rattle.cells.specs.Checks.{refuse-when, _then_};
 ghost use Rattle.records.specs.Records.{signed, length-field, announced, version-of, whole, venue-version, venue-head, counts-at, venue-in, venue-check, venue-read, venue-cells, pair-version, pair-length, cell-in, pair-check, pair-read};
 use cells::Cell;
 use cells::Counts;
@@ -45,14 +49,29 @@ fn signed(v: u32) -> i32
 
 // ---- both records
 
+// The length that is announced, 0 where fewer than four bytes are there.
+fn announced(s: &[u8]) -> usize
+    ensures { λ r. ⌜ (r ≡ cond (ltb (length (now (s .entry))) length-field) 0 (announced (now (s .entry)))) × (r < 4294967296) ⌝ }
+{
+    if s.len() < 4 {
+        0
+    } else {
+        buffers::four_at(s, 0)
+    }
+}
+
+// The version, 0 where the record ends before it.
+fn version_of(s: &[u8]) -> u8
+    ensures { λ r. ⌜ r ≡ version-of (now (s .entry)) ⌝ }
+{
+    if s.len() < 5 { 0 } else { s[4] }
+}
+
 // Refusal 10 where the record is cut short.
 fn whole(s: &[u8]) -> Verdict
     ensures { λ r. ⌜ r ≡ whole (now (s .entry)) ⌝ }
 {
-    if s.len() < 4 {
-        return Verdict::Refused(Refusal::Record);
-    }
-    let long = buffers::four_at(s, 0);
+    let long = announced(s);
     if long == 0 {
         return Verdict::Refused(Refusal::Record);
     }
@@ -60,6 +79,23 @@ fn whole(s: &[u8]) -> Verdict
         return Verdict::Refused(Refusal::Record);
     }
     Verdict::Fine
+}
+
+// Refusal 10 where the record is cut short, 11 unless its version is known, 10 where its length does not fit.
+fn head_check(s: &[u8], known: bool, misfit: bool) -> Verdict
+    ensures { λ r. ⌜ r ≡ (whole (now (s .entry)) then refuse-when (not known) Version then refuse-when misfit Record) ⌝ }
+{
+    let v = whole(s);
+    let Verdict::Fine = v else {
+        return v;
+    };
+    if !known {
+        return Verdict::Refused(Refusal::Version);
+    }
+    if misfit {
+        return Verdict::Refused(Refusal::Record);
+    }
+    v
 }
 
 // ---- a venue
@@ -107,17 +143,15 @@ fn venue_in(s: &[u8]) -> Venue
 fn venue_check(s: &[u8]) -> Verdict
     ensures { λ r. ⌜ r ≡ venue-check (now (s .entry)) ⌝ }
 {
-    let v = whole(s);
+    let version = version_of(s);
+    let v = head_check(
+        s,
+        venue_version(version),
+        announced(s) < venue_head(version),
+    );
     let Verdict::Fine = v else {
         return v;
     };
-    let version = s[4];
-    if !venue_version(version) {
-        return Verdict::Refused(Refusal::Version);
-    }
-    if buffers::four_at(s, 0) < venue_head(version) {
-        return Verdict::Refused(Refusal::Record);
-    }
     let venue = venue_in(s);
     let counts = venue.counts;
     grids::shape(counts, venue.long)
@@ -174,18 +208,12 @@ fn cell_in(s: &[u8], at: usize) -> Cell
 fn pair_check(s: &[u8]) -> Verdict
     ensures { λ r. ⌜ r ≡ pair-check (now (s .entry)) ⌝ }
 {
-    let v = whole(s);
-    let Verdict::Fine = v else {
-        return v;
-    };
-    let version = s[4];
-    if !pair_version(version) {
-        return Verdict::Refused(Refusal::Version);
-    }
-    if buffers::four_at(s, 0) != pair_length(version) {
-        return Verdict::Refused(Refusal::Record);
-    }
-    v
+    let version = version_of(s);
+    head_check(
+        s,
+        pair_version(version),
+        announced(s) != pair_length(version),
+    )
 }
 
 // Reads a pair's record: P and Q. Bytes after the record are not looked at.

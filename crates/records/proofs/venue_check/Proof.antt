@@ -1,26 +1,37 @@
--- Each test is the definition's, in its order. Assumes nothing.
-use native.Mathlib.Omega.{arith}
-use mathlib.Core.Path.{_≡_, sym, _∙_}
-use Prim.Native.Nat.{_<_}
-use lib.ListN.{length}
+-- The tests of the head, and where they pass the shape. Assumes nothing.
+use mathlib.Core.Path.{_≡_, sym, ap, ap₂, _∙_}
+use lib.Dec.{ltb}
 use denote.Ref.{now}
-use borrow.Author.Tests.{lt-ltb, le-ltb, not-true, not-false}
-use Rattle.cells.specs.declared.Verdict.the-variants.{Fine}
-use Rattle.records.specs.Records.{whole, venue-check}
-use Rattle.records.proofs.Heads.{whole-is}
+use borrow.Author.Tests.{ltb-false}
+use Rattle.records.specs.Records.{version-of, venue-version, venue-head}
+use Rattle.records.proofs.Heads.{read-whole, same-tests, head-fits, venue-head-tests, venue-tests}
 use borrow.Author.Needs.{needs}
 use Rattle.records.proofs.venue_check.Statement.{statement}
 use Rattle.records.proofs.venue_check.Tie as tie
 
--- the record is not cut short
-opened : (c : tie.After-enum-told) → whole (now (c .before .before .before .before .args .s)) ≡ Fine
-opened c = sym (c .before .before .whole .ensures) ∙ c .enum-told .given .1
+-- what the head's tests answer
+tested : (c : tie.After-head-check) → c .head-check .result ≡ venue-head-tests (now (c .before .before .before .before .before .before .args .s))
+tested c =
+    let version = c .before .before .before .before .version-of .ensures in
+    let long = c .before .before .announced .ensures .0 in
+    c .head-check .ensures
+    ∙ same-tests _ (c .before .before .before .venue-version .ensures ∙ ap venue-version version)
+    (λ fine. ap₂ ltb (long ∙ read-whole _ fine) (c .before .venue-head .ensures ∙ ap venue-head version))
 
-five : (c : tie.After-enum-told) → 4 < length (now (c .before .before .before .before .args .s))
-five c = let w = whole-is _ (opened c) in omega arith
+version-of-requires : tie.Need-version-of-requires
+version-of-requires c κs = search needs
 
-whole-requires : tie.Need-whole-requires
-whole-requires c κs = search needs
+venue-version-requires : tie.Need-venue-version-requires
+venue-version-requires c κs = search needs
+
+announced-requires : tie.Need-announced-requires
+announced-requires c κs = search needs
+
+venue-head-requires : tie.Need-venue-head-requires
+venue-head-requires c κs = search needs
+
+head-check-requires : tie.Need-head-check-requires
+head-check-requires c κs = search needs
 
 enum-told : tie.Need-enum-told
 enum-told c = search needs
@@ -29,80 +40,35 @@ enum-told-2 : tie.Need-enum-told-2
 enum-told-2 c = search needs
 
 returns : tie.Need-returns
-unfolding venue-check
-returns c = let e = c .enum-told2 .given .1 in rw (sym (c .before .before .whole .ensures) ∙ e, e)
-
-shared-slice-read-version : tie.Need-shared-slice-read-version
-shared-slice-read-version c =
-    let h : 4 < length (now (c .before .before .before .before .before .args .s)) = five (c .before) in
-    search needs
-
-venue-version-requires : tie.Need-venue-version-requires
-venue-version-requires c κs = search needs
-
-returns-2 : tie.Need-returns-2
-unfolding venue-check
-returns-2 c = rw (opened (c .before .before .before), sym (c .before .venue-version .ensures) ∙ not-true _ (c .if1 .taken))
-
-four-at-requires : tie.Need-four-at-requires
-four-at-requires c κs = let h = five (c .before .before .before) in omega arith
-
-venue-head-requires : tie.Need-venue-head-requires
-venue-head-requires c κs = search needs
-
-returns-3 : tie.Need-returns-3
-unfolding venue-check
-returns-3 c =
-    let tested = c .before .before .before in
-    rw (
-      opened (tested .before .before .before),
-      sym (tested .before .venue-version .ensures) ∙ not-false _ (tested .if1 .left),
-      sym (c .before .before .four-at .ensures .0),
-      sym (c .before .venue-head .ensures),
-      lt-ltb _ _ (c .if2 .taken),
-    )
+returns c = let e = c .enum-told2 .given .1 in rw (venue-tests (now (c .before .before .before .before .before .before .before .before .args .s)), sym (tested (c .before .before)) ∙ e, e)
 
 venue-in-requires : tie.Need-venue-in-requires
 venue-in-requires c κs =
-    let tested = c .before .before .before in
-    let w = whole-is _ (opened (tested .before .before .before)) in
-    let long = c .before .before .four-at .ensures .0 in
-    let head = c .before .venue-head .ensures in
-    (w .there, omega arith)
+    let w = head-fits _ (venue-version (version-of (now (c .before .before .before .before .before .before .before .before .args .s)))) _ (sym (tested (c .before .before)) ∙ c .enum-told .given .1) in
+    (w .there, ltb-false _ _ (w .long))
 
 shape-requires : tie.Need-shape-requires
 shape-requires c κs = search needs
 
-returns-4 : tie.Need-returns-4
-unfolding venue-check
-returns-4 c =
+returns-2 : tie.Need-returns-2
+returns-2 c =
     let past = c .before .before .before in
-    let tested = past .before .before .before in
     let venue = c .before .before .venue-in .ensures in
     c .shape .ensures
-    ∙ rw (
-      venue,
-      opened (tested .before .before .before),
-      sym (tested .before .venue-version .ensures) ∙ not-false _ (tested .if1 .left),
-      sym (past .before .before .four-at .ensures .0),
-      sym (past .before .venue-head .ensures),
-      le-ltb _ _ (past .if2 .left),
-    )
+    ∙ rw (venue, venue-tests (now (past .before .before .before .before .before .before .before .before .args .s)), sym (tested (past .before .before)) ∙ past .enum-told .given .1)
 
 pub venue-check-spec : {M : Type 1} → statement M
 venue-check-spec =
     tie.close
     (tie.spec
-    whole-requires
+    version-of-requires
+    venue-version-requires
+    announced-requires
+    venue-head-requires
+    head-check-requires
     enum-told
     enum-told-2
     returns
-    shared-slice-read-version
-    venue-version-requires
-    returns-2
-    four-at-requires
-    venue-head-requires
-    returns-3
     venue-in-requires
     shape-requires
-    returns-4)
+    returns-2)

@@ -1,50 +1,43 @@
--- Each test is the definition's, in its order. Assumes nothing.
-use mathlib.Core.Path.{sym}
+-- Each test is the definition's, in its order: fewer than four bytes announce 0. Assumes nothing.
+use mathlib.Core.Path.{_≡_, sym, _∙_}
 use Prim.Native.Nat.{_+_}
 use native.Mathlib.Omega.{arith}
+use lib.Dec.{ltb}
 use lib.ListN.{length}
 use denote.Ref.{now}
-use borrow.Author.Tests.{lt-ltb, le-ltb, eq-eqb, ne-eqb}
+use borrow.Author.Tests.{lt-ltb, le-ltb}
+use Rattle.cells.specs.declared.Refusal.the-variants.{Record}
+use Rattle.cells.specs.Checks.{refuse-when}
 use Rattle.records.specs.Records.{whole}
+use Rattle.records.proofs.Heads.{none-read, some-read}
 use borrow.Author.Needs.{needs}
 use Rattle.records.proofs.whole.Statement.{statement}
 use Rattle.records.proofs.whole.Tie as tie
 
-returns : tie.Need-returns
-unfolding whole
-returns c = rw (lt-ltb _ _ (c .if1 .taken))
+announced-requires : tie.Need-announced-requires
+announced-requires c κs = search needs
 
-four-at-requires : tie.Need-four-at-requires
-four-at-requires c κs = search needs
+returns : tie.Need-returns
+returns c = sym (none-read _ (sym (c .before .announced .ensures .0) ∙ c .if1 .taken))
+
+add-if2 : tie.Need-add-if2
+add-if2 c = search needs
+
+-- the test that is left
+last-test : (c : tie.Else1) → whole (now (c .before .before .before .args .s)) ≡ refuse-when (ltb (length (now (c .before .before .before .args .s))) (4 + c .before .announced .result)) Record
+last-test c =
+    let read = c .before .announced .ensures .0 in
+    rw read (some-read _ (λ none. c .if1 .left (read ∙ none)))
 
 returns-2 : tie.Need-returns-2
-unfolding whole
-returns-2 c = rw (le-ltb _ _ (c .before .before .if1 .left), sym (c .before .four-at .ensures .0), eq-eqb _ _ (c .if2 .taken))
-
-add-if3 : tie.Need-add-if3
-add-if3 c = search needs
+returns-2 c =
+    let s = c .before .before .before .before .args .s in
+    rw (last-test (c .before), lt-ltb (length (now s)) (4 + c .before .before .announced .result) (omega arith))
 
 returns-3 : tie.Need-returns-3
-unfolding whole
 returns-3 c =
-    let s = c .before .before .before .before .before .args .s in
-    rw (
-      le-ltb _ _ (c .before .before .before .if1 .left),
-      sym (c .before .before .four-at .ensures .0),
-      ne-eqb _ _ (c .before .if2 .left),
-      lt-ltb (length (now s)) (4 + c .before .before .four-at .result) (omega arith),
-    )
-
-returns-4 : tie.Need-returns-4
-unfolding whole
-returns-4 c =
-    let s = c .before .before .before .before .before .args .s in
-    rw (
-      le-ltb _ _ (c .before .before .before .if1 .left),
-      sym (c .before .before .four-at .ensures .0),
-      ne-eqb _ _ (c .before .if2 .left),
-      le-ltb (length (now s)) (4 + c .before .before .four-at .result) (omega arith),
-    )
+    let s = c .before .before .before .before .args .s in
+    rw (last-test (c .before), le-ltb (length (now s)) (4 + c .before .before .announced .result) (omega arith))
 
 pub whole-spec : {M : Type 1} → statement M
-whole-spec = tie.close (tie.spec returns four-at-requires returns-2 add-if3 returns-3 returns-4)
+whole-spec = tie.close (tie.spec announced-requires returns add-if2 returns-2 returns-3)
