@@ -116,7 +116,11 @@ venue-head-tests s = head-tests s (venue-version (version-of s)) (ltb (announced
 
 pub venue-tests : (s : List ℕ) → venue-check s ≡ (venue-head-tests s then shape (venue-in s .counts) (venue-in s .long))
 unfolding venue-check
-venue-tests s = then-four (whole s) (refuse-when (not (venue-version (version-of s))) Version) _ _
+venue-tests s =
+    then-four (whole s)
+    (refuse-when (not (venue-version (version-of s))) Version)
+    (refuse-when (ltb (announced s) (venue-head (version-of s))) Record)
+    (shape (venue-in s .counts) (venue-in s .long))
 
 pub record VenueWhole (s : List ℕ) : Type 0 where
   pub there : length-field + announced s ≤ length s
