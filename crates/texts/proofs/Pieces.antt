@@ -17,12 +17,16 @@ then-puts {p} {q} {s} {at} fits first second =
     }
 
 -- a piece at the front is a line
-pub front-line : {p s : List ℕ} {c : ℕ} {l : List ℕ} → Puts p 0 s c l → PutsLine p s c l
+front-line : {p s : List ℕ} {c : ℕ} {l : List ℕ} → Puts p 0 s c l → PutsLine p s c l
 front-line {p} {s} h = record { says = h .says ∙ zero-add (length p); holds = h .holds ∙ over-front p s }
 
 -- the same piece, said otherwise
 pub same-piece : {p q : List ℕ} {at : ℕ} {s : List ℕ} {c : ℕ} {l : List ℕ} → p ≡ q → Puts p at s c l → Puts q at s c l
 same-piece {at = at} {s = s} {c = c} {l = l} e h = subst (λ (r : List ℕ). Puts r at s c l) e h
+
+-- the piece that ends a line
+pub ends-line : {p q l s m e : List ℕ} {b c : ℕ} → p ++ q ≡ l → b ≤ length s → Puts p 0 s b m → Puts q b m c e → PutsLine l s c e
+ends-line same fits first second = front-line (same-piece same (then-puts fits first second))
 
 -- ---- the lines, piece by piece
 
@@ -34,7 +38,7 @@ unfolding hit-line
 hit-pieces k w x y z code reads = simp append-assoc
 
 pub clear-pieces : (k : ℕ) (w : Walker) (reads : ℕ)
-    → parted (decimal k) ++ parted (letter w ∷ []) ++ parted clear-word ++ ended (decimal reads) ≡ clear-line k w reads
+    → parted (decimal k) ++ parted (letter w ∷ []) ++ (parted clear-word ++ ended (decimal reads)) ≡ clear-line k w reads
 unfolding clear-line
 clear-pieces k w reads = simp append-assoc
 

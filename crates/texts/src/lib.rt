@@ -3,7 +3,7 @@ ghost use mathlib.Core.Path.{_≡_};
 ghost use mathlib.Core.List.{[], _∷_, _++_};
 ghost use Prim.Native.Nat.{_+_, _≤_, _<_};
 ghost use lib.ListN.{length};
-ghost use Rattle.texts.specs.Text.{decimal, letter, refused-word, parted, ended, line-room, hit-line, clear-line, pair-refused-line, venue-refused-line, PutsLine, Puts};
+ghost use Rattle.texts.specs.Text.{decimal, letter, parted, ended, line-room, hit-line, clear-line, pair-refused-line, venue-refused-line, PutsLine, Puts};
 use walks::Walker;
 
 const SPACE: u8 = 32;
@@ -85,24 +85,24 @@ pub fn put_hit(
     put_number(out, coded, reads as u64, LINE_FEED)
 }
 
+// The last two fields of a line: a word, and the number that ends the line.
+fn put_last(out: &mut [u8], at: usize, word: &[u8], n: u32) -> usize
+    requires { ⌜ at + length (now word) + 21 < length (now out) ⌝ }
+    ensures { λ r. ⌜ Puts (parted (now (word .entry)) ++ ended (decimal n)) at (now (out .entry)) r (now (out .exit)) ⌝ }
+    ensures { λ r. ⌜ r ≤ at + length (now (word .entry)) + 22 ⌝ }
+{
+    let next = put_word(out, at, word, SPACE);
+    put_number(out, next, n as u64, LINE_FEED)
+}
+
 // `K A clear reads`, or with P.
 pub fn put_clear(out: &mut [u8], k: u64, w: Walker, reads: u32) -> usize
     requires { ⌜ line-room ≤ length (now out) ⌝ }
     ensures { λ r. ⌜ PutsLine (clear-line k w reads) (now (out .entry)) r (now (out .exit)) ⌝ }
     ensures { λ r. ⌜ r ≤ line-room ⌝ }
 {
-    let said = put_walk(out, k, w);
-    let clear = put_word(out, said, b"clear", SPACE);
-    put_number(out, clear, reads as u64, LINE_FEED)
-}
-
-// `refused N`, after what is refused.
-fn put_refused(out: &mut [u8], at: usize, number: u32) -> usize
-    requires { ⌜ at + 28 < length (now out) ⌝ }
-    ensures { λ r. ⌜ Puts (parted refused-word ++ ended (decimal number)) at (now (out .entry)) r (now (out .exit)) ⌝ }
-{
-    let refused = put_word(out, at, b"refused", SPACE);
-    put_number(out, refused, number as u64, LINE_FEED)
+    let at = put_walk(out, k, w);
+    put_last(out, at, b"clear", reads)
 }
 
 // `K refused N`.
@@ -111,7 +111,7 @@ pub fn put_pair_refused(out: &mut [u8], k: u64, number: u32) -> usize
     ensures { λ r. ⌜ PutsLine (pair-refused-line k number) (now (out .entry)) r (now (out .exit)) ⌝ }
 {
     let at = put_number(out, 0, k, SPACE);
-    put_refused(out, at, number)
+    put_last(out, at, b"refused", number)
 }
 
 // `G refused N`.
@@ -120,5 +120,5 @@ pub fn put_venue_refused(out: &mut [u8], number: u32) -> usize
     ensures { λ r. ⌜ PutsLine (venue-refused-line number) (now (out .entry)) r (now (out .exit)) ⌝ }
 {
     let at = put_word(out, 0, b"G", SPACE);
-    put_refused(out, at, number)
+    put_last(out, at, b"refused", number)
 }

@@ -1,6 +1,6 @@
 -- What the line begins with, the word, the cell, the code, and the number that ends it. Assumes nothing.
 use native.Mathlib.Omega.{arith}
-use Rattle.texts.proofs.Pieces.{then-puts, front-line, same-piece, hit-pieces}
+use Rattle.texts.proofs.Pieces.{then-puts, ends-line, hit-pieces}
 use borrow.Author.Needs.{needs}
 use Rattle.texts.proofs.put_hit.Statement.{statement}
 use Rattle.texts.proofs.put_hit.Tie as tie
@@ -40,15 +40,14 @@ returns c =
     let after-word = worded .put-word .ensures .says in
     let after-cell = celled .put-cell .ensures .1 in
     let after-code = coded .put-number .ensures .1 in (
-      front-line
-          (same-piece (hit-pieces (a .k) (a .w) (a .x) (a .y) (a .z) (a .code) (a .reads))
-          (then-puts (omega arith)
+      ends-line (hit-pieces (a .k) (a .w) (a .x) (a .y) (a .z) (a .code) (a .reads))
+          (omega arith)
           (then-puts (omega arith)
           (then-puts (omega arith)
           (then-puts (omega arith) (walked .put-walk .ensures .0) (worded .put-word .ensures))
           (celled .put-cell .ensures .0))
           (coded .put-number .ensures .0))
-          (numbered .put-number2 .ensures .0))),
+          (numbered .put-number2 .ensures .0),
       omega (arith, numbered .put-number2 .ensures .1),
     )
 

@@ -1,0 +1,36 @@
+-- The word with its space, then the number with its line feed. Assumes nothing.
+use mathlib.Core.Path.{_≡_}
+use mathlib.Core.List.{[], _∷_}
+use Prim.Native.Nat.{_+_}
+use native.Mathlib.Omega.{arith}
+use lib.ListN.{length, length-append}
+use denote.Ref.{now}
+use Rattle.texts.specs.Text.{space}
+use Rattle.texts.proofs.Pieces.{then-puts}
+use borrow.Author.Needs.{needs}
+use Rattle.texts.proofs.put_last.Statement.{statement}
+use Rattle.texts.proofs.put_last.Tie as tie
+
+-- where the number stands
+after-word : (c : tie.After-put-word) → c .put-word .result ≡ c .before .before .before .before .args .at + length (now (c .before .before .before .before .args .word)) + 1
+after-word c = omega (arith, c .put-word .ensures .says, length-append (now (c .before .before .before .before .args .word)) (space ∷ []))
+
+put-word-requires : tie.Need-put-word-requires
+put-word-requires c κs = search needs
+
+put-number-requires : tie.Need-put-number-requires
+put-number-requires c κs = let next = after-word (c .before .before .before) in search needs
+
+same-length : tie.Need-same-length
+same-length c = search needs
+
+returns : tie.Need-returns
+returns c =
+    let numbered = c .before .before in
+    let worded = numbered .before .before .before .before in
+    let room = worded .before .before .before .before .pre in
+    let next = after-word worded in
+    (then-puts (omega arith) (worded .put-word .ensures) (numbered .put-number .ensures .0), omega (arith, numbered .put-number .ensures .1))
+
+pub put-last-spec : {M : Type 1} → statement M
+put-last-spec = tie.close (tie.spec put-word-requires put-number-requires same-length returns)
