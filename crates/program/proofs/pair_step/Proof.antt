@@ -1,13 +1,26 @@
 -- Each test is the definition's, in its order. Assumes nothing.
-use mathlib.Core.Path.{refl, sym, _∙_}
+use mathlib.Core.Path.{_≡_, refl, sym, _∙_}
+use mathlib.Core.Bool.{Bool}
 use denote.Ref.{now}
 use borrow.Author.Tests.{eq-eqb, ne-eqb}
-use Rattle.program.specs.Program.{pair-said}
+use Rattle.records.specs.declared.PairRead.{PairRead}
+use Rattle.program.specs.Program.{pair-most, beyond, said-of-pair, pair-said}
 use Rattle.program.proofs.Front.{no-text}
 use Rattle.program.proofs.Following.{whole-step}
 use borrow.Author.Needs.{needs}
 use Rattle.program.proofs.pair_step.Statement.{statement}
 use Rattle.program.proofs.pair_step.Tie as tie
+
+-- the test of the length, by what it answered
+judged : (c : tie.After-beyond) {t : Bool} → c .beyond .result ≡ t → beyond pair-most (now (c .before .before .before .before .before .args .frame)) ≡ t
+judged c h = sym (c .beyond .ensures) ∙ h
+
+-- past both tests, what is said is said of the pair
+read : (c : tie.After-read-pair) {r : PairRead} → c .read-pair .result ≡ r →
+    let a = c .before .before .before .before .before .before .before .args in
+    pair-said (a .n) (now (a .cells)) (a .k) (now (a .frame)) ≡ said-of-pair (a .n) (now (a .cells)) (a .k) r
+unfolding pair-said
+read c e = rw (ne-eqb _ _ (c .before .before .before .if1 .left), judged (c .before .before) (c .before .if2 .left), sym (c .read-pair .ensures) ∙ e)
 
 returns : tie.Need-returns
 unfolding pair-said
@@ -27,8 +40,10 @@ same-length c = search needs
 returns-2 : tie.Need-returns-2
 unfolding pair-said
 returns-2 c =
-    let a = c .before .before .before .before .before .before .before .before .before .before .args in
-    whole-step (a .n) (now (a .cells)) (a .k) (now (a .frame)) (rw (ne-eqb _ _ (c .before .before .before .before .before .before .if1 .left), sym (c .before .before .before .before .before .beyond .ensures) ∙ c .before .before .before .before .if2 .taken) (c .before .before .pair-refused .ensures))
+    let tested = c .before .before .before .before .before in
+    let a = tested .before .before .before .before .before .args in
+    whole-step (a .n) (now (a .cells)) (a .k) (now (a .frame))
+    (rw (ne-eqb _ _ (tested .before .if1 .left), judged tested (c .before .before .before .before .if2 .taken)) (c .before .before .pair-refused .ensures))
 
 read-pair-requires : tie.Need-read-pair-requires
 read-pair-requires c κs = search needs
@@ -49,31 +64,19 @@ same-length-2 : tie.Need-same-length-2
 same-length-2 c = search needs
 
 returns-3 : tie.Need-returns-3
-unfolding pair-said
 returns-3 c =
-    let a = c .before .before .before .before .before .before .before .before .before .before .before .before .before .before .args in
-    whole-step (a .n) (now (a .cells)) (a .k) (now (a .frame))
-    (rw (
-      ne-eqb _ _ (c .before .before .before .before .before .before .before .before .before .before .if1 .left),
-      sym (c .before .before .before .before .before .before .before .before .before .beyond .ensures) ∙ c .before .before .before .before .before .before .before .before .if2 .left,
-      sym (c .before .before .before .before .before .before .before .read-pair .ensures) ∙ c .before .before .before .before .before .e .given .1,
-    )
-    (c .before .before .pair-said .ensures))
+    let tested = c .before .before .before .before .before .before .before in
+    let a = tested .before .before .before .before .before .before .before .args in
+    whole-step (a .n) (now (a .cells)) (a .k) (now (a .frame)) (rw (read tested (c .before .before .before .before .before .e .given .1)) (c .before .before .pair-said .ensures))
 
 same-length-3 : tie.Need-same-length-3
 same-length-3 c = search needs
 
 returns-4 : tie.Need-returns-4
-unfolding pair-said
 returns-4 c =
-    let a = c .before .before .before .before .before .before .before .before .before .before .before .before .before .before .args in
-    whole-step (a .n) (now (a .cells)) (a .k) (now (a .frame))
-    (rw (
-      ne-eqb _ _ (c .before .before .before .before .before .before .before .before .before .before .if1 .left),
-      sym (c .before .before .before .before .before .before .before .before .before .beyond .ensures) ∙ c .before .before .before .before .before .before .before .before .if2 .left,
-      sym (c .before .before .before .before .before .before .before .read-pair .ensures) ∙ c .before .before .before .before .before .r .given .1,
-    )
-    (c .before .before .pair-refused2 .ensures))
+    let tested = c .before .before .before .before .before .before .before in
+    let a = tested .before .before .before .before .before .before .before .args in
+    whole-step (a .n) (now (a .cells)) (a .k) (now (a .frame)) (rw (read tested (c .before .before .before .before .before .r .given .1)) (c .before .before .pair-refused2 .ensures))
 
 pub pair-step-spec : {M : Type 1} → statement M
 pair-step-spec =

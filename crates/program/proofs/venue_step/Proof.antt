@@ -3,7 +3,8 @@ use mathlib.Core.Path.{_≡_, refl, sym, _∙_}
 use mathlib.Core.Bool.{Bool}
 use denote.Ref.{now}
 use native.Mathlib.Omega.{arith}
-use Rattle.program.specs.Program.{venue-most, beyond, venue-said}
+use Rattle.records.specs.declared.VenueRead.{VenueRead}
+use Rattle.program.specs.Program.{venue-most, beyond, said-of-venue, venue-said}
 use Rattle.program.proofs.Front.{no-text, counts}
 use borrow.Author.Needs.{needs}
 use Rattle.program.proofs.venue_step.Statement.{statement}
@@ -12,6 +13,11 @@ use Rattle.program.proofs.venue_step.Tie as tie
 -- the test of the length, by what it answered
 judged : (c : tie.After-beyond) {t : Bool} → c .beyond .result ≡ t → beyond venue-most (now (c .before .before .before .args .frame)) ≡ t
 judged c h = sym (c .beyond .ensures) ∙ h
+
+-- past the test, what is said is said of the venue
+read : (c : tie.After-read-venue) {r : VenueRead} → c .read-venue .result ≡ r → venue-said (now (c .before .before .before .before .before .args .frame)) ≡ said-of-venue r
+unfolding venue-said
+read c e = rw (judged (c .before .before) (c .before .if1 .left), sym (c .read-venue .ensures) ∙ e)
 
 beyond-requires : tie.Need-beyond-requires
 beyond-requires c κs = search needs
@@ -41,19 +47,15 @@ venue-refused-requires-2 : tie.Need-venue-refused-requires-2
 venue-refused-requires-2 c κs = search needs
 
 returns-2 : tie.Need-returns-2
-unfolding venue-said
-returns-2 c =
-    rw (judged (c .before .before .before .before) (c .before .before .before .if1 .left), sym (c .before .before .read-venue .ensures) ∙ c .enum-told .given .1)
-    (record { puts = no-text _; next = refl }, (omega arith, refl))
+returns-2 c = rw (read (c .before .before) (c .enum-told .given .1)) (record { puts = no-text _; next = refl }, (omega arith, refl))
 
 same-length-2 : tie.Need-same-length-2
 same-length-2 c = search needs
 
 returns-3 : tie.Need-returns-3
-unfolding venue-said
 returns-3 c =
     let said = c .before .before .venue-refused2 .ensures in
-    rw (judged (c .before .before .before .before .before .before .before .before .before) (c .before .before .before .before .before .before .before .before .if1 .left), sym (c .before .before .before .before .before .before .before .read-venue .ensures) ∙ c .before .before .before .before .before .r .given .1) (said, counts (said .puts))
+    rw (read (c .before .before .before .before .before .before .before) (c .before .before .before .before .before .r .given .1)) (said, counts (said .puts))
 
 pub venue-step-spec : {M : Type 1} → statement M
 venue-step-spec =
