@@ -21,13 +21,13 @@ sub-result c = rw (nat-held (c .before .args .v) (omega arith)) (less-fits (c .b
 
 returns : tie.Need-returns
 unfolding signed
-returns c = nat-held (c .before .args .v) (omega arith) ∙ sym (rw (lt-ltb _ _ (c .if1 .taken)))
+returns c = nat-held (c .before .args .v) (omega arith) ∙ sym (rw (lt-ltb (c .before .args .v) 32768 (omega arith)))
 
 returns-2 : tie.Need-returns-2
 unfolding signed
 returns-2 c =
     ap (λ z. held (z -ℤ pos 65536)) (nat-held (c .before .args .v) (omega arith)) ∙ held-is _ (less-fits (c .before .args .v) (c .before .pre))
-    ∙ sym (rw (le-ltb _ _ (c .if1 .left)))
+    ∙ sym (rw (le-ltb (c .before .args .v) 32768 (omega arith)))
 
 pub signed-spec : {M : Type 1} → statement M
 signed-spec = tie.close (tie.spec cast-result cast-result-2 sub-result returns returns-2)
