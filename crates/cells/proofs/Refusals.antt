@@ -53,8 +53,8 @@ told-back Record = refl
 told-back Version = refl
 
 -- a definition with a left inverse tells answers apart
-pub apart : {A T : Type 0} (say : A → T) (unsay : T → Option A) → ((a : A) → unsay (say a) ≡ some a) → (a b : A) → say a ≡ say b → a ≡ b
-apart say unsay back a b e = Option·some-injective a b (sym (back a) ∙ ap unsay e ∙ back b)
+pub tells-apart : {A T : Type 0} (say : A → T) (unsay : T → Option A) → ((a : A) → unsay (say a) ≡ some a) → (a b : A) → say a ≡ say b → a ≡ b
+tells-apart say unsay back a b e = Option·some-injective a b (sym (back a) ∙ ap unsay e ∙ back b)
 
 -- the answer that is meant, if one is: a refusal, or the answer made of the values
 abbrev pub untold-by : {A B : Type 0} → (Refusal → A) → (B → A) → Told ⊎ B → Option A
@@ -63,7 +63,7 @@ untold-by refused answered (inr v) = some (answered v)
 
 -- so two refusals that say the same are the same
 pub told-one : (r s : Refusal) → told r ≡ told s → r ≡ s
-told-one = apart told untold told-back
+told-one = tells-apart told untold told-back
 
 -- and two verdicts
 abbrev untold-verdict : Told ⊎ Unit {0} → Option Verdict
@@ -74,4 +74,4 @@ told-verdict-back (Refused r) = ap (Option·map Refused) (told-back r)
 told-verdict-back Fine = refl
 
 pub told-verdict-one : (a b : Verdict) → told-verdict a ≡ told-verdict b → a ≡ b
-told-verdict-one = apart told-verdict untold-verdict told-verdict-back
+told-verdict-one = tells-apart told-verdict untold-verdict told-verdict-back

@@ -15,7 +15,7 @@ use Rattle.lines.proofs.Fractions.{place-in-order, in-order-is-place, place-tot
 use Rattle.lines.proofs.Centres.{centres-good, upto-26}
 use Rattle.lines.proofs.Signs.{sign-tells, figure-6-is-next, step-moves, stays-small, first-longest, second-longest}
 use Rattle.lines.proofs.Cells.{six-length, six-numbered, six-start, six-end, six-different, six-by-face, six-touched, six-misses-none, six-at-26, length-26, numbered-26, start-26, end-26, moves-by-one-26, longest-moves-26, skipped-touches, limited-difference}
-use Rattle.claims.specs.Lines.{OnePlace, SixLine, Touched, NoneMissing, Line26, Skipped, Signs, SmallValues, Entered, LongStep}
+use Rattle.claims.specs.Lines.{OnePlace, SixLine, Touched, NoneMissing, TwentySixLine, Skipped, Signs, SmallValues, Entered, LongStep}
 
 pub one-place : (r : Preference) (D : Steps) → OnePlace r D
 one-place r D =
@@ -41,7 +41,7 @@ each-cell-touched r p q = record { touched = six-touched r p q }
 pub no-cell-missing : (r : Preference) (p q : Cell) → NoneMissing r p q
 no-cell-missing r p q = record { found = six-misses-none r p q }
 
-pub line-26-holds : (r : Preference) (p q : Cell) → Line26 r p q
+pub line-26-holds : (r : Preference) (p q : Cell) → TwentySixLine r p q
 line-26-holds r p q =
     record {
       upto = λ m. upto-26 (differences p q) r m;

@@ -16,7 +16,7 @@ use Rattle.cells.specs.declared.Verdict.{Verdict}
 use Rattle.cells.specs.declared.Verdict.the-variants.{Fine, Refused as Fails}
 use Rattle.cells.specs.Touching.{on}
 use Rattle.cells.specs.Refusals.{Told, told}
-use Rattle.cells.proofs.Refusals.{told-back, apart, untold-by}
+use Rattle.cells.proofs.Refusals.{told-back, tells-apart, untold-by}
 use Rattle.lines.specs.Preference.{rule-1}
 use Rattle.lines.specs.Lines.{six-line, line-26, in-limit}
 use Rattle.lines.proofs.Cells.{limited-difference}
@@ -74,7 +74,7 @@ told-listed-back (Cells n) = refl
 told-listed-back (Refused r) = ap (Option·map Refused) (told-back r)
 
 pub listed-one-to-one : (l k : Listed) → told-listed l ≡ told-listed k → l ≡ k
-listed-one-to-one = apart told-listed listed-back told-listed-back
+listed-one-to-one = tells-apart told-listed listed-back told-listed-back
 
 pub wrong-lists : WrongLists
 unfolding six-line line-26 accepted

@@ -10,7 +10,7 @@ use Rattle.cells.specs.declared.Counts.{Counts}
 use Rattle.records.specs.declared.Venue.{Venue}
 use Rattle.records.specs.declared.VenueRead.{VenueRead}
 use Rattle.records.specs.declared.VenueRead.the-variants.{Read, Refused as NoVenue}
-use Rattle.records.specs.Records.{whole, venue-check, venue-read, venue-cells, pair-check, pair-read}
+use Rattle.records.specs.Records.{whole-check, venue-check, venue-read, venue-cells, pair-check, pair-read}
 use Rattle.program.specs.declared.Next.{Next}
 use Rattle.program.specs.declared.Next.the-variants.{On, Over}
 use Rattle.program.specs.declared.Step.{Step}
@@ -176,9 +176,9 @@ pub not-silent : Silent → ⊥
 not-silent w = let e : _≡_ {A = ℕ} 0 30 = ap length (only-run example-input (w .run) ∙ example-writes) in omega arith
 
 pub not-on : (n : Counts) (cells entry : List ℕ) → GoesOn n cells entry → ⊥
-unfolding pair-said beyond pair-read pair-check whole
+unfolding pair-said beyond pair-read pair-check whole-check
 not-on n cells entry w = let e : On (w .number) ≡ Over = sym (w .on) ∙ w .says .next in let z : _≡_ {A = ℕ} 0 1 = cc in omega arith
 
 pub not-begun : (entry : List ℕ) → Begins entry → ⊥
-unfolding venue-said beyond venue-read venue-check whole
+unfolding venue-said beyond venue-read venue-check whole-check
 not-begun entry w = let e : On (w .number) ≡ Over = sym (w .on) ∙ w .says .next in let z : _≡_ {A = ℕ} 0 1 = cc in omega arith

@@ -17,7 +17,7 @@ use Rattle.records.specs.declared.Pair.{Pair}
 use Rattle.records.specs.declared.Venue.{Venue}
 use Rattle.records.specs.declared.VenueRead.{VenueRead}
 use Rattle.records.specs.declared.VenueRead.the-variants.{Read}
-use Rattle.records.specs.Records.{length-field, announced, cells-from, whole, venue-version, venue-head, venue-check, venue-read, venue-cells, signed, pair-version, pair-length, pair-in, pair-check, pair-read}
+use Rattle.records.specs.Records.{length-field, announced, cells-from, whole-check, venue-version, venue-head, venue-check, venue-read, venue-cells, signed, pair-version, pair-length, pair-in, pair-check, pair-read}
 use Rattle.records.proofs.Heads.{venue-accepted}
 use Rattle.records.proofs.Told.{told-venue-one, told-pair-one}
 use Rattle.records.proofs.Following.{venue-unread, cells-unread, pair-unread}
@@ -123,7 +123,7 @@ written-back-same s =
 -- ---- wrong answers
 
 pub no-refuser : Refuses example-venue → ⊥
-unfolding shape whole venue-version venue-head venue-check venue-read
+unfolding shape whole-check venue-version venue-head venue-check venue-read
 no-refuser h = let e = h .answers in let z : _≡_ {A = ℕ} 0 1 = cc in omega arith
 
 pub no-idle-writer : WritesNothing example-counts example-cells example-room → ⊥
@@ -131,7 +131,7 @@ unfolding shape venue-head write-check
 no-idle-writer h = let e : _≡_ {A = ℕ} 99 0 = ap (λ (l : List ℕ). getD l 0 0) (h .leaves .holds) in omega arith
 
 pub no-unsigned-reader : ReadsUnsigned → ⊥
-unfolding whole pair-version pair-length signed pair-check pair-read
+unfolding whole-check pair-version pair-length signed pair-check pair-read
 no-unsigned-reader h =
     let e = h .answers in
     let same : h .ends ≡ pair-in minus-one-pair = cc in
@@ -139,7 +139,7 @@ no-unsigned-reader h =
     omega arith
 
 pub wrong-records : WrongRecords
-unfolding accepts shape whole venue-version venue-head venue-check venue-read venue-cells pair-version pair-length pair-check pair-read write-check
+unfolding accepts shape whole-check venue-version venue-head venue-check venue-read venue-cells pair-version pair-length pair-check pair-read write-check
 wrong-records =
     record {
       other-version = λ v e. let z : _≡_ {A = ℕ} 0 1 = cc in omega arith;

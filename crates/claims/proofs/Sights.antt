@@ -13,7 +13,7 @@ use Rattle.cells.specs.declared.End.the-variants.{P, Q}
 use Rattle.cells.specs.declared.Refusal.{Refusal}
 use Rattle.cells.specs.declared.Verdict.{Verdict}
 use Rattle.cells.specs.declared.Verdict.the-variants.{Fine, Refused as Fails}
-use Rattle.cells.proofs.Refusals.{told-back, apart, untold-by}
+use Rattle.cells.proofs.Refusals.{told-back, tells-apart, untold-by}
 use Rattle.grids.specs.Grid.{shape}
 use Rattle.walks.specs.declared.Walker.the-variants.{Adaptive}
 use Rattle.walks.specs.declared.FirstHit.{FirstHit}
@@ -27,7 +27,7 @@ use Rattle.sights.specs.Survey.{placement-check, look-up}
 use Rattle.sight.specs.declared.Block.{Block}
 use Rattle.sight.specs.declared.Sight.{Sight}
 use Rattle.sight.specs.declared.Sight.the-variants.{Clear, Blocked, Refused}
-use Rattle.sight.specs.Sight.{told-by, seen, if-fine, looked, sight, told-sight}
+use Rattle.sight.specs.Sight.{sight-of, seen, if-fine, looked, sight, told-sight}
 use Rattle.sight.proofs.Seen.{looked-is, sight-is, camera-refused, walked}
 use Rattle.claims.proofs.Story.{nothing-in-the-way}
 use Rattle.claims.specs.Sights.{SeenOnce, AsTheWalk, OpenWay, NothingInSight, CameraFirst, WrongSights}
@@ -40,7 +40,7 @@ kind (Refused r) = 2
 
 -- ---- a clear sight
 
-walk-clear : (h : FirstHit) → told-by h ≡ Clear → (reads : ℕ) × (h ≡ Open reads)
+walk-clear : (h : FirstHit) → sight-of h ≡ Clear → (reads : ℕ) × (h ≡ Open reads)
 unfolding kind
 walk-clear (Open reads) e = (reads, refl)
 walk-clear (Hit h) e = absurd (let z : _≡_ {A = ℕ} 1 0 = ap kind e in omega arith)
@@ -110,7 +110,7 @@ told-sight-back (Blocked b) = refl
 told-sight-back (Refused r) = ap (Option·map Refused) (told-back r)
 
 pub sights-one-to-one : (a b : Sight) → told-sight a ≡ told-sight b → a ≡ b
-sights-one-to-one = apart told-sight (untold-by Refused seen-as) told-sight-back
+sights-one-to-one = tells-apart told-sight (untold-by Refused seen-as) told-sight-back
 
 -- ---- wrong sights
 

@@ -4,7 +4,7 @@ use lib.Ieee.{le, lt, ofInt, ofBits, div, sub}
 use Rattle.lines.specs.Lines.{six-line, line-26}
 use Rattle.grids.specs.Grid.{shape}
 use Rattle.grids.specs.Marks.{marked}
-use Rattle.records.specs.Records.{whole, venue-version, venue-head, venue-check, venue-read, venue-cells, signed, pair-version, pair-length, pair-check, pair-read}
+use Rattle.records.specs.Records.{whole-check, venue-version, venue-head, venue-check, venue-read, venue-cells, signed, pair-version, pair-length, pair-check, pair-read}
 use Rattle.walks.specs.Answers.{first-hit}
 use Rattle.texts.specs.Text.{decimal, hit-line, clear-line}
 use Rattle.program.specs.Program.{beyond, output}
@@ -13,15 +13,15 @@ use Rattle.claims.specs.Program.{example-input, example-output}
 use Rattle.claims.specs.Starred.{Every, no-more, _and_, program-rows, record-rows, sight-rows, table}
 
 pub example-writes : output example-input ≡ example-output
-unfolding beyond output decimal hit-line clear-line shape whole venue-version venue-head venue-check venue-read venue-cells signed pair-version pair-length pair-check pair-read first-hit
+unfolding beyond output decimal hit-line clear-line shape whole-check venue-version venue-head venue-check venue-read venue-cells signed pair-version pair-length pair-check pair-read first-hit
 example-writes = refl
 
 programs-hold : Every program-rows
-unfolding beyond output decimal hit-line clear-line shape whole venue-version venue-head venue-check venue-read venue-cells signed pair-version pair-length pair-check pair-read first-hit
+unfolding beyond output decimal hit-line clear-line shape whole-check venue-version venue-head venue-check venue-read venue-cells signed pair-version pair-length pair-check pair-read first-hit
 programs-hold = example-writes and refl and no-more
 
 records-hold : Every record-rows
-unfolding shape whole venue-version venue-head venue-check venue-read venue-cells signed pair-version pair-length pair-check pair-read
+unfolding shape whole-check venue-version venue-head venue-check venue-read venue-cells signed pair-version pair-length pair-check pair-read
 records-hold = refl and refl and refl and programs-hold
 
 sights-hold : Every sight-rows

@@ -14,7 +14,7 @@ use Rattle.cells.specs.declared.Refusal.{Refusal}
 use Rattle.cells.specs.declared.Verdict.{Verdict}
 use Rattle.cells.specs.declared.Verdict.the-variants.{Fine, Refused as Fails}
 use Rattle.cells.specs.Refusals.{told}
-use Rattle.cells.proofs.Refusals.{told-back, apart, untold-by}
+use Rattle.cells.proofs.Refusals.{told-back, tells-apart, untold-by}
 use Rattle.lines.specs.Steps.{total}
 use Rattle.lines.specs.Preference.{rule-1}
 use Rattle.lines.specs.Lines.{differences, longest, six-cell}
@@ -211,7 +211,7 @@ told-hit-back (Blocked h) = refl
 told-hit-back (Refused r) = ap (Option·map Refused) (told-back r)
 
 pub hits-one-to-one : (a b : FirstHit) → told-hit a ≡ told-hit b → a ≡ b
-hits-one-to-one = apart told-hit (untold-by Refused hit-as) told-hit-back
+hits-one-to-one = tells-apart told-hit (untold-by Refused hit-as) told-hit-back
 
 -- ---- wrong walks
 

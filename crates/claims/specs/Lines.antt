@@ -38,7 +38,7 @@ pub record NoneMissing (r : Preference) (p q : Cell) : Type 0 where
 
 -- 4. 26-line cell m is the place of the 6-line after all crossings at fractions up to and including m/M. There are M+1 cells, from P to Q; from one
 -- to the next each axis moves by 0 or 1, the longest by 1.
-pub record Line26 (r : Preference) (p q : Cell) : Type 0 where
+pub record TwentySixLine (r : Preference) (p q : Cell) : Type 0 where
   pub upto : (m : ℕ) → 0 < longest (differences p q) → m ≤ longest (differences p q) → MadeUpto (centres r (differences p q)) m (longest (differences p q)) (place-26 (differences p q) m)
   pub on-six : (m : ℕ) → m ≤ longest (differences p q) → cell-26 p q m ≡ six-cell r p q (total (place-26 (differences p q) m))
   pub many : length (line-26 p q) ≡ longest (differences p q) + 1

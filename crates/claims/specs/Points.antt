@@ -21,7 +21,7 @@ use Rattle.sights.specs.declared.Lookup.{Lookup}
 use Rattle.sights.specs.declared.Lookup.the-variants.{Cell}
 use Rattle.sights.specs.declared.Placement.{Placement}
 use Rattle.sights.specs.declared.Point.{Point}
-use Rattle.sights.specs.Quotient.{whole, outside, in-cell, share-of}
+use Rattle.sights.specs.Quotient.{as-f64, outside, in-cell, share-of}
 use Rattle.sights.specs.Survey.{Tested, quotients, cell-of, told-lookup}
 
 -- 1. One answer for each input; and what document 01 has for an answer tells which it is.
@@ -65,22 +65,22 @@ pub record Outside (n : Counts) (at : Placement) (p : Point) : Type 0 where
 
 -- 4. Every whole number up to 2^53 is made f64 exactly: its value is the number over 1. All counts and all numbers of 32 bits are among them.
 pub record Exact (k : ℕ) : Type 0 where
-  pub value : k ≤ 2 ^ 53 → HasValue (whole k) false k 1
+  pub value : k ≤ 2 ^ 53 → HasValue (as-f64 k) false k 1
 
 -- 5. The share of the way is that quotient rounded once: 1 over 2 is 0.5, 1 over 3 the f64 nearest to a third, 0 over 1 is 0.
 pub record Shares : Type 0 where
   pub half : toBits binary64 (share-of 1 2) ≡ 0x3fe0_0000_0000_0000
   pub third : toBits binary64 (share-of 1 3) ≡ 0x3fd5_5555_5555_5555
-  pub start : share-of 0 1 ≡ whole 0
+  pub start : share-of 0 1 ≡ as-f64 0
 
 -- ---- worked examples, as one table
 
 -- k metres, and the f64 nearest to k tenths of a metre
 abbrev pub metres : ℕ → Float
-metres k = whole k
+metres k = as-f64 k
 
 abbrev pub tenths : ℕ → Float
-tenths k = div binary64 (whole k) (whole 10)
+tenths k = div binary64 (as-f64 k) (as-f64 10)
 
 -- the least f64 above 0
 abbrev pub smallest : Float

@@ -21,7 +21,7 @@ use Rattle.sights.specs.declared.Point.{Point}
 use Rattle.sights.specs.Survey.{placement-check, look-up}
 use Rattle.sight.specs.declared.Sight.{Sight}
 use Rattle.sight.specs.declared.Sight.the-variants.{Clear, Refused}
-use Rattle.sight.specs.Sight.{told-by, Sees}
+use Rattle.sight.specs.Sight.{sight-of, Sees}
 use Rattle.claims.specs.Points.{metres, placement, point}
 use Rattle.claims.specs.Starred.{counts, halves}
 
@@ -33,7 +33,7 @@ module _ (n : Counts) (l : List ℕ) (at : Placement) where
   -- 2. Where both points have a cell, blocked or clear is what the adaptive first-hit call says of the two cells.
   pub record AsTheWalk (camera ball : Point) : Type 0 where
     pub same : (c b : cell.Cell) (r : Sight) (h : FirstHit) → shape n (length l) ≡ Fine → placement-check at ≡ Fine →
-        look-up P n at camera ≡ Cell c → look-up Q n at ball ≡ Cell b → Sees n l at camera ball r → Finds Adaptive n l c b h → r ≡ told-by h
+        look-up P n at camera ≡ Cell c → look-up Q n at ball ≡ Cell b → Sees n l at camera ball r → Finds Adaptive n l c b h → r ≡ sight-of h
 
   -- camera and ball have cells, and no cell whose open inside the segment between their centres meets is solid
   pub record OpenWay (camera ball : Point) : Type 0 where

@@ -20,7 +20,7 @@ use Rattle.walks.specs.declared.FirstHit.the-variants.{Clear, Hit as Blocked}
 use Rattle.walks.specs.Answers.{first-hit}
 use Rattle.sights.specs.declared.Placement.{Placement}
 use Rattle.sights.specs.declared.Point.{Point}
-use Rattle.sights.specs.Quotient.{whole}
+use Rattle.sights.specs.Quotient.{as-f64}
 use Rattle.sight.specs.declared.Sight.the-variants.{Blocked as InTheWay}
 use Rattle.sight.specs.Sight.{sight}
 use Rattle.claims.specs.Points.{metres, placement, point}
@@ -45,7 +45,7 @@ hit c code num den reads = Blocked (record { cell = c; code = code; place = reco
 
 -- k halves of a metre
 abbrev pub halves : ℕ → Float
-halves k = div binary64 (whole k) (whole 2)
+halves k = div binary64 (as-f64 k) (as-f64 2)
 
 -- a row: the ends P and Q and the cells of the line between them; counts, bytes, and the bytes marked; a walk, its grid
 -- and ends, and what it finds; a venue's record, its counts and its cells; a pair's record, P and Q; the program's whole

@@ -5,7 +5,7 @@ use mathlib.Core.Bool.{Bool}
 use mathlib.Core.Logic.{_⊎_}
 use mathlib.Core.Option.{Option, some, Option·map}
 use Rattle.cells.specs.Refusals.{Told}
-use Rattle.cells.proofs.Refusals.{told-back, apart, untold-by}
+use Rattle.cells.proofs.Refusals.{told-back, tells-apart, untold-by}
 use Rattle.grids.specs.declared.LayerPart.{LayerPart}
 use Rattle.grids.specs.declared.LayerPart.the-variants.{Part, Refused as NoPart}
 use Rattle.grids.specs.declared.Completeness.{Completeness}
@@ -21,7 +21,7 @@ told-part-back (NoPart r) = ap (Option·map NoPart) (told-back r)
 told-part-back (Part start long) = refl
 
 pub told-part-one : (a b : LayerPart) → told-part a ≡ told-part b → a ≡ b
-told-part-one = apart told-part untold-part told-part-back
+told-part-one = tells-apart told-part untold-part told-part-back
 
 abbrev untold-completeness : Told ⊎ Bool → Option Completeness
 untold-completeness = untold-by NotAsked yes-or-no
@@ -32,4 +32,4 @@ told-completeness-back Yes = refl
 told-completeness-back No = refl
 
 pub told-completeness-one : (a b : Completeness) → told-completeness a ≡ told-completeness b → a ≡ b
-told-completeness-one = apart told-completeness untold-completeness told-completeness-back
+told-completeness-one = tells-apart told-completeness untold-completeness told-completeness-back

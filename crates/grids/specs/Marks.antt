@@ -22,9 +22,9 @@ any p zero = false
 any p (suc n) = any p n || p n
 
 -- f 0, f 1, up to f (n - 1)
-unfoldable pub tab : (ℕ → ℕ) → ℕ → List ℕ
-tab f zero = []
-tab f (suc n) = tab f n ++ f n ∷ []
+unfoldable pub tabulate : (ℕ → ℕ) → ℕ → List ℕ
+tabulate f zero = []
+tabulate f (suc n) = tabulate f n ++ f n ∷ []
 
 -- the cell c touches a solid one inside the grid
 unfoldable pub touches-solid : ℕ → Counts → List ℕ → Cell → Bool
@@ -37,8 +37,8 @@ unfolding touches-solid
 marked-byte k n l i = cond (solid (getD l i 0)) (getD l i 0) (cond (touches-solid k n l (cell-at n i)) 1 0)
 
 unfoldable pub marked : ℕ → Counts → List ℕ → List ℕ
-unfolding marked-byte tab
-marked k n l = tab (marked-byte k n l) (length l)
+unfolding marked-byte tabulate
+marked k n l = tabulate (marked-byte k n l) (length l)
 
 -- what the marking call leaves: refused, the bytes as they were
 abbrev pub after-marking : Verdict → Counts → List ℕ → List ℕ

@@ -15,7 +15,7 @@ use Rattle.lines.specs.Lines.{differences, longest, place-26, six-cell}
 use Rattle.lines.proofs.Centres.{within-26, grows-26, moved-start, moved-end, longest-most}
 use Rattle.lines.proofs.Cells.{six-at-26}
 use Rattle.tripod.specs.declared.Moves.{Moves}
-use Rattle.tripod.specs.Tripod.{steps, Calm, LongMoves, moves-on}
+use Rattle.tripod.specs.Tripod.{steps, SmallTripod, LongMoves, moves-on}
 use Rattle.grids.specs.Grid.{byte-of, solid, clear}
 use Rattle.walks.proofs.Runs.{by-one}
 use Rattle.walks.proofs.Progress.{OnWay}
@@ -133,8 +133,8 @@ module _ (l : List ℕ) (k : Route) (u : Axis) (s : Spot) (reads m : ℕ) (c : C
   pub turn-byte : HasByte (length l) (s .at)
   turn-byte = spot-byte (length l) k (c .plan) (place-26 E m) s (within-26 E m (omega (arith, c .at .below))) spot-26
 
-  pub turn-calm : Calm (s .e)
-  turn-calm = can-cross (length l) k (c .plan) (place-26 E m) s (within-26 E m (omega (arith, c .at .below))) spot-26 .values
+  pub turn-small : SmallTripod (s .e)
+  turn-small = can-cross (length l) k (c .plan) (place-26 E m) s (within-26 E m (omega (arith, c .at .below))) spot-26 .values
 
   -- the axis is a longest one of the ends' own differences
   long-there : E u ≡ longest E

@@ -194,7 +194,7 @@ pub fn answer_of(cells: &[u8], k: Route, r: Stop) -> FirstHit
     if !is_solid(code) {
         return FirstHit::Clear(r.reads);
     }
-    let cell = places::cell_of(k.n, spot.at as u32);
+    let cell = places::cell_at(k.n, spot.at as u32);
     let made = tripod::measured(k.p, cell);
     let place = places::place_after(k.d, made);
     FirstHit::Hit(Hit {

@@ -5,7 +5,7 @@ use Prim.Native.Nat.{ℕ, zero, suc, _+_, _-_, _*_, _/_, _≤_, _<_, max}
 use native.Mathlib.Omega.{arith, by-contra, both-ways}
 use native.Mathlib.Nat.{div-eq-of-lt-le, mul-le-mul-right}
 use native.Mathlib.Decide.{decLe}
-use Rattle.lines.specs.Steps.{Axis, X, Y, Z, Steps, total, same, walk}
+use Rattle.lines.specs.Steps.{Axis, X, Y, Z, Steps, total, same, after-steps}
 use Rattle.lines.specs.Crossings.{Course, upper, place, MadeUpto}
 use Rattle.lines.specs.Preference.{Preference, rule-1}
 use Rattle.lines.specs.Lines.{centres, longest, moved-26, place-26}

@@ -9,8 +9,8 @@ use native.Mathlib.Omega.{arith, by-contra}
 use native.Mathlib.Nat.{add-zero, mul-le-mul, mul-le-mul-left, mul-le-mul-right, mul-lt-mul-of-pos-right, le-div-iff-mul-le, one-le-mul}
 use lib.Dec.{ltb, eqb}
 use borrow.Author.Tests.{ltb-true, ltb-false, lt-ltb, le-ltb, eqb-true, eq-eqb, ne-eqb}
-use Rattle.lines.specs.Steps.{Axis, X, Y, Z, Steps, total, same, walk}
-use Rattle.lines.specs.Crossings.{Course, upper, before, left, sooner, next, place, InOrder, LastMade, MadeUpto}
+use Rattle.lines.specs.Steps.{Axis, X, Y, Z, Steps, total, same, after-steps}
+use Rattle.lines.specs.Crossings.{Course, upper, before, has-more, sooner, next, place, InOrder, LastMade, MadeUpto}
 use Rattle.lines.proofs.Steps.{Cmp, here, other, cmp, same-self, lt-or-ge, bump, walk-start, walk-suc, walk-total}
 use Rattle.lines.proofs.Merge.{Laws, Within, OnLine, Next, Rule, Leads, done, itself, wins, reached, walk-on, walk-end, step-on, choice-rule, Last, enters-by-last, last-unique}
 
@@ -142,10 +142,10 @@ module _ (c : Course) (good : Good c) where
   -- the sooner of two axes leads both
   sooner-leads : (t : Steps) (a b : Axis) → Leads (c .count) (Before c) t (sooner c t a b) a × Leads (c .count) (Before c) t (sooner c t a b) b
   unfolding sooner
-  sooner-leads t a b = go (cmp a b) (left c t a) (left c t b) (before c a (t a) b (t b)) refl refl refl
+  sooner-leads t a b = go (cmp a b) (has-more c t a) (has-more c t b) (before c a (t a) b (t b)) refl refl refl
     where
       go :
-          {b : Axis} → Cmp a b → (l m w : Bool) → left c t a ≡ l → left c t b ≡ m → before c a (t a) b (t b) ≡ w →
+          {b : Axis} → Cmp a b → (l m w : Bool) → has-more c t a ≡ l → has-more c t b ≡ m → before c a (t a) b (t b) ≡ w →
           Leads (c .count) (Before c) t (cond (l && (not m || w)) a b) a × Leads (c .count) (Before c) t (cond (l && (not m || w)) a b) b
       go here false m w l _ _ = (itself, itself)
       go here true false w l _ _ = (itself, itself)

@@ -6,7 +6,7 @@ use mathlib.Core.Logic.{_⊎_, inl, inr, ⊎-elim}
 use Prim.Native.Nat.{ℕ, zero, suc, _+_, _-_, _≤_, _<_}
 use native.Mathlib.Omega.{arith, by-contra, both-ways}
 use native.Mathlib.Nat.{eq-or-lt-of-le}
-use Rattle.lines.specs.Steps.{Axis, X, Y, Z, Steps, total, same, walk}
+use Rattle.lines.specs.Steps.{Axis, X, Y, Z, Steps, total, same, after-steps}
 use Rattle.lines.proofs.Steps.{Cmp, here, other, cmp, same-self, lt-or-ge, bump, walk-start, walk-suc, walk-total, total-lt, open-axis}
 
 pub record Laws (N : Steps) (B : Axis → ℕ → Axis → ℕ → Type 0) : Type 0 where
@@ -90,23 +90,23 @@ module _ (N : Steps) (B : Axis → ℕ → Axis → ℕ → Type 0) (laws : Laws
   step-within t n h here le = omega (arith, same-self n)
   step-within t n h (other e f) le = omega arith
 
-  pub walk-on : (next : Steps → Axis) → Rule N B next → (n : ℕ) → n ≤ total N → OnLine N B (walk next n) × Within N (walk next n)
+  pub walk-on : (next : Steps → Axis) → Rule N B next → (n : ℕ) → n ≤ total N → OnLine N B (after-steps next n) × Within N (after-steps next n)
   unfolding Rule Next
-  walk-on next rule zero le = (start-on (walk next 0) (walk-start next), λ a. omega (arith, walk-start next a))
+  walk-on next rule zero le = (start-on (after-steps next 0) (walk-start next), λ a. omega (arith, walk-start next a))
   walk-on next rule (suc n) le =
-      let t : Steps = walk next n in
+      let t : Steps = after-steps next n in
       let (on, wi) = walk-on next rule n (omega arith) in
       let nx : Next N B t (next t) = rule t wi (omega (arith, walk-total next n)) in
       rw (walk-suc next n) (step-on t (next t) on nx, λ a. step-within t (next t) (nx .0) (cmp (next t) a) (wi a))
 
   -- used everywhere: a place on the line is the walk's, after as many steps as it has crossings
-  pub reached : (next : Steps → Axis) → Rule N B next → (t : Steps) → Within N t → OnLine N B t → (a : Axis) → t a ≡ walk next (total t) a
+  pub reached : (next : Steps → Axis) → Rule N B next → (t : Steps) → Within N t → OnLine N B t → (a : Axis) → t a ≡ after-steps next (total t) a
   reached next rule t wi on a =
       let le : total t ≤ total N = omega (arith, wi X, wi Y, wi Z) in
       let w = walk-on next rule (total t) le in
-      one-place-for-each-number t (walk next (total t)) wi (w .1) on (w .0) (omega (arith, walk-total next (total t))) a
+      one-place-for-each-number t (after-steps next (total t)) wi (w .1) on (w .0) (omega (arith, walk-total next (total t))) a
 
-  pub walk-end : (next : Steps → Axis) → Rule N B next → (a : Axis) → walk next (total N) a ≡ N a
+  pub walk-end : (next : Steps → Axis) → Rule N B next → (a : Axis) → after-steps next (total N) a ≡ N a
   walk-end next rule a = sym (reached next rule N (λ b. omega arith) end-on a)
 
   pub next-unique : (t : Steps) (m n : Axis) → Next N B t m → Next N B t n → m ≡ n
@@ -118,10 +118,10 @@ module _ (N : Steps) (B : Axis → ℕ → Axis → ℕ → Type 0) (laws : Laws
       go {n} q (other e f) = absurd (laws .asym (p .1 n e (q .0)) (q .1 m f (p .0)))
 
   -- the crossing by which the walk enters a place is the last of the last-taken ones
-  pub enters-by-last : (next : Steps → Axis) → Rule N B next → (n : ℕ) → n < total N → Last B (walk next (suc n)) (next (walk next n))
+  pub enters-by-last : (next : Steps → Axis) → Rule N B next → (n : ℕ) → n < total N → Last B (after-steps next (suc n)) (next (after-steps next n))
   unfolding OnLine Rule Next Last
   enters-by-last next rule n lt =
-      let t : Steps = walk next n in
+      let t : Steps = after-steps next n in
       let m : Axis = next t in
       let (on, wi) = walk-on next rule n (omega arith) in
       let real = rule t wi (omega (arith, walk-total next n)) .0 in

@@ -4,7 +4,7 @@ use mathlib.Core.Logic.{_⊎_, inl, inr}
 use Prim.Native.Nat.{ℕ, zero, suc, _+_, _≤_, _<_}
 use native.Mathlib.Omega.{arith}
 use native.Mathlib.Decide.{decLt}
-use Rattle.lines.specs.Steps.{Axis, X, Y, Z, Steps, total, same, stepped, walk}
+use Rattle.lines.specs.Steps.{Axis, X, Y, Z, Steps, total, same, stepped, after-steps}
 
 -- two axes are one, or differ
 pub data Cmp (a : Axis) : Axis → Type 0 where
@@ -43,15 +43,15 @@ stepped-bump t n = fun-ext at-axis
     at-axis Y = refl
     at-axis Z = refl
 
-pub walk-start : (next : Steps → Axis) (a : Axis) → walk next 0 a ≡ 0
-unfolding walk
+pub walk-start : (next : Steps → Axis) (a : Axis) → after-steps next 0 a ≡ 0
+unfolding after-steps
 walk-start next X = refl
 walk-start next Y = refl
 walk-start next Z = refl
 
-pub walk-suc : (next : Steps → Axis) (n : ℕ) → walk next (suc n) ≡ bump (walk next n) (next (walk next n))
-unfolding walk
-walk-suc next n = stepped-bump (walk next n) (next (walk next n))
+pub walk-suc : (next : Steps → Axis) (n : ℕ) → after-steps next (suc n) ≡ bump (after-steps next n) (next (after-steps next n))
+unfolding after-steps
+walk-suc next n = stepped-bump (after-steps next n) (next (after-steps next n))
 
 pub total-bump : (t : Steps) (n : Axis) → total (bump t n) ≡ total t + 1
 total-bump t X = omega arith
@@ -64,9 +64,9 @@ total-lt s t Y le lt = omega (arith, le X, le Z)
 total-lt s t Z le lt = omega (arith, le X, le Y)
 
 -- after n steps n faces are crossed
-pub walk-total : (next : Steps → Axis) (n : ℕ) → total (walk next n) ≡ n
+pub walk-total : (next : Steps → Axis) (n : ℕ) → total (after-steps next n) ≡ n
 walk-total next zero = omega (arith, walk-start next X, walk-start next Y, walk-start next Z)
-walk-total next (suc n) = rw (walk-suc next n) (omega (arith, total-bump (walk next n) (next (walk next n)), walk-total next n))
+walk-total next (suc n) = rw (walk-suc next n) (omega (arith, total-bump (after-steps next n) (next (after-steps next n)), walk-total next n))
 
 -- where something is left in all, it is left on some axis
 pub open-axis : (t N : Steps) → total t < total N → (a : Axis) × (t a < N a)

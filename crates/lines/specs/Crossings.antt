@@ -3,7 +3,7 @@ use Prim.Native.Nat.{ℕ, _+_, _-_, _*_, _≤_, _<_}
 use mathlib.Core.Path.{_≡_}
 use mathlib.Core.Bool.{Bool, true, cond, not, _&&_, _||_}
 use lib.Dec.{ltb, eqb}
-use Rattle.lines.specs.Steps.{Axis, X, Y, Z, Steps, same, walk}
+use Rattle.lines.specs.Steps.{Axis, X, Y, Z, Steps, same, after-steps}
 
 -- On each axis: how many faces are crossed, and at which fractions of the way. Crossing i of an axis, i from 0 to count - 1, lies at
 -- (first + step·i) / length. Of equal fractions the axis of the smaller rank goes first.
@@ -26,13 +26,13 @@ before c a i b j =
     ltb x y || (eqb x y && ltb (c .rank a) (c .rank b))
 
 -- at place t the axis a has a crossing left
-abbrev pub left : Course → Steps → Axis → Bool
-left c t a = ltb (t a) (c .count a)
+abbrev pub has-more : Course → Steps → Axis → Bool
+has-more c t a = ltb (t a) (c .count a)
 
 -- of two axes, the one whose next crossing comes first; an axis with none left gives way
 unfoldable pub sooner : Course → Steps → Axis → Axis → Axis
 unfolding before
-sooner c t a b = cond (left c t a && (not (left c t b) || before c a (t a) b (t b))) a b
+sooner c t a b = cond (has-more c t a && (not (has-more c t b) || before c a (t a) b (t b))) a b
 
 -- the axis of the next crossing: of those not made yet, the one that comes first
 unfoldable pub next : Course → Steps → Axis
@@ -41,8 +41,8 @@ next c t = sooner c t X (sooner c t Y Z)
 
 -- the place after the first n crossings in that order
 unfoldable pub place : Course → ℕ → Steps
-unfolding next walk
-place c n = walk (next c) n
+unfolding next after-steps
+place c n = after-steps (next c) n
 
 -- ---- what is said of places
 

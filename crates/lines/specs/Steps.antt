@@ -34,9 +34,9 @@ unfoldable pub stepped : Steps → Axis → Steps
 stepped t n = at (t X + same n X) (t Y + same n Y) (t Z + same n Z)
 
 -- the place after n steps, each along the axis that `next` gives
-unfoldable pub walk : (Steps → Axis) → ℕ → Steps
+unfoldable pub after-steps : (Steps → Axis) → ℕ → Steps
 unfolding stepped
-walk next zero = at 0 0 0
-walk next (suc n) =
-    let t : Steps = walk next n in
+after-steps next zero = at 0 0 0
+after-steps next (suc n) =
+    let t : Steps = after-steps next n in
     stepped t (next t)

@@ -18,7 +18,7 @@ use Rattle.lines.specs.Decisions.{values, moved-values}
 use Rattle.lines.proofs.Steps.{bump}
 use Rattle.lines.proofs.Cells.{limited-difference}
 use Rattle.lines.proofs.Signs.{step-moves}
-use Rattle.tripod.proofs.Laws.{limit-parts, place-calm, doubled-even}
+use Rattle.tripod.proofs.Laws.{limit-parts, place-small, doubled-small}
 use Rattle.lists.specs.declared.Way.{Way}
 use Rattle.lists.specs.declared.Spot.{Spot}
 use Rattle.lists.specs.Way.{unit, heading, stepped-cell, WayOf, SpotAt, crossed-spot, CanCross}
@@ -81,8 +81,8 @@ module _ (p q : Cell) (w : Way) (way : WayOf p q w) where
   can-cross hp hq t s le h =
       record {
         cells = rw (h .cell, way .towards) (record { x = coordinate X; y = coordinate Y; z = coordinate Z; hx = unit-small (p .x) (q .x); hy = unit-small (p .y) (q .y); hz = unit-small (p .z) (q .z) });
-        values = rw (h .value) (place-calm (differences p q) t (limited-difference p q hp hq) le);
-        twice = rw (way .twice) (doubled-even (differences p q) (limited-difference p q hp hq));
+        values = rw (h .value) (place-small (differences p q) t (limited-difference p q hp hq) le);
+        twice = rw (way .twice) (doubled-small (differences p q) (limited-difference p q hp hq));
       }
     where
       coordinate : (a : Axis) → Small (towards (on p a) (on q a) (t a))

@@ -12,7 +12,7 @@ use Rattle.lines.specs.Steps.{Axis, X, Y, Z, Steps}
 use Rattle.lines.specs.Lines.{differences, longest, cell-of, InLimit}
 use Rattle.lines.specs.Decisions.{values, doubled, moved-values}
 use Rattle.tripod.specs.declared.Diffs.{Diffs}
-use Rattle.tripod.specs.Tripod.{steps, Short, Calm, Even}
+use Rattle.tripod.specs.Tripod.{steps, Short, SmallTripod, SmallDoubled}
 use Rattle.lists.specs.declared.Heading.{Heading}
 use Rattle.lists.specs.declared.Way.{Way}
 use Rattle.lists.specs.declared.Spot.{Spot}
@@ -60,8 +60,8 @@ crossed-spot w n s = record { at = stepped-cell (w .towards) n (s .at); e = move
 -- what a step asks: every sum fits
 pub record CanCross (s : Spot) (w : Way) : Type 0 where
   pub cells : CanStep (s .at) (w .towards)
-  pub values : Calm (s .e)
-  pub twice : Even (w .twice)
+  pub values : SmallTripod (s .e)
+  pub twice : SmallDoubled (w .twice)
 
 -- two ends within the limit, and their differences
 pub record Measured (p q : Cell) (d : Diffs) : Type 0 where

@@ -7,7 +7,7 @@ use mathlib.Core.Path.{_≡_, refl, _∙_}
 use mathlib.Core.List.{List}
 use lib.ListN.{length, getD, set, length-set}
 use lib.Seq.{getD-set-same, getD-set-other}
-use Rattle.grids.specs.Marks.{tab}
+use Rattle.grids.specs.Marks.{tabulate}
 use Rattle.marks.specs.Rows.{Filled}
 use Rattle.grids.proofs.Any.{is-tab}
 
@@ -45,7 +45,7 @@ filled-more f from at next v l m le e h is done =
     filled-then f f from at next l m (set m at v) le (omega arith) (λ k ge lt. refl) done (filled-one f at next v m e h is)
 
 -- filled from end to end
-pub filled-whole : (f : ℕ → ℕ) (n : ℕ) (l m : List ℕ) → length l ≡ n → Filled f 0 n l m → m ≡ tab f n
+pub filled-whole : (f : ℕ → ℕ) (n : ℕ) (l m : List ℕ) → length l ≡ n → Filled f 0 n l m → m ≡ tabulate f n
 filled-whole f n l m e h = is-tab f n m (h .long ∙ e) (λ k lt. h .inside k (omega arith) lt)
 
 -- filled by another function with the same values

@@ -9,16 +9,16 @@ use Rattle.sights.specs.declared.Placement.{Placement}
 use Rattle.sights.specs.declared.Point.{Point}
 
 -- the cell that C's struct means
-abbrev pub plain : OatCell → Cell
-plain c = record { x = c .x; y = c .y; z = c .z }
+abbrev pub as-cell : OatCell → Cell
+as-cell c = record { x = c .x; y = c .y; z = c .z }
 
 -- the counts that C's struct means
-abbrev pub plain-counts : OatCounts → Counts
-plain-counts n = record { nx = n .nx; ny = n .ny; nz = n .nz }
+abbrev pub as-counts : OatCounts → Counts
+as-counts n = record { nx = n .nx; ny = n .ny; nz = n .nz }
 
 -- the placement and the point that C's structs mean
-abbrev pub plain-placement : OatPlacement → Placement
-plain-placement at = record { ox = at .ox; oy = at .oy; oz = at .oz; edge = at .edge }
+abbrev pub as-placement : OatPlacement → Placement
+as-placement at = record { ox = at .ox; oy = at .oy; oz = at .oz; edge = at .edge }
 
-abbrev pub plain-point : OatPoint → Point
-plain-point p = record { x = p .x; y = p .y; z = p .z }
+abbrev pub as-point : OatPoint → Point
+as-point p = record { x = p .x; y = p .y; z = p .z }

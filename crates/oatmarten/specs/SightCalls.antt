@@ -7,7 +7,7 @@ use Rattle.sights.specs.declared.Lookup.the-variants.{Cell as At, Refused as No
 use Rattle.sight.specs.declared.Sight.{Sight}
 use Rattle.sight.specs.declared.Sight.the-variants.{Clear as Seen, Blocked as InTheWay, Refused as NotSeen}
 use Rattle.oatmarten.specs.declared.sight_calls.OatSight.{OatSight}
-use Rattle.sights.specs.Quotient.{whole}
+use Rattle.sights.specs.Quotient.{as-f64}
 use Rattle.oatmarten.specs.Refusals.{flat-refusal}
 
 abbrev pub flat-found : Lookup → OatFound
@@ -22,7 +22,7 @@ unblocked number end axis =
       end = end;
       axis = axis;
       blocked = 0;
-      share = whole 0;
+      share = as-f64 0;
       x = pos 0;
       y = pos 0;
       z = pos 0;

@@ -3,7 +3,7 @@ ghost use mathlib.Core.Path.{_≡_};
 ghost use lib.ListN.{length};
 ghost use Rattle.grids.specs.Grid.{layer-part};
 ghost use Rattle.grids.specs.Marks.{completeness};
-ghost use Rattle.oatmarten.specs.Inputs.{plain-counts};
+ghost use Rattle.oatmarten.specs.Inputs.{as-counts};
 ghost use Rattle.oatmarten.specs.GridCalls.{flat-verdict, flat-complete, flat-part, FlatMarks};
 use crate::inputs::OatCounts;
 use crate::inputs::counts;
@@ -114,7 +114,7 @@ fn flat_part(p: LayerPart) -> OatPart
 // Marks the near cells of a grid, in place.
 #[no_mangle]
 pub extern "C" fn oat_mark(n: OatCounts, cells: &mut [u8]) -> OatVerdict
-    ensures { λ r. ⌜ FlatMarks (plain-counts n) (now (cells .entry)) r (now (cells .exit)) ⌝ }
+    ensures { λ r. ⌜ FlatMarks (as-counts n) (now (cells .entry)) r (now (cells .exit)) ⌝ }
 {
     let grid = counts(n);
     flat_verdict(marks::mark(grid, cells))
@@ -123,7 +123,7 @@ pub extern "C" fn oat_mark(n: OatCounts, cells: &mut [u8]) -> OatVerdict
 // Whether no clear cell touches a solid one.
 #[no_mangle]
 pub extern "C" fn oat_complete(n: OatCounts, cells: &[u8]) -> OatComplete
-    ensures { λ r. ⌜ r ≡ flat-complete (completeness (plain-counts n) (now (cells .entry))) ⌝ }
+    ensures { λ r. ⌜ r ≡ flat-complete (completeness (as-counts n) (now (cells .entry))) ⌝ }
 {
     let grid = counts(n);
     flat_complete(marks::complete(grid, cells))
@@ -132,7 +132,7 @@ pub extern "C" fn oat_complete(n: OatCounts, cells: &[u8]) -> OatComplete
 // Where layer z lies in the caller's bytes.
 #[no_mangle]
 pub extern "C" fn oat_layer(n: OatCounts, cells: &[u8], z: i32) -> OatPart
-    ensures { λ r. ⌜ r ≡ flat-part (layer-part (plain-counts n) (length (now (cells .entry))) z) ⌝ }
+    ensures { λ r. ⌜ r ≡ flat-part (layer-part (as-counts n) (length (now (cells .entry))) z) ⌝ }
 {
     let grid = counts(n);
     flat_part(grids::layer_part(grid, cells, z))

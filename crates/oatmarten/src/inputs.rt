@@ -1,6 +1,6 @@
 // C's structs that go into a call, and the values that they mean.
 ghost use mathlib.Core.Path.{_≡_};
-ghost use Rattle.oatmarten.specs.Inputs.{plain, plain-counts, plain-placement, plain-point};
+ghost use Rattle.oatmarten.specs.Inputs.{as-cell, as-counts, as-placement, as-point};
 use cells::Cell;
 use cells::Counts;
 use sights::Placement;
@@ -16,7 +16,7 @@ pub struct OatCell {
 
 // A cell of C's as a cell.
 pub(crate) fn cell(c: OatCell) -> Cell
-    ensures { λ r. ⌜ r ≡ plain c ⌝ }
+    ensures { λ r. ⌜ r ≡ as-cell c ⌝ }
 {
     let x = c.x;
     let y = c.y;
@@ -34,7 +34,7 @@ pub struct OatCounts {
 
 // Counts of C's as counts.
 pub(crate) fn counts(n: OatCounts) -> Counts
-    ensures { λ r. ⌜ r ≡ plain-counts n ⌝ }
+    ensures { λ r. ⌜ r ≡ as-counts n ⌝ }
 {
     Counts {
         nx: n.nx,
@@ -54,7 +54,7 @@ pub struct OatPlacement {
 
 // A placement and a point of C's as such.
 pub(crate) fn placement(at: OatPlacement) -> Placement
-    ensures { λ r. ⌜ r ≡ plain-placement at ⌝ }
+    ensures { λ r. ⌜ r ≡ as-placement at ⌝ }
 {
     Placement {
         ox: at.ox,
@@ -73,7 +73,7 @@ pub struct OatPoint {
 }
 
 pub(crate) fn point(p: OatPoint) -> Point
-    ensures { λ r. ⌜ r ≡ plain-point p ⌝ }
+    ensures { λ r. ⌜ r ≡ as-point p ⌝ }
 {
     Point {
         x: p.x,

@@ -2,7 +2,7 @@
 ghost use mathlib.Core.Path.{_≡_};
 ghost use Rattle.lines.specs.Lines.{six-line, line-26};
 ghost use Rattle.lines.specs.Preference.{rule-1};
-ghost use Rattle.oatmarten.specs.Inputs.{plain};
+ghost use Rattle.oatmarten.specs.Inputs.{as-cell};
 ghost use Rattle.oatmarten.specs.LineCalls.{flat-listed, FlatLists};
 use crate::inputs::OatCell;
 use crate::inputs::cell;
@@ -44,7 +44,7 @@ fn flat_listed(l: Listed) -> OatListed
 // The 6-line from p to q.
 #[no_mangle]
 pub extern "C" fn oat_line6(p: OatCell, q: OatCell, out: &mut [i32]) -> OatListed
-    ensures { λ r. ⌜ FlatLists (six-line rule-1 (plain p) (plain q)) (plain p) (plain q) (now (out .entry)) r (now (out .exit)) ⌝ }
+    ensures { λ r. ⌜ FlatLists (six-line rule-1 (as-cell p) (as-cell q)) (as-cell p) (as-cell q) (now (out .entry)) r (now (out .exit)) ⌝ }
 {
     let from = cell(p);
     let to = cell(q);
@@ -54,7 +54,7 @@ pub extern "C" fn oat_line6(p: OatCell, q: OatCell, out: &mut [i32]) -> OatListe
 // The 26-line from p to q.
 #[no_mangle]
 pub extern "C" fn oat_line26(p: OatCell, q: OatCell, out: &mut [i32]) -> OatListed
-    ensures { λ r. ⌜ FlatLists (line-26 (plain p) (plain q)) (plain p) (plain q) (now (out .entry)) r (now (out .exit)) ⌝ }
+    ensures { λ r. ⌜ FlatLists (line-26 (as-cell p) (as-cell q)) (as-cell p) (as-cell q) (now (out .entry)) r (now (out .exit)) ⌝ }
 {
     let from = cell(p);
     let to = cell(q);

@@ -1,7 +1,7 @@
 // Reading a venue's and a pair's record and writing a venue's, for C.
 ghost use mathlib.Core.Path.{_≡_};
 ghost use Rattle.records.specs.Records.{venue-read, pair-read};
-ghost use Rattle.oatmarten.specs.Inputs.{plain-counts};
+ghost use Rattle.oatmarten.specs.Inputs.{as-counts};
 ghost use Rattle.oatmarten.specs.RecordCalls.{flat-venue, flat-pair, flat-written, FlatWritesVenue};
 use crate::inputs::OatCounts;
 use crate::inputs::counts;
@@ -162,7 +162,7 @@ pub extern "C" fn oat_read_pair(bytes: &[u8]) -> OatPair
 // Writes a venue's record at the front of the lent bytes.
 #[no_mangle]
 pub extern "C" fn oat_write_venue(n: OatCounts, cells: &[u8], out: &mut [u8]) -> OatWritten
-    ensures { λ r. ⌜ FlatWritesVenue (plain-counts n) (now (cells .entry)) (now (out .entry)) r (now (out .exit)) ⌝ }
+    ensures { λ r. ⌜ FlatWritesVenue (as-counts n) (now (cells .entry)) (now (out .entry)) r (now (out .exit)) ⌝ }
 {
     let grid = counts(n);
     flat_written(venues::write_venue(grid, cells, out))

@@ -3,7 +3,7 @@ ghost use mathlib.Core.Path.{_≡_};
 ghost use Rattle.sights.specs.Survey.{cell-of};
 ghost use Rattle.sight.specs.Sight.{sight};
 ghost use Rattle.sight.specs.declared.Sight.the-variants.{Blocked as InTheWay};
-ghost use Rattle.oatmarten.specs.Inputs.{plain-counts, plain-placement, plain-point};
+ghost use Rattle.oatmarten.specs.Inputs.{as-counts, as-placement, as-point};
 ghost use Rattle.oatmarten.specs.SightCalls.{flat-found, unblocked, flat-sight};
 use crate::inputs::OatCounts;
 use crate::inputs::OatPlacement;
@@ -61,7 +61,7 @@ fn flat_found(l: Lookup) -> OatFound
 // The cell of a surveyed point.
 #[no_mangle]
 pub extern "C" fn oat_cell_of(n: OatCounts, at: OatPlacement, p: OatPoint) -> OatFound
-    ensures { λ r. ⌜ r ≡ flat-found (cell-of (plain-counts n) (plain-placement at) (plain-point p)) ⌝ }
+    ensures { λ r. ⌜ r ≡ flat-found (cell-of (as-counts n) (as-placement at) (as-point p)) ⌝ }
 {
     let grid = counts(n);
     let place = placement(at);
@@ -142,7 +142,7 @@ pub extern "C" fn oat_sight(
     camera: OatPoint,
     ball: OatPoint,
 ) -> OatSight
-    ensures { λ r. ⌜ r ≡ flat-sight (sight (plain-counts n) (now (cells .entry)) (plain-placement at) (plain-point camera) (plain-point ball)) ⌝ }
+    ensures { λ r. ⌜ r ≡ flat-sight (sight (as-counts n) (now (cells .entry)) (as-placement at) (as-point camera) (as-point ball)) ⌝ }
 {
     let grid = counts(n);
     let place = placement(at);

@@ -13,7 +13,7 @@ use tripod::Diffs;
 use walks::Place;
 
 // The cell of the byte at i.
-pub fn cell_of(n: Counts, i: u32) -> Cell
+pub fn cell_at(n: Counts, i: u32) -> Cell
     requires { ⌜ Good (n .nx) × Good (n .ny) × (i < 1073741824) ⌝ }
     ensures { λ r. ⌜ r ≡ cell-at n i ⌝ }
 {

@@ -17,7 +17,7 @@ use Rattle.cells.proofs.Checks.{passed}
 use Rattle.records.specs.declared.VenueRead.{VenueRead}
 use Rattle.records.specs.declared.VenueRead.the-variants.{Read, Refused as NoVenue}
 use Rattle.records.specs.declared.PairRead.the-variants.{Read as ReadPair}
-use Rattle.records.specs.Records.{length-field, announced, version-of, whole, venue-version, venue-head, counts-from, counts-at, venue-in, venue-check, venue-by, venue-read, part-of, venue-cells, pair-length, ends-from, cell-in, pair-in, pair-check, pair-by, pair-read}
+use Rattle.records.specs.Records.{length-field, announced, version-of, whole-check, venue-version, venue-head, counts-from, counts-at, venue-in, venue-check, venue-by, venue-read, part-of, venue-cells, pair-length, ends-from, cell-in, pair-in, pair-check, pair-by, pair-read}
 use Rattle.records.proofs.Heads.{head-least, pair-least, then-same, whole-is, venue-whole, pair-whole, part-within}
 
 -- what stands in the first bytes
@@ -60,8 +60,8 @@ module _ (s rest : List ℕ) (exact : length s ≡ length-field + announced s) w
 
   -- ---- the verdicts
 
-  same-whole : whole (s ++ rest) ≡ whole s
-  unfolding whole
+  same-whole : whole-check (s ++ rest) ≡ whole-check s
+  unfolding whole-check
   same-whole =
       let long = length-append s rest in
       rw (
@@ -74,13 +74,13 @@ module _ (s rest : List ℕ) (exact : length s ≡ length-field + announced s) w
 
   same-pair-check : pair-check (s ++ rest) ≡ pair-check s
   unfolding pair-check
-  same-pair-check = rw same-whole (then-same (whole s) (λ fine. rw (same-version (whole-is s fine .some), announces)))
+  same-pair-check = rw same-whole (then-same (whole-check s) (λ fine. rw (same-version (whole-is s fine .some), announces)))
 
   same-venue-check : venue-check (s ++ rest) ≡ venue-check s
   unfolding venue-check
   same-venue-check =
       rw same-whole
-      (then-same (whole s)
+      (then-same (whole-check s)
       (λ fine.
       rw (same-version (whole-is s fine .some), announces)
       (then-same (refuse-when (not (venue-version (version-of s))) Version)

@@ -16,7 +16,7 @@ use Rattle.grids.specs.Grid.{shape}
 use Rattle.cells.proofs.Checks.{fine-first, fine-rest, each-fine, passed}
 use Rattle.records.specs.declared.Venue.{Venue}
 use Rattle.records.specs.declared.VenueRead.the-variants.{Read}
-use Rattle.records.specs.Records.{length-field, announced, version-of, whole, venue-version, venue-head, venue-in, venue-check, venue-by, venue-read, pair-version, pair-length, pair-check}
+use Rattle.records.specs.Records.{length-field, announced, version-of, whole-check, venue-version, venue-head, venue-in, venue-check, venue-by, venue-read, pair-version, pair-length, pair-check}
 
 -- a venue's head holds the version and the counts
 pub head-least : (version : ℕ) → 7 ≤ venue-head version
@@ -51,8 +51,8 @@ pub record Whole (s : List ℕ) : Type 0 where
   pub some : 1 ≤ announced s
   pub there : length-field + announced s ≤ length s
 
-pub whole-is : (s : List ℕ) → whole s ≡ Fine → Whole s
-unfolding whole
+pub whole-is : (s : List ℕ) → whole-check s ≡ Fine → Whole s
+unfolding whole-check
 whole-is s e =
     let past-four = fine-rest (refuse-when (ltb (length s) length-field) Record) _ e in
     let past-zero = fine-rest (refuse-when (eqb (announced s) 0) Record) _ past-four in
@@ -65,11 +65,11 @@ whole-is s e =
 abbrev pub length-read : List ℕ → ℕ
 length-read s = cond (ltb (length s) length-field) 0 (announced s)
 
-pub read-whole : (s : List ℕ) → whole s ≡ Fine → length-read s ≡ announced s
+pub read-whole : (s : List ℕ) → whole-check s ≡ Fine → length-read s ≡ announced s
 read-whole s e = let w = whole-is s e in rw (le-ltb (length s) length-field (omega arith))
 
-pub none-read : (s : List ℕ) → length-read s ≡ 0 → whole s ≡ Refused Record
-unfolding whole
+pub none-read : (s : List ℕ) → length-read s ≡ 0 → whole-check s ≡ Refused Record
+unfolding whole-check
 none-read s = go (ltb (length s) length-field)
   where
     go : (short : Bool) → cond short 0 (announced s) ≡ 0
@@ -78,8 +78,8 @@ none-read s = go (ltb (length s) length-field)
     go false none = rw (eq-eqb (announced s) 0 none)
 
 -- where some length was read, one test is left
-pub some-read : (s : List ℕ) → (length-read s ≡ 0 → ⊥) → whole s ≡ refuse-when (ltb (length s) (length-field + length-read s)) Record
-unfolding whole
+pub some-read : (s : List ℕ) → (length-read s ≡ 0 → ⊥) → whole-check s ≡ refuse-when (ltb (length s) (length-field + length-read s)) Record
+unfolding whole-check
 some-read s = go (ltb (length s) length-field)
   where
     go : (short : Bool) → (cond short 0 (announced s) ≡ 0 → ⊥)
@@ -90,11 +90,11 @@ some-read s = go (ltb (length s) length-field)
 
 -- the tests that both kinds begin with
 abbrev pub head-tests : List ℕ → Bool → Bool → Verdict
-head-tests s known misfit = whole s then refuse-when (not known) Version then refuse-when misfit Record
+head-tests s known misfit = whole-check s then refuse-when (not known) Version then refuse-when misfit Record
 
 -- whether the length fits counts only in a record that is whole
-pub same-tests : (s : List ℕ) {a b c d : Bool} → a ≡ b → (whole s ≡ Fine → c ≡ d) → head-tests s a c ≡ head-tests s b d
-same-tests s {d = d} e h = then-same (whole s) (λ fine. rw (e, h fine))
+pub same-tests : (s : List ℕ) {a b c d : Bool} → a ≡ b → (whole-check s ≡ Fine → c ≡ d) → head-tests s a c ≡ head-tests s b d
+same-tests s {d = d} e h = then-same (whole-check s) (λ fine. rw (e, h fine))
 
 pub record Fits (s : List ℕ) (known misfit : Bool) : Type 0 where
   pub there : length-field + announced s ≤ length s
@@ -103,9 +103,9 @@ pub record Fits (s : List ℕ) (known misfit : Bool) : Type 0 where
 
 pub head-fits : (s : List ℕ) (known misfit : Bool) → head-tests s known misfit ≡ Fine → Fits s known misfit
 head-fits s known misfit e =
-    let past-whole = fine-rest (whole s) _ e in
+    let past-whole = fine-rest (whole-check s) _ e in
     record {
-      there = whole-is s (fine-first (whole s) _ e) .there;
+      there = whole-is s (fine-first (whole-check s) _ e) .there;
       version = not-false _ (passed _ _ (fine-first (refuse-when (not known) Version) _ past-whole));
       long = passed _ _ (fine-rest (refuse-when (not known) Version) _ past-whole);
     }
@@ -117,7 +117,7 @@ venue-head-tests s = head-tests s (venue-version (version-of s)) (ltb (announced
 pub venue-tests : (s : List ℕ) → venue-check s ≡ (venue-head-tests s then shape (venue-in s .counts) (venue-in s .long))
 unfolding venue-check
 venue-tests s =
-    then-four (whole s)
+    then-four (whole-check s)
     (refuse-when (not (venue-version (version-of s))) Version)
     (refuse-when (ltb (announced s) (venue-head (version-of s))) Record)
     (shape (venue-in s .counts) (venue-in s .long))

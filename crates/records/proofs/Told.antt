@@ -6,7 +6,7 @@ use mathlib.Core.Option.{Option, some, Option·map}
 use Rattle.cells.specs.declared.Cell.{Cell}
 use Rattle.cells.specs.declared.Counts.{Counts}
 use Rattle.cells.specs.Refusals.{Told}
-use Rattle.cells.proofs.Refusals.{told-back, apart, untold-by}
+use Rattle.cells.proofs.Refusals.{told-back, tells-apart, untold-by}
 use Rattle.records.specs.declared.VenueRead.{VenueRead}
 use Rattle.records.specs.declared.VenueRead.the-variants.{Read, Refused as NoVenue}
 use Rattle.records.specs.declared.PairRead.{PairRead}
@@ -21,7 +21,7 @@ told-venue-back (NoVenue r) = ap (Option·map NoVenue) (told-back r)
 told-venue-back (Read v) = refl
 
 pub told-venue-one : (r s : VenueRead) → told-venue r ≡ told-venue s → r ≡ s
-told-venue-one = apart told-venue untold-venue told-venue-back
+told-venue-one = tells-apart told-venue untold-venue told-venue-back
 
 abbrev untold-pair : Told ⊎ (Cell × Cell) → Option PairRead
 untold-pair = untold-by NoPair (λ e. ReadPair (record { p = e .0; q = e .1 }))
@@ -31,4 +31,4 @@ told-pair-back (NoPair r) = ap (Option·map NoPair) (told-back r)
 told-pair-back (ReadPair e) = refl
 
 pub told-pair-one : (r s : PairRead) → told-pair r ≡ told-pair s → r ≡ s
-told-pair-one = apart told-pair untold-pair told-pair-back
+told-pair-one = tells-apart told-pair untold-pair told-pair-back

@@ -38,8 +38,8 @@ abbrev pub version-of : List ℕ → ℕ
 version-of s = getD s length-field 0
 
 -- "10 if fewer than four bytes, length 0, or fewer bytes than announced"
-unfoldable pub whole : List ℕ → Verdict
-whole s =
+unfoldable pub whole-check : List ℕ → Verdict
+whole-check s =
     refuse-when (ltb (length s) length-field) Record then
     refuse-when (eqb (announced s) 0) Record then
     refuse-when (ltb (length s) (length-field + announced s)) Record
@@ -78,7 +78,7 @@ venue-in s =
 -- 10; 11; "10 if a venue's length is below 7"; "then 2, and 3 if the length is not 7 + nx·ny·nz"
 unfoldable pub venue-check : List ℕ → Verdict
 venue-check s =
-    whole s then
+    whole-check s then
     refuse-when (not (venue-version (version-of s))) Version then
     refuse-when (ltb (announced s) (venue-head (version-of s))) Record then
     shape (venue-in s .counts) (venue-in s .long)
@@ -135,7 +135,7 @@ pair-in s = record { p = cell-in s ends-from; q = cell-in s (ends-from + 6) }
 -- 10; 11; "10 if .. a pair's is not 13"
 unfoldable pub pair-check : List ℕ → Verdict
 pair-check s =
-    whole s then
+    whole-check s then
     refuse-when (not (pair-version (version-of s))) Version then
     refuse-when (not (eqb (announced s) (pair-length (version-of s)))) Record
 

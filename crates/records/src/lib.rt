@@ -6,7 +6,7 @@ ghost use lib.Dec.{ltb};
 ghost use lib.ListN.{length};
 ghost use Rattle.cells.specs.declared.Refusal.the-variants.{Record, Version};
 ghost use Rattle.cells.specs.Checks.{refuse-when, _then_};
-ghost use Rattle.records.specs.Records.{signed, length-field, announced, version-of, whole, venue-version, venue-head, counts-at, venue-in, venue-check, venue-read, venue-cells, pair-version, pair-length, cell-in, pair-check, pair-read};
+ghost use Rattle.records.specs.Records.{signed, length-field, announced, version-of, whole-check, venue-version, venue-head, counts-at, venue-in, venue-check, venue-read, venue-cells, pair-version, pair-length, cell-in, pair-check, pair-read};
 use cells::Cell;
 use cells::Counts;
 use cells::Refusal;
@@ -68,8 +68,8 @@ fn version_of(s: &[u8]) -> u8
 }
 
 // Refusal 10 where the record is cut short.
-fn whole(s: &[u8]) -> Verdict
-    ensures { λ r. ⌜ r ≡ whole (now (s .entry)) ⌝ }
+fn check_whole(s: &[u8]) -> Verdict
+    ensures { λ r. ⌜ r ≡ whole-check (now (s .entry)) ⌝ }
 {
     let long = announced(s);
     if long == 0 {
@@ -83,9 +83,9 @@ fn whole(s: &[u8]) -> Verdict
 
 // Refusal 10 where the record is cut short, 11 unless its version is known, 10 where its length does not fit.
 fn head_check(s: &[u8], known: bool, misfit: bool) -> Verdict
-    ensures { λ r. ⌜ r ≡ (whole (now (s .entry)) then refuse-when (not known) Version then refuse-when misfit Record) ⌝ }
+    ensures { λ r. ⌜ r ≡ (whole-check (now (s .entry)) then refuse-when (not known) Version then refuse-when misfit Record) ⌝ }
 {
-    let v = whole(s);
+    let v = check_whole(s);
     let Verdict::Fine = v else {
         return v;
     };

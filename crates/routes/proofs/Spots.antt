@@ -27,7 +27,7 @@ use Rattle.lines.proofs.Centres.{centres-good}
 use Rattle.lines.proofs.Cells.{limited-difference, cell-on}
 use Rattle.lines.proofs.Signs.{step-moves}
 use Rattle.tripod.specs.Tripod.{NextFace}
-use Rattle.tripod.proofs.Laws.{place-calm, doubled-even}
+use Rattle.tripod.proofs.Laws.{place-small, doubled-small}
 use Rattle.grids.specs.Grid.{index, cell-at, byte-of}
 use Rattle.grids.proofs.Shapes.{Shaped}
 use Rattle.grids.proofs.Places.{index-below, x-below, y-below, z-below}
@@ -194,8 +194,8 @@ module _ (bytes : ℕ) (k : Route) (plan : Planned bytes k) where
         x = rw (plan .moves) (stride-small (k .p .x) (k .q .x) 1 (omega arith));
         y = rw (plan .moves) (stride-small (k .p .y) (k .q .y) (k .n .nx) (omega (arith, plan .shaped .x .most)));
         z = rw (plan .moves) (stride-small (k .p .z) (k .q .z) (k .n .nx * k .n .ny) (plan .shaped .layer-most));
-        values = rw (h .value) (place-calm D t short-at le);
-        twice = rw (plan .twice) (doubled-even D short-at);
+        values = rw (h .value) (place-small D t short-at le);
+        twice = rw (plan .twice) (doubled-small D short-at);
       }
 
   -- ---- the 6-line

@@ -14,7 +14,7 @@ use Rattle.lines.specs.Preference.{rule-1}
 use Rattle.lines.specs.Crossings.{Course}
 use Rattle.lines.specs.Lines.{differences, centres, cell-of}
 use Rattle.lines.specs.Decisions.{values, doubled, moved-values}
-use Rattle.tripod.specs.Tripod.{steps, Short, Calm, Even}
+use Rattle.tripod.specs.Tripod.{steps, Short, SmallTripod, SmallDoubled}
 use Rattle.grids.specs.Grid.{index}
 use Rattle.grids.proofs.Shapes.{Shaped}
 use Rattle.walks.specs.Safe.{InGrid}
@@ -100,5 +100,5 @@ pub record CanCross (s : Spot) (k : Route) : Type 0 where
   pub x : Small (k .strides .x)
   pub y : Small (k .strides .y)
   pub z : Small (k .strides .z)
-  pub values : Calm (s .e)
-  pub twice : Even (k .twice)
+  pub values : SmallTripod (s .e)
+  pub twice : SmallDoubled (k .twice)

@@ -6,7 +6,7 @@ ghost use lib.IntN.{pos, _-ℤ_};
 ghost use lib.ListN.{length};
 ghost use Rattle.lines.specs.Lines.{longest, moved-26};
 ghost use Rattle.lines.specs.Decisions.{values};
-ghost use Rattle.tripod.specs.Tripod.{steps, Short, Calm};
+ghost use Rattle.tripod.specs.Tripod.{steps, Short, SmallTripod};
 ghost use Rattle.routes.specs.Route.{HasByte, byte-there};
 ghost use Rattle.runs.specs.Run.{slope, lean-from, picked, swung-by, strode-by, stepped-lean, CanSwing, CanLean, CanRun, Ran, spot-at};
 use cells::Axis;
@@ -86,7 +86,7 @@ pub fn slope_of(k: Route, long: Axis) -> Slope
 
 // A spot as a cell of a run.
 pub fn lean_of(s: Spot, d: Diffs, long: Axis) -> Lean
-    requires { ⌜ Calm (s .e) × Short d ⌝ }
+    requires { ⌜ SmallTripod (s .e) × Short d ⌝ }
     ensures { λ r. ⌜ r ≡ lean-from long (steps d) s ⌝ }
 {
     let at = s.at;

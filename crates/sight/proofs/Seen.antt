@@ -17,7 +17,7 @@ use Rattle.sights.specs.declared.Placement.{Placement}
 use Rattle.sights.specs.declared.Point.{Point}
 use Rattle.sights.specs.Survey.{placement-check, look-up}
 use Rattle.sight.specs.declared.Sight.the-variants.{Refused}
-use Rattle.sight.specs.Sight.{told-by, seen, if-fine, looked, sight}
+use Rattle.sight.specs.Sight.{sight-of, seen, if-fine, looked, sight}
 
 module _ (n : Counts) (l : List ℕ) (at : Placement) (camera ball : Point) where
   pub looked-is : looked n l at camera ball ≡ seen n l (look-up P n at camera) (look-up Q n at ball)
@@ -39,5 +39,5 @@ module _ (n : Counts) (l : List ℕ) (at : Placement) (camera ball : Point) wher
   ball-refused hf f-is ht t-is = from-lookups hf f-is ht t-is
 
   pub walked : {f t : Lookup} {c b : cell.Cell} {h : FirstHit} →
-      f ≡ look-up P n at camera → f ≡ Cell c → t ≡ look-up Q n at ball → t ≡ Cell b → h ≡ first-hit Adaptive n l c b → looked n l at camera ball ≡ told-by h
-  walked hf f-is ht t-is h-is = from-lookups hf f-is ht t-is ∙ ap told-by (sym h-is)
+      f ≡ look-up P n at camera → f ≡ Cell c → t ≡ look-up Q n at ball → t ≡ Cell b → h ≡ first-hit Adaptive n l c b → looked n l at camera ball ≡ sight-of h
+  walked hf f-is ht t-is h-is = from-lookups hf f-is ht t-is ∙ ap sight-of (sym h-is)

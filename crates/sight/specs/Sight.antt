@@ -26,16 +26,16 @@ use Rattle.sight.specs.declared.Sight.{Sight}
 use Rattle.sight.specs.declared.Sight.the-variants.{Clear, Blocked, Refused}
 
 -- what the adaptive walk says: "clear, or blocked with the share of the way as one f64, the cell, code and reads"
-abbrev pub told-by : FirstHit → Sight
-told-by (Open reads) = Clear
-told-by (Hit h) = Blocked (record { share = share-of (h .place .num) (h .place .den); cell = h .cell; code = h .code; reads = h .reads })
-told-by (NotWalked r) = Refused r
+abbrev pub sight-of : FirstHit → Sight
+sight-of (Open reads) = Clear
+sight-of (Hit h) = Blocked (record { share = share-of (h .place .num) (h .place .den); cell = h .cell; code = h .code; reads = h .reads })
+sight-of (NotWalked r) = Refused r
 
 -- from the two lookups: "where the camera's point has no cell, its refusal is the answer and the ball is not looked at"
 abbrev pub seen : Counts → List ℕ → Lookup → Lookup → Sight
 seen n l (NoCell r) ball = Refused r
 seen n l (Cell c) (NoCell r) = Refused r
-seen n l (Cell c) (Cell b) = told-by (first-hit Adaptive n l c b)
+seen n l (Cell c) (Cell b) = sight-of (first-hit Adaptive n l c b)
 
 -- an answer that is given only where the tests before it are passed
 abbrev pub if-fine : Verdict → Sight → Sight

@@ -5,7 +5,7 @@ ghost use Rattle.grids.specs.Grid.{count-check};
 ghost use Rattle.walks.specs.declared.Walker.the-variants.{Adaptive};
 ghost use Rattle.walks.specs.Answers.{Finds};
 ghost use Rattle.sights.specs.Survey.{Tested, placement-check};
-ghost use Rattle.sight.specs.Sight.{told-by, if-fine, looked, Sees};
+ghost use Rattle.sight.specs.Sight.{sight-of, if-fine, looked, Sees};
 use cells::Cell;
 use cells::Counts;
 use cells::End;
@@ -32,8 +32,8 @@ pub enum Sight {
 }
 
 // What a walk tells of the sight.
-fn told_by(h: FirstHit) -> Sight
-    ensures { λ r. ⌜ r ≡ told-by h ⌝ }
+fn sight_of(h: FirstHit) -> Sight
+    ensures { λ r. ⌜ r ≡ sight-of h ⌝ }
 {
     match h {
         FirstHit::Clear(_) => Sight::Clear,
@@ -84,7 +84,7 @@ fn look(n: Counts, cells: &[u8], at: Placement, camera: Point, ball: Point) -> S
             Lookup::Cell(_) => Sight::Clear,
         };
     };
-    told_by(first_hit(n, cells, p, q))
+    sight_of(first_hit(n, cells, p, q))
 }
 
 // Where the counts passed their test: refusal 7, then the lookups.

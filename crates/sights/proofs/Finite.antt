@@ -8,7 +8,7 @@ use lib.IntN.{ℤ}
 use borrow.Author.Tests.{ltb-true}
 use lib.Ieee.{Float, nan, inf, fin, Format, binary64, low, emax, prec, up, down, unlike, lt, isNan, neg, add, sub, div, sum, round, units, odd, ofInt}
 use lib.Ieee.Scale.{finite}
-use Rattle.sights.specs.Quotient.{whole, quotient}
+use Rattle.sights.specs.Quotient.{as-f64, quotient}
 use Rattle.sights.proofs.Tests.{clash}
 
 -- ---- finite is strictly between the infinities
@@ -61,13 +61,13 @@ difference-no-nan (fin s m e) nan p q = clash q refl
 difference-no-nan (fin s m e) (inf t) p q = clash q refl
 difference-no-nan (fin s m e) (fin t n d) p q = sum-no-nan binary64 s (m * up e * down d) (not t) (n * up d * down e) (down e * down d)
 
-zero-not-above : (t : Bool) (d : ℤ) → lt (whole 0) (fin t 0 d) ≡ true → ⊥
+zero-not-above : (t : Bool) (d : ℤ) → lt (as-f64 0) (fin t 0 d) ≡ true → ⊥
 unfolding lt ofInt
 zero-not-above true d h = clash h refl
 zero-not-above false d h = omega (arith, ltb-true (0 * down d) (0 * up d * 1) h)
 
 -- a number over a finite edge above 0
-over-edge-no-nan : (x y : Float) → isNan x ≡ false → finite y ≡ true → lt (whole 0) y ≡ true → isNan (div binary64 x y) ≡ false
+over-edge-no-nan : (x y : Float) → isNan x ≡ false → finite y ≡ true → lt (as-f64 0) y ≡ true → isNan (div binary64 x y) ≡ false
 unfolding div isNan lt ofInt
 over-edge-no-nan nan y p q h = clash refl p
 over-edge-no-nan (inf s) nan p q h = clash q refl
@@ -79,6 +79,6 @@ over-edge-no-nan (fin s m e) (fin t zero d) p q h = absurd (zero-not-above t d h
 over-edge-no-nan (fin s m e) (fin t (suc n) d) p q h = rw (eqb·suc-zero n) (round-no-nan binary64 (unlike s t) (m * up e * down d) (suc n * up d * down e))
 
 -- "With finite inputs and an edge above 0, q is never NaN"
-pub quotient-no-nan : (point origin edge : Float) → finite point ≡ true → finite origin ≡ true → finite edge ≡ true → lt (whole 0) edge ≡ true
+pub quotient-no-nan : (point origin edge : Float) → finite point ≡ true → finite origin ≡ true → finite edge ≡ true → lt (as-f64 0) edge ≡ true
     → isNan (quotient point origin edge) ≡ false
 quotient-no-nan point origin edge p o f h = over-edge-no-nan (sub binary64 point origin) edge (difference-no-nan point origin p o) f h

@@ -8,17 +8,17 @@ use mathlib.Core.Bool.{Bool, true, false, cond}
 use mathlib.Core.Logic.{_↔_, _⊎_, inl, inr}
 use lib.Ieee.{Float, le, lt, isNan, toUnsigned}
 use Rattle.cells.proofs.Touching.{and-both}
-use Rattle.sights.specs.Quotient.{whole, outside, in-cell, cell-number}
+use Rattle.sights.specs.Quotient.{as-f64, outside, in-cell, cell-number}
 use Rattle.sights.specs.Search.{Inside}
 use Rattle.sights.proofs.Tests.{clash, true-unless, false-unless, neither}
 use Rattle.sights.proofs.Order.{compared}
 use Rattle.sights.proofs.Whole.{whole-ordered, at-least, less-than, whole-part}
 
 -- n ≤ q < n + 1 and its two sides
-sides : (q : Float) (n : ℕ) → in-cell q n ≡ true → (le (whole n) q ≡ true) × (lt q (whole (n + 1)) ≡ true)
-sides q n h = and-both (le (whole n) q) (lt q (whole (n + 1))) h
+sides : (q : Float) (n : ℕ) → in-cell q n ≡ true → (le (as-f64 n) q ≡ true) × (lt q (as-f64 (n + 1)) ≡ true)
+sides q n h = and-both (le (as-f64 n) q) (lt q (as-f64 (n + 1))) h
 
-in-cell-of : (q : Float) (n : ℕ) → le (whole n) q ≡ true → lt q (whole (n + 1)) ≡ true → in-cell q n ≡ true
+in-cell-of : (q : Float) (n : ℕ) → le (as-f64 n) q ≡ true → lt q (as-f64 (n + 1)) ≡ true → in-cell q n ≡ true
 in-cell-of q n from upto = rw (from, upto)
 
 -- there is only one such number
@@ -47,24 +47,24 @@ number-found (suc k) n q r l h = go (in-cell q k) refl (λ below. number-found k
         lower (inr p) e = omega arith
 
 -- where 0 ≤ q < count, there is such a number below the count
-number-there : (q : Float) (count : ℕ) → count ≤ 2 ^ 53 → le (whole 0) q ≡ true → lt q (whole count) ≡ true → (n : ℕ) × (n < count) × (in-cell q n ≡ true)
+number-there : (q : Float) (count : ℕ) → count ≤ 2 ^ 53 → le (as-f64 0) q ≡ true → lt q (as-f64 count) ≡ true → (n : ℕ) × (n < count) × (in-cell q n ≡ true)
 number-there q zero r from upto = absurd (let z : 0 < 0 = whole-ordered q 0 0 (omega arith) (omega arith) from upto in omega arith)
-number-there q (suc m) r from upto = go (lt q (whole m)) refl (number-there q m (omega arith) from)
+number-there q (suc m) r from upto = go (lt q (as-f64 m)) refl (number-there q m (omega arith) from)
   where
-    go : (b : Bool) → lt q (whole m) ≡ b → (lt q (whole m) ≡ true → (n : ℕ) × (n < m) × (in-cell q n ≡ true)) → (n : ℕ) × (n < suc m) × (in-cell q n ≡ true)
+    go : (b : Bool) → lt q (as-f64 m) ≡ b → (lt q (as-f64 m) ≡ true → (n : ℕ) × (n < m) × (in-cell q n ≡ true)) → (n : ℕ) × (n < suc m) × (in-cell q n ≡ true)
     go true e lower = let (n, l, i) = lower e in (n, omega arith, i)
     go false e lower =
-        (m, omega arith, in-cell-of q m (at-least q m (omega arith) (compared (whole 0) q from) e) (subst (λ (k : ℕ). lt q (whole k) ≡ true) (sym (add-one m)) upto))
+        (m, omega arith, in-cell-of q m (at-least q m (omega arith) (compared (as-f64 0) q from) e) (subst (λ (k : ℕ). lt q (as-f64 k) ≡ true) (sym (add-one m)) upto))
 
 -- ---- inside
 
 -- the two tests of a q that is not outside
-pub not-outside : (count : ℕ) (q : Float) → outside count q ≡ false → (lt q (whole 0) ≡ false) × (le (whole count) q ≡ false)
-not-outside count q h = neither (lt q (whole 0)) (le (whole count) q) h
+pub not-outside : (count : ℕ) (q : Float) → outside count q ≡ false → (lt q (as-f64 0) ≡ false) × (le (as-f64 count) q ≡ false)
+not-outside count q h = neither (lt q (as-f64 0)) (le (as-f64 count) q) h
 
 -- a q that is inside is below the count
-below-count : (count : ℕ) (q : Float) → Inside count q → lt q (whole count) ≡ true
-below-count count q h = let l = h .small in less-than q count (omega arith) (compared (whole 0) q (h .from)) (not-outside count q (h .within) .1)
+below-count : (count : ℕ) (q : Float) → Inside count q → lt q (as-f64 count) ≡ true
+below-count count q h = let l = h .small in less-than q count (omega arith) (compared (as-f64 0) q (h .from)) (not-outside count q (h .within) .1)
 
 -- the definition's number is below the count, and q lies in its cell
 pub number-in : (count : ℕ) (q : Float) → Inside count q → (cell-number count q < count) × (in-cell q (cell-number count q) ≡ true)
@@ -74,13 +74,13 @@ number-in count q h =
     rw (number-found count n q (omega arith) below there) (below, there)
 
 -- the last number below the count that is not above q is the definition's number
-pub number-last : (count n : ℕ) (q : Float) → Inside count q → n < count → le (whole n) q ≡ true → (n + 1 < count → lt q (whole (n + 1)) ≡ true) → cell-number count q ≡ n
+pub number-last : (count n : ℕ) (q : Float) → Inside count q → n < count → le (as-f64 n) q ≡ true → (n + 1 < count → lt q (as-f64 (n + 1)) ≡ true) → cell-number count q ≡ n
 number-last count n q h below from upto =
     let l = h .small in
     number-found count n q (omega arith) below (in-cell-of q n from (above (eq-or-lt-of-le below)))
   where
-    above : (suc n ≡ count) ⊎ (suc n < count) → lt q (whole (n + 1)) ≡ true
-    above (inl e) = subst (λ (k : ℕ). lt q (whole k) ≡ true) (let z : count ≡ n + 1 = omega arith in z) (below-count count q h)
+    above : (suc n ≡ count) ⊎ (suc n < count) → lt q (as-f64 (n + 1)) ≡ true
+    above (inl e) = subst (λ (k : ℕ). lt q (as-f64 k) ≡ true) (let z : count ≡ n + 1 = omega arith in z) (below-count count q h)
     above (inr l) = upto (omega arith)
 
 -- ---- outside
@@ -89,10 +89,10 @@ number-last count n q h below from upto =
 pub cell-not-outside : (q : Float) (count n : ℕ) → count ≤ 2 ^ 53 → n < count → in-cell q n ≡ true → outside count q ≡ false
 cell-not-outside q count n r l h = rw (low, high)
   where
-    low : lt q (whole 0) ≡ false
+    low : lt q (as-f64 0) ≡ false
     low = false-unless _ (λ e. let z : n < 0 = whole-ordered q n 0 (omega arith) (omega arith) (sides q n h .0) e in omega arith)
 
-    high : le (whole count) q ≡ false
+    high : le (as-f64 count) q ≡ false
     high = false-unless _ (λ e. let z : count < n + 1 = whole-ordered q count (n + 1) r (omega arith) e (sides q n h .1) in omega arith)
 
 -- a number is outside exactly when no n below the count has n ≤ q < n + 1

@@ -21,7 +21,7 @@ use Rattle.cells.proofs.Checks.{each-fine, passed}
 use Rattle.grids.proofs.Shapes.{Good, counted}
 use Rattle.sights.specs.declared.Placement.{Placement}
 use Rattle.sights.specs.declared.Point.{Point}
-use Rattle.sights.specs.Quotient.{whole, quotient, outside}
+use Rattle.sights.specs.Quotient.{as-f64, quotient, outside}
 use Rattle.sights.specs.Search.{Inside, AllInside}
 use Rattle.sights.specs.Survey.{count-check, placement-check, Tested, quotients, value-check, point-check}
 use Rattle.sights.proofs.Tests.{neither}
@@ -36,7 +36,7 @@ pub record Placed (at : Placement) : Type 0 where
   pub y : finite (at .oy) ≡ true
   pub z : finite (at .oz) ≡ true
   pub edge : finite (at .edge) ≡ true
-  pub above : lt (whole 0) (at .edge) ≡ true
+  pub above : lt (as-f64 0) (at .edge) ≡ true
 
 finite-passed : (b : Bool) (r : Refusal) → refuse-when (not b) r ≡ Fine → b ≡ true
 finite-passed b r h = not-false b (passed (not b) r h)
@@ -53,7 +53,7 @@ placed at h =
 -- ---- a point
 
 value-inside : (e : End) (a : Axis) (count : ℕ) (value origin edge : Float) → Good count → finite origin ≡ true → finite edge ≡ true
-    → lt (whole 0) edge ≡ true → value-check e a count value (quotient value origin edge) ≡ Fine → Inside count (quotient value origin edge)
+    → lt (as-f64 0) edge ≡ true → value-check e a count value (quotient value origin edge) ≡ Fine → Inside count (quotient value origin edge)
 value-inside e a count value origin edge range o f up h =
     let (finite, within) = each-fine _ _ h in
     let number = quotient-no-nan value origin edge (finite-passed _ _ finite) o f up in

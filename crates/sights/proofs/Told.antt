@@ -4,7 +4,7 @@ use mathlib.Core.Logic.{_⊎_}
 use mathlib.Core.Option.{Option, some, Option·map}
 use Rattle.cells.specs.declared.Cell as cell
 use Rattle.cells.specs.Refusals.{Told}
-use Rattle.cells.proofs.Refusals.{told-back, apart, untold-by}
+use Rattle.cells.proofs.Refusals.{told-back, tells-apart, untold-by}
 use Rattle.sights.specs.declared.Lookup.{Lookup}
 use Rattle.sights.specs.declared.Lookup.the-variants.{Cell, Refused}
 use Rattle.sights.specs.Survey.{told-lookup}
@@ -17,4 +17,4 @@ told-lookup-back (Refused r) = ap (Option·map Refused) (told-back r)
 told-lookup-back (Cell c) = refl
 
 pub told-lookup-one : (k l : Lookup) → told-lookup k ≡ told-lookup l → k ≡ l
-told-lookup-one = apart told-lookup untold-lookup told-lookup-back
+told-lookup-one = tells-apart told-lookup untold-lookup told-lookup-back

@@ -12,12 +12,12 @@ use lib.Ieee.{Float, nan, inf, fin, binary64, up, down, lt, le, ofInt, toUnsigne
 use lib.Ieee.Exact.{HasValue}
 use lib.Ieee.Fits.{down-pos}
 use lib.Ieee.Back.{round-whole}
-use Rattle.sights.specs.Quotient.{whole}
+use Rattle.sights.specs.Quotient.{as-f64}
 use Rattle.sights.proofs.Tests.{true→T, T-not→false, and-l, and-r}
 use Rattle.sights.proofs.Order.{test-at-most, not-below, not-at-most}
 
 -- ---- the conversion is exact
-pub whole-exact : (n : ℕ) → n ≤ 2 ^ 53 → HasValue (whole n) false n 1
+pub whole-exact : (n : ℕ) → n ≤ 2 ^ 53 → HasValue (as-f64 n) false n 1
 unfolding ofInt
 whole-exact n h = round-whole binary64 false n h
 
@@ -27,8 +27,8 @@ valued-no-nan nan n v = absurd v
 valued-no-nan (inf s) n v = absurd v
 valued-no-nan (fin s m e) n v = tt
 
-pub whole-no-nan : (n : ℕ) → n ≤ 2 ^ 53 → isNan (whole n) ≡ false
-whole-no-nan n h = T-not→false (isNan (whole n)) (valued-no-nan (whole n) n (whole-exact n h))
+pub whole-no-nan : (n : ℕ) → n ≤ 2 ^ 53 → isNan (as-f64 n) ≡ false
+whole-no-nan n h = T-not→false (isNan (as-f64 n)) (valued-no-nan (as-f64 n) n (whole-exact n h))
 
 -- ---- p / de is the whole number n; k / dd is another number
 same-fraction : (p n de dd : ℕ) → p * 1 ≡ n * de → p * dd ≡ n * dd * de
@@ -94,15 +94,15 @@ between (fin false m e) (fin false m' e') (fin false n d) a b v w h k =
     (low-side (m * up e) a (down e) (down d) (n * up d) (down-pos e) (v .1) (test-at-most (m * up e * down d) (n * up d * down e) h))
     (high-side (m' * up e') b (down e') (down d) (n * up d) (w .1) (ltb→lt (n * up d * down e') (m' * up e' * down d) k))
 
-whole-between : (q : Float) (a b : ℕ) → a ≤ 2 ^ 53 → b ≤ 2 ^ 53 → le (whole a) q ≡ true → lt q (whole b) ≡ true → Between a b q
-whole-between q a b r s h k = between (whole a) (whole b) q a b (whole-exact a r) (whole-exact b s) (true→T h) (true→T k)
+whole-between : (q : Float) (a b : ℕ) → a ≤ 2 ^ 53 → b ≤ 2 ^ 53 → le (as-f64 a) q ≡ true → lt q (as-f64 b) ≡ true → Between a b q
+whole-between q a b r s h k = between (as-f64 a) (as-f64 b) q a b (whole-exact a r) (whole-exact b s) (true→T h) (true→T k)
 
 -- so a < b
 between-ordered : {q : Float} {a b : ℕ} → Between a b q → a < b
 between-ordered (minus-zero z p) = omega arith
 between-ordered (number {k} {d} l g) = lt-of-mul-lt-mul-right (down d) (omega arith)
 
-pub whole-ordered : (q : Float) (a b : ℕ) → a ≤ 2 ^ 53 → b ≤ 2 ^ 53 → le (whole a) q ≡ true → lt q (whole b) ≡ true → a < b
+pub whole-ordered : (q : Float) (a b : ℕ) → a ≤ 2 ^ 53 → b ≤ 2 ^ 53 → le (as-f64 a) q ≡ true → lt q (as-f64 b) ≡ true → a < b
 whole-ordered q a b r s h k = between-ordered (whole-between q a b r s h k)
 
 -- and n ≤ q < n + 1 makes n the whole part of q
@@ -111,12 +111,12 @@ unfolding toUnsigned
 between-part r (minus-zero z p) = sym z
 between-part r (number {k} {d} l h) = ap (λ (z : ℕ). min z (2 ^ 32 - 1)) (div-eq-of-lt-le (down d) l h) ∙ min-eq-left (omega arith)
 
-pub whole-part : (q : Float) (n : ℕ) → n < 2 ^ 32 → le (whole n) q ≡ true → lt q (whole (n + 1)) ≡ true → toUnsigned 32 q ≡ n
+pub whole-part : (q : Float) (n : ℕ) → n < 2 ^ 32 → le (as-f64 n) q ≡ true → lt q (as-f64 (n + 1)) ≡ true → toUnsigned 32 q ≡ n
 whole-part q n r h k = between-part r (whole-between q n (n + 1) (omega arith) (omega arith) h k)
 
 -- a number that is not below n is at least n, and one that is not at least n is below n
-pub at-least : (q : Float) (n : ℕ) → n ≤ 2 ^ 53 → isNan q ≡ false → lt q (whole n) ≡ false → le (whole n) q ≡ true
-at-least q n r p h = not-below (whole n) q (whole-no-nan n r) p h
+pub at-least : (q : Float) (n : ℕ) → n ≤ 2 ^ 53 → isNan q ≡ false → lt q (as-f64 n) ≡ false → le (as-f64 n) q ≡ true
+at-least q n r p h = not-below (as-f64 n) q (whole-no-nan n r) p h
 
-pub less-than : (q : Float) (n : ℕ) → n ≤ 2 ^ 53 → isNan q ≡ false → le (whole n) q ≡ false → lt q (whole n) ≡ true
-less-than q n r p h = not-at-most (whole n) q (whole-no-nan n r) p h
+pub less-than : (q : Float) (n : ℕ) → n ≤ 2 ^ 53 → isNan q ≡ false → le (as-f64 n) q ≡ false → lt q (as-f64 n) ≡ true
+less-than q n r p h = not-at-most (as-f64 n) q (whole-no-nan n r) p h

@@ -6,8 +6,8 @@ use lib.IntN.{pos}
 use lib.Ieee.{Float, binary64, sub, div, lt, le, ofInt}
 
 -- a whole number as an f64
-abbrev pub whole : ℕ → Float
-whole n = ofInt binary64 (pos n)
+abbrev pub as-f64 : ℕ → Float
+as-f64 n = ofInt binary64 (pos n)
 
 -- "q = (point - origin) / edge, two operations, each rounded once"
 abbrev pub quotient : Float → Float → Float → Float
@@ -15,11 +15,11 @@ quotient point origin edge = div binary64 (sub binary64 point origin) edge
 
 -- "A q below 0, or at or above the count, is outside"
 abbrev pub outside : ℕ → Float → Bool
-outside count q = lt q (whole 0) || le (whole count) q
+outside count q = lt q (as-f64 0) || le (as-f64 count) q
 
 -- "n ≤ q < n+1"
 abbrev pub in-cell : Float → ℕ → Bool
-in-cell q n = le (whole n) q && lt q (whole (n + 1))
+in-cell q n = le (as-f64 n) q && lt q (as-f64 (n + 1))
 
 -- "The cell is the whole number n with n ≤ q < n+1": the one among those below the count. (0 where there is none: such a q is outside.)
 unfoldable pub cell-number : ℕ → Float → ℕ
@@ -28,4 +28,4 @@ cell-number (suc n) q = cond (in-cell q n) n (cell-number n q)
 
 -- the share of the way: "the place's two whole numbers, made f64 exactly, divided once"
 abbrev pub share-of : ℕ → ℕ → Float
-share-of num den = div binary64 (whole num) (whole den)
+share-of num den = div binary64 (as-f64 num) (as-f64 den)

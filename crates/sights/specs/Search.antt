@@ -7,13 +7,13 @@ use lib.Ieee.{Float, lt, le}
 use Rattle.cells.specs.declared.Counts.{Counts}
 use Rattle.sights.specs.declared.Point.{Point}
 use Rattle.sights.specs.declared.Span.{Span}
-use Rattle.sights.specs.Quotient.{whole, outside}
+use Rattle.sights.specs.Quotient.{as-f64, outside}
 
 -- a count from 1 to 1,024, and a q from 0 on that is not outside
 pub record Inside (count : ℕ) (q : Float) : Type 0 where
   pub some : 0 < count
   pub small : count ≤ 1024
-  pub from : le (whole 0) q ≡ true
+  pub from : le (as-f64 0) q ≡ true
   pub within : outside count q ≡ false
 
 -- the same on the three axes
@@ -24,8 +24,8 @@ pub record AllInside (n : Counts) (q : Point) : Type 0 where
 
 -- r is a shorter part of the span s, starts at or below q, and ends above q unless it ends where s does
 pub record Closer (q : Float) (s r : Span) : Type 0 where
-  pub from : le (whole (r .lo)) q ≡ true
-  pub upto : r .hi < s .hi → lt q (whole (r .hi)) ≡ true
+  pub from : le (as-f64 (r .lo)) q ≡ true
+  pub upto : r .hi < s .hi → lt q (as-f64 (r .hi)) ≡ true
   pub rising : r .lo < r .hi
   pub within : r .hi ≤ s .hi
   pub shorter : r .hi - r .lo < s .hi - s .lo

@@ -23,11 +23,11 @@ use Rattle.sights.specs.declared.Placement.{Placement}
 use Rattle.sights.specs.declared.Point.{Point}
 use Rattle.sights.specs.declared.Lookup.{Lookup}
 use Rattle.sights.specs.declared.Lookup.the-variants.{Cell, Refused}
-use Rattle.sights.specs.Quotient.{whole, quotient, outside, cell-number}
+use Rattle.sights.specs.Quotient.{as-f64, quotient, outside, cell-number}
 
 -- "edge not finite, or edge not above 0"
 abbrev pub bad-edge : Float → Bool
-bad-edge e = not (finite e) || not (lt (whole 0) e)
+bad-edge e = not (finite e) || not (lt (as-f64 0) e)
 
 -- refusal 7 (origin x, y, z, edge)
 unfoldable pub placement-check : Placement → Verdict

@@ -5,7 +5,7 @@ ghost use Prim.Native.Nat.{_+_, _<_};
 ghost use lib.Ieee.{le};
 ghost use lib.Ieee.Scale.{finite};
 ghost use Rattle.cells.specs.Checks.{refuse-when, _then_};
-ghost use Rattle.sights.specs.Quotient.{whole, quotient, outside, cell-number, share-of};
+ghost use Rattle.sights.specs.Quotient.{as-f64, quotient, outside, cell-number, share-of};
 ghost use Rattle.sights.specs.Search.{Inside, AllInside, Closer};
 ghost use Rattle.sights.specs.Survey.{bad-edge, placement-check, Tested, quotients, value-check, point-check, cell-at, look-up, cell-of};
 use cells::Axis;
@@ -118,7 +118,7 @@ fn check_value(end: End, axis: Axis, count: u32, value: f64, q: f64) -> Verdict
 
 // The half of a span that q lies in; a q above the span lies in the upper half.
 fn halved(q: f64, s: Span) -> Span
-    requires { ⌜ (le (whole (s .lo)) q ≡ true) × (s .lo + 1 < s .hi) ⌝ }
+    requires { ⌜ (le (as-f64 (s .lo)) q ≡ true) × (s .lo + 1 < s .hi) ⌝ }
     ensures { λ r. ⌜ Closer q s r ⌝ }
 {
     let lo = s.lo;

@@ -26,7 +26,7 @@ use Rattle.lines.proofs.Centres.{longest-most, moved-grows, moved-by-one, moved
 use Rattle.lines.proofs.Signs.{figure-6-is-next, stays-small, first-longest, second-longest}
 use Rattle.tripod.specs.declared.Diffs.{Diffs}
 use Rattle.tripod.specs.declared.Moves.{Moves}
-use Rattle.tripod.specs.Tripod.{steps, Short, Calm, Even, NextFace, LongMoves, bit, moves-on}
+use Rattle.tripod.specs.Tripod.{steps, Short, SmallTripod, SmallDoubled, NextFace, LongMoves, bit, moves-on}
 
 -- ---- coordinates
 
@@ -66,8 +66,8 @@ measured-is p q d hp hq ea eb ec = (fun-ext same, record { a = below X ea; b = b
 -- ---- the values
 
 -- at a place within short differences the values may be added
-pub place-calm : (D t : Steps) → ((a : Axis) → D a ≤ 16383) → ((a : Axis) → t a ≤ D a) → Calm (values D t)
-place-calm D t short le = record { xy = small X Y; xz = small X Z; zy = small Z Y }
+pub place-small : (D t : Steps) → ((a : Axis) → D a ≤ 16383) → ((a : Axis) → t a ≤ D a) → SmallTripod (values D t)
+place-small D t short le = record { xy = small X Y; xz = small X Z; zy = small Z Y }
   where
     small : (a b : Axis) → Small (decision D t a b)
     small a b =
@@ -77,8 +77,8 @@ place-calm D t short le = record { xy = small X Y; xz = small X Z; zy = small Z 
         let o = one-sided (decision D t a b) in
         parts-small (decision D t a b) (omega arith) (omega arith)
 
-pub doubled-even : (D : Steps) → ((a : Axis) → D a ≤ 16383) → Even (doubled D)
-doubled-even D short = record { a2 = small X; b2 = small Y; c2 = small Z }
+pub doubled-small : (D : Steps) → ((a : Axis) → D a ≤ 16383) → SmallDoubled (doubled D)
+doubled-small D short = record { a2 = small X; b2 = small Y; c2 = small Z }
   where
     small : (a : Axis) → Small (pos (2 * D a))
     small a = record { small = omega (arith, short a) }

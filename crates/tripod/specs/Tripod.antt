@@ -24,12 +24,12 @@ pub record Short (d : Diffs) : Type 0 where
   pub c : d .c ≤ 16383
 
 -- values and doubled differences that may be added
-pub record Calm (e : Tripod) : Type 0 where
+pub record SmallTripod (e : Tripod) : Type 0 where
   pub xy : Small (e .xy)
   pub xz : Small (e .xz)
   pub zy : Small (e .zy)
 
-pub record Even (d : Doubled) : Type 0 where
+pub record SmallDoubled (d : Doubled) : Type 0 where
   pub a2 : Small (d .a2)
   pub b2 : Small (d .b2)
   pub c2 : Small (d .c2)

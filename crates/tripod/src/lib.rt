@@ -5,7 +5,7 @@ ghost use Rattle.cells.specs.Touching.{apart};
 ghost use Rattle.lines.specs.Steps.{at};
 ghost use Rattle.lines.specs.Lines.{differences, longest, in-limit, InLimit};
 ghost use Rattle.lines.specs.Decisions.{values, doubled, moved-values};
-ghost use Rattle.tripod.specs.Tripod.{steps, Short, Calm, Even, NextFace, LongMoves};
+ghost use Rattle.tripod.specs.Tripod.{steps, Short, SmallTripod, SmallDoubled, NextFace, LongMoves};
 ghost use mathlib.Core.Bool.{true};
 use cells::Axis;
 use cells::Cell;
@@ -97,7 +97,7 @@ pub fn next_face(e: Tripod) -> Axis
 
 // The decision values after a step along n.
 pub fn moved(e: Tripod, d: Doubled, n: Axis) -> Tripod
-    requires { ⌜ Calm e × Even d ⌝ }
+    requires { ⌜ SmallTripod e × SmallDoubled d ⌝ }
     ensures { λ r. ⌜ r ≡ moved-values d n e ⌝ }
 {
     let xy = e.xy;
@@ -136,7 +136,7 @@ pub fn longest_axis(d: Diffs) -> Axis
 // The moves of the long step from a 26-line cell that is not the last. `long` is an axis with the longest difference: it moves, and each other one
 // moves by the sign of its decision value with that axis.
 pub fn long_moves(e: Tripod, d: Diffs, long: Axis) -> Moves
-    requires { ⌜ Calm e × Short d × (steps d long ≡ longest (steps d)) ⌝ }
+    requires { ⌜ SmallTripod e × Short d × (steps d long ≡ longest (steps d)) ⌝ }
     ensures { λ r. ⌜ LongMoves (steps d) e r ⌝ }
 {
     let a = d.a as i32;

@@ -17,7 +17,7 @@ use Rattle.grids.specs.Grid.{size, shape}
 use Rattle.grids.proofs.Shapes.{shaped}
 use Rattle.records.specs.declared.Venue.{Venue}
 use Rattle.records.specs.declared.VenueRead.the-variants.{Read}
-use Rattle.records.specs.Records.{length-field, announced, version-of, whole, venue-version, venue-head, cells-from, counts-from, counts-at, venue-in, venue-check, venue-by, venue-read, venue-cells}
+use Rattle.records.specs.Records.{length-field, announced, version-of, whole-check, venue-version, venue-head, cells-from, counts-from, counts-at, venue-in, venue-check, venue-by, venue-read, venue-cells}
 use Rattle.records.proofs.Heads.{VenueWhole, venue-accepted, part-within, head-least}
 use Rattle.venues.specs.declared.Written.{Written}
 use Rattle.venues.specs.declared.Written.the-variants.{Wrote}
@@ -37,7 +37,7 @@ counts-back s bytes i h =
 -- a whole record of a known version, long enough for its head, is judged by its shape
 pub judged : (s : List ℕ) → length-field + announced s ≤ length s → venue-version (version-of s) ≡ true → venue-head (version-of s) ≤ announced s
     → venue-check s ≡ shape (venue-in s .counts) (venue-in s .long)
-unfolding whole venue-check
+unfolding whole-check venue-check
 judged s there known head =
     let least = head-least (version-of s) in
     rw (

@@ -35,8 +35,8 @@ solid-is : (c : tie.After-is-solid) → let s = c .before .before .before .befor
 solid-is c = sym (c .is-solid .ensures ∙ ap solid (c .before .byte-at .ensures))
 
 -- the cell
-cell-is : (c : tie.After-cell-of) → let s = c .before .before .before .before .before .before .before .before in c .cell-of .result ≡ cell-at (s .args .k .n) (natAbs (s .args .r .spot .at))
-cell-is c = let s = c .before .before .before .before .before .before .before .before in c .cell-of .ensures ∙ ap (cell-at (s .args .k .n)) (at-is s)
+cell-is : (c : tie.After-cell-at) → let s = c .before .before .before .before .before .before .before .before in c .cell-at .result ≡ cell-at (s .args .k .n) (natAbs (s .args .r .spot .at))
+cell-is c = let s = c .before .before .before .before .before .before .before .before in c .cell-at .ensures ∙ ap (cell-at (s .args .k .n)) (at-is s)
 
 byte-at-requires : tie.Need-byte-at-requires
 byte-at-requires c κs = search needs
@@ -48,11 +48,11 @@ returns : tie.Need-returns
 unfolding answer-from
 returns c = rw (solid-is (c .before) ∙ not-true _ (c .if1 .taken))
 
-cast-cell-of : tie.Need-cast-cell-of
-cast-cell-of c = let h = c .before .before .before .before .before .before .before .pre .1 in cast-32 _ (h .index) (h .is) (omega arith)
+cast-cell-at : tie.Need-cast-cell-at
+cast-cell-at c = let h = c .before .before .before .before .before .before .before .pre .1 in cast-32 _ (h .index) (h .is) (omega arith)
 
-cell-of-requires : tie.Need-cell-of-requires
-cell-of-requires c κs =
+cell-at-requires : tie.Need-cell-at-requires
+cell-at-requires c κs =
     let s = c .before .before .before .before .before .before .before in
     (s .pre .0 .shaped .x, s .pre .0 .shaped .y, below s)
 
@@ -80,8 +80,8 @@ answer-of-spec =
     byte-at-requires
     is-solid-requires
     returns
-    cast-cell-of
-    cell-of-requires
+    cast-cell-at
+    cell-at-requires
     measured-requires
     place-after-requires
     returns-2)

@@ -8,14 +8,14 @@ use Rattle.tripod.specs.Tripod.{LongMoves}
 use Rattle.routes.proofs.Spots.{short-at}
 use Rattle.walks.specs.declared.Walker.the-variants.{Adaptive}
 use Rattle.hits.specs.Found.{Walked, CanWalk, going}
-use Rattle.hits.proofs.Turns.{turn-calm, near-faces, near-turn}
+use Rattle.hits.proofs.Turns.{turn-small, near-faces, near-turn}
 use Rattle.hits.proofs.near_turn.Statement.{statement}
 use Rattle.hits.proofs.near_turn.Tie as tie
 
 long-moves-requires : tie.Need-long-moves-requires
 long-moves-requires c κs =
     let (g, near) = c .before .before .before .pre in
-    (turn-calm _ _ _ _ _ _ g, g .plan .short, g .long)
+    (turn-small _ _ _ _ _ _ g, g .plan .short, g .long)
 
 -- the moves, of the ends' own differences
 moves : (c : tie.After-long-moves) → let s = c .before .before .before .before in LongMoves (differences (s .args .k .p) (s .args .k .q)) (s .args .s .e) (c .long-moves .result)

@@ -5,14 +5,14 @@ use mathlib.Core.Bool.{false}
 use Rattle.lines.specs.Steps.{X, Y, Z}
 use Rattle.routes.proofs.Spots.{short-at}
 use Rattle.hits.specs.Found.{Reached}
-use Rattle.hits.proofs.Turns.{turn-calm, last-is, can-run, run-leads}
+use Rattle.hits.proofs.Turns.{turn-small, last-is, can-run, run-leads}
 use Rattle.hits.proofs.run_on.Statement.{statement}
 use Rattle.hits.proofs.run_on.Tie as tie
 
 lean-of-requires : tie.Need-lean-of-requires
 lean-of-requires c κs =
     let (g, is, clear) = c .before .before .pre in
-    (turn-calm _ _ _ _ _ _ g, g .plan .short)
+    (turn-small _ _ _ _ _ _ g, g .plan .short)
 
 clear-run-requires : tie.Need-clear-run-requires
 clear-run-requires c κs =

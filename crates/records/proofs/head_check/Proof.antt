@@ -3,17 +3,17 @@ use mathlib.Core.Path.{_≡_, sym, _∙_}
 use denote.Ref.{now}
 use borrow.Author.Tests.{not-true, not-false}
 use Rattle.cells.specs.declared.Verdict.the-variants.{Fine}
-use Rattle.records.specs.Records.{whole}
+use Rattle.records.specs.Records.{whole-check}
 use borrow.Author.Needs.{needs}
 use Rattle.records.proofs.head_check.Statement.{statement}
 use Rattle.records.proofs.head_check.Tie as tie
 
 -- the record is not cut short
-opened : (c : tie.After-enum-told) → whole (now (c .before .before .before .before .args .s)) ≡ Fine
-opened c = sym (c .before .before .whole .ensures) ∙ c .enum-told .given .1
+opened : (c : tie.After-enum-told) → whole-check (now (c .before .before .before .before .args .s)) ≡ Fine
+opened c = sym (c .before .before .check-whole .ensures) ∙ c .enum-told .given .1
 
-whole-requires : tie.Need-whole-requires
-whole-requires c κs = search needs
+check-whole-requires : tie.Need-check-whole-requires
+check-whole-requires c κs = search needs
 
 enum-told : tie.Need-enum-told
 enum-told c = search needs
@@ -22,7 +22,7 @@ enum-told-2 : tie.Need-enum-told-2
 enum-told-2 c = search needs
 
 returns : tie.Need-returns
-returns c = let e = c .enum-told2 .given .1 in rw (sym (c .before .before .whole .ensures) ∙ e, e)
+returns c = let e = c .enum-told2 .given .1 in rw (sym (c .before .before .check-whole .ensures) ∙ e, e)
 
 returns-2 : tie.Need-returns-2
 returns-2 c =
@@ -41,4 +41,4 @@ returns-4 c =
 
 pub head-check-spec : {M : Type 1} → statement M
 head-check-spec =
-    tie.close (tie.spec whole-requires enum-told enum-told-2 returns returns-2 returns-3 returns-4)
+    tie.close (tie.spec check-whole-requires enum-told enum-told-2 returns returns-2 returns-3 returns-4)

@@ -57,13 +57,13 @@ returns-4 c = search needs
 first-hit-requires : tie.Need-first-hit-requires
 first-hit-requires c κs = search needs
 
-told-by-requires : tie.Need-told-by-requires
-told-by-requires c κs = search needs
+sight-of-requires : tie.Need-sight-of-requires
+sight-of-requires c κs = search needs
 
 returns-5 : tie.Need-returns-5
 returns-5 c =
     let a = c .before .before .before .before .before .before .before .before .before .before .before .args in
-    c .told-by .ensures ∙
+    c .sight-of .ensures ∙
     sym
     (walked (a .n) (a .cells .now) (a .at) (a .camera) (a .ball)
     (c .before .before .before .before .before .before .before .before .before .look-up .ensures) (c .before .before .before .before .before .before .before .from .given .1)
@@ -89,5 +89,5 @@ look-spec =
     returns-3
     returns-4
     first-hit-requires
-    told-by-requires
+    sight-of-requires
     returns-5)

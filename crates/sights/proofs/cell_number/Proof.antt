@@ -9,19 +9,19 @@ use lib.Ieee.{Float, le, lt}
 use native.Mathlib.Nat.{eq-or-lt-of-le}
 use native.Mathlib.Omega.{arith}
 use borrow.Author.Needs.{needs}
-use Rattle.sights.specs.Quotient.{whole}
+use Rattle.sights.specs.Quotient.{as-f64}
 use Rattle.sights.proofs.Numbers.{number-last}
 use Rattle.sights.proofs.cell_number.Statement.{statement}
 use Rattle.sights.proofs.cell_number.Tie as tie
 
 -- a span within another ends above q where the other does
-above : (q : Float) {hi count : ℕ} (top : ℕ) → hi ≤ top → (hi < top → lt q (whole hi) ≡ true) → (top < count → lt q (whole top) ≡ true)
-    → hi < count → lt q (whole hi) ≡ true
+above : (q : Float) {hi count : ℕ} (top : ℕ) → hi ≤ top → (hi < top → lt q (as-f64 hi) ≡ true) → (top < count → lt q (as-f64 top) ≡ true)
+    → hi < count → lt q (as-f64 hi) ≡ true
 above q top within here there l =
-    elim (eq-or-lt-of-le within) [ inl e ↦ subst (λ k. lt q (whole k) ≡ true) (sym e) (there (omega arith)) | inr m ↦ here m ]
+    elim (eq-or-lt-of-le within) [ inl e ↦ subst (λ k. lt q (as-f64 k) ≡ true) (sym e) (there (omega arith)) | inr m ↦ here m ]
 
 abbrev Inv-loop : tie.InvT-loop
-Inv-loop count q s₀ s = (s .lo < s .hi) × (s .hi ≤ count) × (le (whole (s .lo)) q ≡ true) × (s .hi < count → lt q (whole (s .hi)) ≡ true)
+Inv-loop count q s₀ s = (s .lo < s .hi) × (s .hi ≤ count) × (le (as-f64 (s .lo)) q ≡ true) × (s .hi < count → lt q (as-f64 (s .hi)) ≡ true)
 
 abbrev μ-loop : tie.MeasureT-loop
 μ-loop count q s₀ s = s .hi - s .lo
@@ -50,7 +50,7 @@ returns c =
     let s = c .before .before .before .loop .s in
     let inv = c .before .before .before .loop .inv in
     let last : s .hi ≡ s .lo + 1 = omega arith in
-    sym (number-last (a .count) (s .lo) (a .q) (c .before .before .before .before .pre) (omega arith) (inv .2) (subst (λ k. k < a .count → lt (a .q) (whole k) ≡ true) last (inv .3)))
+    sym (number-last (a .count) (s .lo) (a .q) (c .before .before .before .before .pre) (omega arith) (inv .2) (subst (λ k. k < a .count → lt (a .q) (as-f64 k) ≡ true) last (inv .3)))
 
 pub cell-number-spec : {M : Type 1} → statement M
 cell-number-spec =

@@ -1,7 +1,7 @@
 -- `sight::told_by` meets its contract, case by case. Assumes nothing.
 use borrow.Author.Needs.{needs}
-use Rattle.sight.proofs.told_by.Statement.{statement}
-use Rattle.sight.proofs.told_by.Tie as tie
+use Rattle.sight.proofs.sight_of.Statement.{statement}
+use Rattle.sight.proofs.sight_of.Tie as tie
 
 enum-told : tie.Need-enum-told
 enum-told c = search needs
@@ -24,7 +24,7 @@ returns-2 c = rw (c .before .h .given .1)
 returns-3 : tie.Need-returns-3
 returns-3 c = rw (c .before .before .before .before .h2 .given .1, c .share .ensures)
 
-pub told-by-spec : {M : Type 1} → statement M
-told-by-spec =
+pub sight-of-spec : {M : Type 1} → statement M
+sight-of-spec =
     tie.close
     (tie.spec enum-told enum-known-h enum-known-h-2 share-requires returns returns-2 returns-3)

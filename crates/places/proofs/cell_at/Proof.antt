@@ -1,11 +1,11 @@
--- `places::cell_of` meets its contract: a place below 2^30 has small quotients and rests. Assumes nothing.
+-- `places::cell_at` meets its contract: a place below 2^30 has small quotients and rests. Assumes nothing.
 use Prim.Native.Nat.{_*_, _/_, _%_, _^_, _≤_, _<_}
 use native.Mathlib.Nat.{mul-le-mul, mod-lt, div-le-self}
 use native.Mathlib.Omega.{arith}
 use borrow.Author.Needs.{needs}
 use Rattle.cells.proofs.Machine.{nat-fits, nat-held}
-use Rattle.places.proofs.cell_of.Statement.{statement}
-use Rattle.places.proofs.cell_of.Tie as tie
+use Rattle.places.proofs.cell_at.Statement.{statement}
+use Rattle.places.proofs.cell_at.Tie as tie
 
 -- the three numbers are small
 small-x : (c : tie.Start) → c .args .i % c .args .n .nx < 2 ^ 31
@@ -52,5 +52,5 @@ returns c =
     let s = c .before .before .before .before in
     λ i. record { x = nat-held _ (small-x s) i; y = nat-held _ (small-y s) i; z = nat-held _ (small-z s) i }
 
-pub cell-of-spec : {M : Type 1} → statement M
-cell-of-spec = tie.close (tie.spec rem-x cast-x div-y rem-y cast-y mul-z div-z cast-z returns)
+pub cell-at-spec : {M : Type 1} → statement M
+cell-at-spec = tie.close (tie.spec rem-x cast-x div-y rem-y cast-y mul-z div-z cast-z returns)

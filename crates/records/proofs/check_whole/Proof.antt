@@ -8,11 +8,11 @@ use denote.Ref.{now}
 use borrow.Author.Tests.{lt-ltb, le-ltb}
 use Rattle.cells.specs.declared.Refusal.the-variants.{Record}
 use Rattle.cells.specs.Checks.{refuse-when}
-use Rattle.records.specs.Records.{whole}
+use Rattle.records.specs.Records.{whole-check}
 use Rattle.records.proofs.Heads.{none-read, some-read}
 use borrow.Author.Needs.{needs}
-use Rattle.records.proofs.whole.Statement.{statement}
-use Rattle.records.proofs.whole.Tie as tie
+use Rattle.records.proofs.check_whole.Statement.{statement}
+use Rattle.records.proofs.check_whole.Tie as tie
 
 announced-requires : tie.Need-announced-requires
 announced-requires c κs = search needs
@@ -24,7 +24,7 @@ add-if2 : tie.Need-add-if2
 add-if2 c = search needs
 
 -- the test that is left
-last-test : (c : tie.Else1) → whole (now (c .before .before .before .args .s)) ≡ refuse-when (ltb (length (now (c .before .before .before .args .s))) (4 + c .before .announced .result)) Record
+last-test : (c : tie.Else1) → whole-check (now (c .before .before .before .args .s)) ≡ refuse-when (ltb (length (now (c .before .before .before .args .s))) (4 + c .before .announced .result)) Record
 last-test c =
     let read = c .before .announced .ensures .0 in
     rw read (some-read _ (λ none. c .if1 .left (read ∙ none)))
@@ -39,5 +39,5 @@ returns-3 c =
     let s = c .before .before .before .before .args .s in
     rw (last-test (c .before), le-ltb (length (now s)) (4 + c .before .before .announced .result) (omega arith))
 
-pub whole-spec : {M : Type 1} → statement M
-whole-spec = tie.close (tie.spec announced-requires returns add-if2 returns-2 returns-3)
+pub check-whole-spec : {M : Type 1} → statement M
+check-whole-spec = tie.close (tie.spec announced-requires returns add-if2 returns-2 returns-3)
