@@ -7,7 +7,7 @@ use native.Mathlib.Nat.{pos-of-ne-zero}
 use native.Mathlib.Omega.{arith}
 use lib.Dec.{ltb, eqb, lit<}
 use lib.ListN.{length}
-use borrow.Author.Tests.{le-ltb, ltb-false, eq-eqb, ne-eqb, eqb-true, eqb-false, not-false}
+use borrow.Author.Tests.{le-ltb, ltb-false, eqb-true, eqb-false, not-false}
 use Rattle.cells.specs.declared.Refusal.the-variants.{Record, Version}
 use Rattle.cells.specs.declared.Verdict.{Verdict}
 use Rattle.cells.specs.declared.Verdict.the-variants.{Fine, Refused}
@@ -68,25 +68,16 @@ length-read s = cond (ltb (length s) length-field) 0 (announced s)
 pub read-whole : (s : List ℕ) → whole-check s ≡ Fine → length-read s ≡ announced s
 read-whole s e = let w = whole-is s e in rw (le-ltb (length s) length-field (omega arith))
 
-pub none-read : (s : List ℕ) → length-read s ≡ 0 → whole-check s ≡ Refused Record
+-- by it, two tests say what the three say
+pub whole-read : (s : List ℕ) → whole-check s ≡ (refuse-when (eqb (length-read s) 0) Record then refuse-when (ltb (length s) (length-field + length-read s)) Record)
 unfolding whole-check
-none-read s = go (ltb (length s) length-field)
+whole-read s = go (ltb (length s) length-field)
   where
-    go : (short : Bool) → cond short 0 (announced s) ≡ 0
-        → (refuse-when short Record then refuse-when (eqb (announced s) 0) Record then refuse-when (ltb (length s) (length-field + announced s)) Record) ≡ Refused Record
-    go true none = refl
-    go false none = rw (eq-eqb (announced s) 0 none)
-
--- where some length was read, one test is left
-pub some-read : (s : List ℕ) → (length-read s ≡ 0 → ⊥) → whole-check s ≡ refuse-when (ltb (length s) (length-field + length-read s)) Record
-unfolding whole-check
-some-read s = go (ltb (length s) length-field)
-  where
-    go : (short : Bool) → (cond short 0 (announced s) ≡ 0 → ⊥)
+    go : (short : Bool)
         → (refuse-when short Record then refuse-when (eqb (announced s) 0) Record then refuse-when (ltb (length s) (length-field + announced s)) Record)
-        ≡ refuse-when (ltb (length s) (length-field + cond short 0 (announced s))) Record
-    go true some = absurd (some refl)
-    go false some = rw (ne-eqb (announced s) 0 some)
+        ≡ (refuse-when (eqb (cond short 0 (announced s)) 0) Record then refuse-when (ltb (length s) (length-field + cond short 0 (announced s))) Record)
+    go true = refl
+    go false = refl
 
 -- the tests that both kinds begin with
 abbrev pub head-tests : List ℕ → Bool → Bool → Verdict
@@ -94,7 +85,7 @@ head-tests s known misfit = whole-check s then refuse-when (not known) Version t
 
 -- whether the length fits counts only in a record that is whole
 pub same-tests : (s : List ℕ) {a b c d : Bool} → a ≡ b → (whole-check s ≡ Fine → c ≡ d) → head-tests s a c ≡ head-tests s b d
-same-tests s {d = d} e h = then-same (whole-check s) (λ fine. rw (e, h fine))
+same-tests s e h = then-same (whole-check s) (λ fine. rw (e, h fine))
 
 pub record Fits (s : List ℕ) (known misfit : Bool) : Type 0 where
   pub there : length-field + announced s ≤ length s
