@@ -19,25 +19,26 @@ use Rattle.routes.specs.Route.{RouteOf, Planned, HasByte}
 use Rattle.routes.proofs.Spots.{spot-byte, place-within}
 use Rattle.routes.proofs.Accepting.{of-route, answer-fine, answer-refused}
 use Rattle.hits.specs.declared.Stop.{Stop}
-use Rattle.hits.specs.Found.{going, Stops}
+use Rattle.hits.specs.Found.{going, Stops, found}
 use Rattle.hits.specs.Answer.{answer-from}
 use Rattle.hits.proofs.Stops.{stop-answers}
 
--- the cell where a walk stopped has a byte
-pub stop-byte : (w : Walker) (l : List ℕ) (k : Route) → Planned (length l) k → (s : Stop) → Stops l k (going l k w) s → HasByte (length l) (s .spot .at)
-stop-byte w l k plan s stops = spot-byte _ k plan _ _ (place-within _ k plan _ (end-below (k .n) l (k .p) (k .q) w)) (stops .spot)
+-- where a walk stopped there is a byte, and the answer from there is what the walk finds
+module _ (w : Walker) (l : List ℕ) (k : Route) (plan : Planned (length l) k) (s : Stop) (stops : Stops l k (going l k w) s) where
+  pub stop-byte : HasByte (length l) (s .spot .at)
+  stop-byte = spot-byte _ k plan _ _ (place-within _ k plan _ (end-below (k .n) l (k .p) (k .q) w)) (stops .spot)
+
+  pub stop-found : {a : FirstHit} → a ≡ answer-from l k s → a ≡ found l k w
+  stop-found is = is ∙ stop-answers _ k plan l _ _ _ (end-below (k .n) l (k .p) (k .q) w) stops
 
 module _ (w : Walker) (n : Counts) (l : List ℕ) (p q : Cell) where
   pub refused-finds : {r : Refusal} → walk-check n (length l) p q ≡ Refused r → Finds w n l p q (NotWalked r)
   refused-finds h = record { says = answer-refused _ _ h ∙ sym (first-hit-is n l p q w) }
 
-  pub stop-finds :
-      (k : Route) → Planned (length l) k → (s : Stop) → Stops l k (going l k w) s → walk-check n (length l) p q ≡ Fine → RouteOf n p q k → {a : FirstHit} →
-      a ≡ answer-from l k s → Finds w n l p q a
-  stop-finds k plan s stops fine route is =
+  pub found-finds : (k : Route) → walk-check n (length l) p q ≡ Fine → RouteOf n p q k → {a : FirstHit} → a ≡ found l k w → Finds w n l p q a
+  found-finds k fine route is =
       record {
         says =
-            is ∙ stop-answers _ k plan l _ _ _ (end-below (k .n) l (k .p) (k .q) w) stops
-            ∙ of-route _ _ _ _ route (λ m c d. answer-at m l c d (end-of m l c d w) (reads-of m l c d w))
+            is ∙ of-route _ _ _ _ route (λ m c d. answer-at m l c d (end-of m l c d w) (reads-of m l c d w))
             ∙ answer-fine _ fine ∙ sym (first-hit-is n l p q w);
       }

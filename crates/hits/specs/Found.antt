@@ -10,9 +10,11 @@ use Rattle.lines.specs.Lines.{differences, longest}
 use Rattle.tripod.specs.Tripod.{steps}
 use Rattle.walks.specs.declared.Walker.{Walker}
 use Rattle.walks.specs.declared.Walker.the-variants.{Adaptive}
+use Rattle.walks.specs.declared.FirstHit.{FirstHit}
 use Rattle.walks.proofs.Runs.{ends, visits, Rises}
 use Rattle.walks.proofs.Progress.{OnWay}
-use Rattle.walks.proofs.Numbers.{last-number, number-26, solid-at, step}
+use Rattle.walks.proofs.Numbers.{last-number, number-26, solid-at, step, end-of, reads-of}
+use Rattle.walks.proofs.Story.{answer-at}
 use Rattle.routes.specs.declared.Route.{Route}
 use Rattle.routes.specs.declared.Spot.{Spot}
 use Rattle.hits.specs.declared.Turn.{Turn}
@@ -85,3 +87,7 @@ module _ (l : List ℕ) (k : Route) where
     pub further : m < r .m
     pub most : r .m ≤ longest (differences (k .p) (k .q))
     pub came : Outcome (going Adaptive) (number-26 (k .p) (k .q) (r .m)) (r .hit) (r .spot) (r .reads)
+
+  -- what a walk answers
+  abbrev pub found : Walker → FirstHit
+  found w = answer-at (k .n) l (k .p) (k .q) (end-of (k .n) l (k .p) (k .q) w) (reads-of (k .n) l (k .p) (k .q) w)

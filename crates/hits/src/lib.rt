@@ -10,7 +10,7 @@ ghost use Rattle.walks.specs.declared.Walker.the-variants.{Plain, Adaptive};
 ghost use Rattle.walks.specs.Answers.{Finds};
 ghost use Rattle.routes.specs.Route.{Planned, SpotAt, HasByte, byte-of-spot};
 ghost use Rattle.runs.specs.Run.{slope};
-ghost use Rattle.hits.specs.Found.{going, Stops, CanWalk, Walked, CanGo, Reached};
+ghost use Rattle.hits.specs.Found.{going, Stops, CanWalk, Walked, CanGo, Reached, found};
 ghost use Rattle.hits.specs.Answer.{answer-from};
 use cells::Axis;
 use cells::Cell;
@@ -205,17 +205,22 @@ pub fn answer_of(cells: &[u8], k: Route, r: Stop) -> FirstHit
     })
 }
 
+// What the plain walk finds along a route: apart from the call, so that the loop has its strides in registers.
+fn plain_answer(cells: &[u8], k: Route) -> FirstHit
+    requires { ⌜ Planned (length (now cells)) k ⌝ }
+    ensures { λ r. ⌜ r ≡ found (now (cells .entry)) k Plain ⌝ }
+{
+    let stop = walk_plain(cells, k, routes::first_spot(k));
+    answer_of(cells, k, stop)
+}
+
 // The first solid cell of the plain walk from p to q.
 pub fn first_plain(n: Counts, cells: &[u8], p: Cell, q: Cell) -> FirstHit
     ensures { λ r. ⌜ Finds Plain n (now (cells .entry)) p q r ⌝ }
 {
     match routes::check_walk(n, cells.len(), p, q) {
         Verdict::Refused(r) => FirstHit::Refused(r),
-        Verdict::Fine => {
-            let k = routes::route_of(n, p, q);
-            let stop = walk_plain(cells, k, routes::first_spot(k));
-            answer_of(cells, k, stop)
-        }
+        Verdict::Fine => plain_answer(cells, routes::route_of(n, p, q)),
     }
 }
 
