@@ -8,19 +8,17 @@ use lib.ListN.{length, getD}
 use Rattle.cells.specs.declared.Counts.{Counts}
 use Rattle.cells.specs.declared.Verdict.{Verdict}
 use Rattle.cells.specs.declared.Verdict.the-variants.{Fine, Refused}
-use Rattle.cells.proofs.Refusals.{told-verdict-one}
 use Rattle.grids.specs.declared.LayerPart.{LayerPart}
 use Rattle.grids.specs.declared.LayerPart.the-variants.{Part, Refused as NoPart}
 use Rattle.grids.specs.declared.Completeness.{Completeness}
 use Rattle.grids.specs.declared.Completeness.the-variants.{Yes, No}
 use Rattle.grids.specs.Grid.{shape, index, layer-part, layer}
 use Rattle.grids.specs.Marks.{after-marking, marked, complete, completeness, Marks}
-use Rattle.grids.proofs.Told.{told-part-one, told-completeness-one}
 use Rattle.grids.proofs.Shapes.{Shaped, shaped}
 use Rattle.grids.proofs.Layers.{layer-empty, layer-long, layer-own}
 use Rattle.grids.proofs.Places.{cell-at-index, index-of-cell, index-below, x-below, y-below, z-below}
 use Rattle.grids.proofs.Marking.{marked-length, marked-keeps, marked-same, marked-twice, marked-complete, complete-iff}
-use Rattle.claims.specs.Grids.{OneAnswer, OneToOne, Places, Layers, Marking, MarkedCall, Complete, ShutOut}
+use Rattle.claims.specs.Grids.{OneAnswer, Numbered, Places, Layers, Marking, MarkedCall, Complete, ShutOut}
 
 -- a contract `r ≡ f of the inputs` admits one answer
 one : {A : Type 0} {f : A} (r s : A) → r ≡ f → s ≡ f → r ≡ s
@@ -36,11 +34,8 @@ one-answer =
       by-mark = λ n l r s a b p q. (one r s (p .says) (q .says), one a b (p .holds) (q .holds));
     }
 
-pub one-to-one : OneToOne
-one-to-one = record { of-verdict = told-verdict-one; of-part = told-part-one; of-completeness = told-completeness-one }
-
-pub places : (n : Counts) (bytes : ℕ) → shape n bytes ≡ Fine → Places n bytes
-places n bytes fine =
+numbered : (n : Counts) (bytes : ℕ) → shape n bytes ≡ Fine → Numbered n bytes
+numbered n bytes fine =
     record {
       counts = (s .x .some, s .x .most, s .y .some, s .y .most, s .z .some, s .z .most);
       bytes-are = s .bytes-are;
@@ -50,6 +45,9 @@ places n bytes fine =
   where
     s : Shaped n bytes
     s = shaped n bytes fine
+
+pub places : (n : Counts) (bytes : ℕ) → Places n bytes
+places n bytes = record { numbered = numbered n bytes }
 
 pub layers : (n : Counts) (l : List ℕ) (z : ℤ) → Layers n l z
 layers n l z = record { empty = layer-empty n l z; long = layer-long n l z; own = layer-own n l z }

@@ -15,7 +15,7 @@ use Rattle.lines.proofs.Fractions.{place-in-order, in-order-is-place, place-tot
 use Rattle.lines.proofs.Centres.{centres-good, upto-26}
 use Rattle.lines.proofs.Signs.{sign-tells, figure-6-is-next, step-moves, stays-small, first-longest, second-longest}
 use Rattle.lines.proofs.Cells.{six-length, six-numbered, six-start, six-end, six-different, six-by-face, six-touched, six-misses-none, six-at-26, length-26, numbered-26, start-26, end-26, moves-by-one-26, longest-moves-26, skipped-touches, limited-difference}
-use Rattle.claims.specs.Lines.{OnePlace, SixLine, Touched, NoneMissing, TwentySixLine, Skipped, Signs, SmallValues, Entered, LongStep}
+use Rattle.claims.specs.Lines.{OnePlace, SixLine, Touched, NoneMissing, TwentySixLine, Skipped, Signs, SmallValues, Entered, Moves, LongStep}
 
 pub one-place : (r : Preference) (D : Steps) → OnePlace r D
 one-place r D =
@@ -87,8 +87,8 @@ entered r D =
       alone = last-made-one (centres r D) (centres-good r D);
     }
 
-pub long-step : (D : Steps) (m : ℕ) → m < longest D → LongStep D m
-long-step D m lt =
+moves : (D : Steps) (m : ℕ) → m < longest D → Moves D m
+moves D m lt =
     record {
       x-y = λ e. first-longest D X Y m e lt;
       x-z = λ e. first-longest D X Z m e lt;
@@ -97,3 +97,6 @@ long-step D m lt =
       z-x = λ e. second-longest D Z X m e lt;
       z-y = λ e. first-longest D Z Y m e lt;
     }
+
+pub long-step : (D : Steps) → LongStep D
+long-step D = record { moves = moves D }

@@ -65,17 +65,6 @@ longest-list =
     high Y = refl
     high Z = refl
 
--- what document 01 says of an answer tells which it is
-abbrev listed-back : Told ⊎ ℕ → Option Listed
-listed-back = untold-by Refused Cells
-
-told-listed-back : (l : Listed) → listed-back (told-listed l) ≡ some l
-told-listed-back (Cells n) = refl
-told-listed-back (Refused r) = ap (Option·map Refused) (told-back r)
-
-pub listed-one-to-one : (l k : Listed) → told-listed l ≡ told-listed k → l ≡ k
-listed-one-to-one = tells-apart told-listed listed-back told-listed-back
-
 pub wrong-lists : WrongLists
 unfolding six-line line-26 accepted
 wrong-lists =

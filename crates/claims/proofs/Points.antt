@@ -26,11 +26,10 @@ use Rattle.sights.proofs.Numbers.{one-number, number-whole-part, number-found, 
 use Rattle.grids.proofs.Shapes.{Counted, counted}
 use Rattle.sights.proofs.Survey.{placed, point-fine}
 use Rattle.sights.proofs.Lookups.{cell-given, cell-found}
-use Rattle.sights.proofs.Told.{told-lookup-one}
 use Rattle.claims.specs.Points.{OneAnswer, Coordinate, InItsCell, Finite, TheCell, Outside, Exact, Shares, Refuted, Every, table, cube, placement, metres, tenths, point, cell-is, refused}
 
 pub one-answer : (n : Counts) (at : Placement) (p : Point) → OneAnswer n at p
-one-answer n at p = record { alone = λ r s e f. e ∙ sym f; told-apart = λ r. told-lookup-one r (cell-of n at p) }
+one-answer n at p = record { alone = λ r s e f. e ∙ sym f }
 
 -- ---- the cell
 

@@ -5,7 +5,7 @@ use native.Mathlib.Omega.{arith}
 use mathlib.Core.Path.{_≡_, sym, ap, _∙_, subst}
 use mathlib.Core.List.{List, _++_, append-assoc}
 use lib.ListN.{length, getD, take, drop, take-append-drop}
-use borrow.Author.Tests.{eqb-true}
+use borrow.Author.Tests.{eqb-true, le-ltb, ne-eqb}
 use Rattle.cells.specs.declared.Counts.{Counts}
 use Rattle.cells.specs.declared.Refusal.{Refusal}
 use Rattle.cells.specs.declared.Verdict.{Verdict}
@@ -17,16 +17,15 @@ use Rattle.records.specs.declared.Pair.{Pair}
 use Rattle.records.specs.declared.Venue.{Venue}
 use Rattle.records.specs.declared.VenueRead.{VenueRead}
 use Rattle.records.specs.declared.VenueRead.the-variants.{Read}
-use Rattle.records.specs.Records.{length-field, announced, cells-from, whole-check, venue-version, venue-head, venue-check, venue-read, venue-cells, signed, pair-version, pair-length, pair-in, pair-check, pair-read}
+use Rattle.records.specs.Records.{length-field, announced, cells-from, whole-check, venue-version, venue-head, venue-check, venue-read, venue-cells, signed, pair-version, pair-length, pair-in, pair-check, pair-read, counts-at}
 use Rattle.records.proofs.Heads.{venue-accepted}
-use Rattle.records.proofs.Told.{told-venue-one, told-pair-one}
 use Rattle.records.proofs.Following.{venue-unread, cells-unread, pair-unread}
 use Rattle.venues.specs.declared.Written.{Written}
 use Rattle.venues.specs.declared.Written.the-variants.{Wrote, Refused as NotWritten}
 use Rattle.venues.specs.Writing.{written-version, head-bytes, write-check, written, after-writing, WritesVenue}
-use Rattle.venues.proofs.Told.{told-written-one}
 use Rattle.venues.proofs.RoundTrip.{read-back, cells-back, front-written, record-fits, same-bytes}
-use Rattle.claims.specs.Records.{ReadsVenue, GivesCells, OneAnswer, ToldApart, Accepted, EmptyPart, ReadBack, WrittenBack, NotLookedAt, example-venue, example-cells, example-counts, example-room, minus-one-pair, Refuses, WritesNothing, ReadsUnsigned, WrongRecords}
+use Rattle.claims.specs.Example.{example-counts, example-cells}
+use Rattle.claims.specs.Records.{ReadsVenue, GivesCells, OneAnswer, Right, Accepted, LengthTested, EmptyPart, ReadBack, WrittenBack, NotLookedAt, example-venue, example-room, minus-one-pair, Refuses, WritesNothing, ReadsUnsigned, WrongRecords}
 
 -- 1 where a venue was written
 accepts : Written → ℕ
@@ -48,22 +47,19 @@ one-answer s =
     by n entry Fine r h e = absurd (let z : _≡_ {A = ℕ} 0 1 = ap accepts h in omega arith)
     by n entry (Fails r) x h e = e
 
-pub answers-told-apart : ToldApart
-answers-told-apart = record { venue = told-venue-one; pair = told-pair-one; written = told-written-one }
-
-pub not-looked-at : (s rest : List ℕ) → length s ≡ length-field + announced s → NotLookedAt s rest
-not-looked-at s rest exact =
+pub not-looked-at : (s rest : List ℕ) → NotLookedAt s rest
+not-looked-at s rest =
     record {
-      venue = λ r t e f. e ∙ sym (venue-unread s rest exact) ∙ sym f;
-      cells = λ a b e f. e ∙ sym (cells-unread s rest exact) ∙ sym f;
-      pair = λ r t e f. e ∙ sym (pair-unread s rest exact) ∙ sym f;
+      venue = λ exact r t e f. e ∙ sym (venue-unread s rest exact) ∙ sym f;
+      cells = λ exact a b e f. e ∙ sym (cells-unread s rest exact) ∙ sym f;
+      pair = λ exact r t e f. e ∙ sym (pair-unread s rest exact) ∙ sym f;
     }
 
 -- ---- what is accepted
 
-pub accepted : (s : List ℕ) (v : Venue) → venue-read s ≡ Read v → Accepted s v
+right : (s : List ℕ) (v : Venue) → venue-read s ≡ Read v → Right s v
 unfolding venue-version venue-head
-accepted s v e =
+right s v e =
     let (w, f) = venue-accepted s v e in
     let fine : shape (v .counts) (v .long) ≡ Fine = subst (λ (u : Venue). shape (u .counts) (u .long) ≡ Fine) f (w .shaped) in
     let size-is = shaped (v .counts) (v .long) fine .bytes-are in
@@ -75,6 +71,25 @@ accepted s v e =
       length-is = omega arith;
       shape-is = subst (λ (k : ℕ). shape (v .counts) k ≡ Fine) size-is fine;
       part = (sym (ap (λ (u : Venue). u .start) f), size-is);
+    }
+
+pub accepted : (s : List ℕ) → Accepted s
+accepted s = record { right = right s }
+
+pub length-tested : (s : List ℕ) → LengthTested s
+unfolding whole-check venue-version venue-head venue-check venue-read shape
+length-tested s =
+    record {
+      three = λ there version seven counted other.
+          rw (
+            le-ltb (length s) length-field (omega arith),
+            ne-eqb (announced s) 0 (λ e. omega arith),
+            le-ltb (length s) (length-field + announced s) there,
+            version,
+            le-ltb (announced s) 7 seven,
+            counted,
+            ne-eqb (announced s - 7) (size (counts-at s 5)) (λ e. other (omega arith)),
+          );
     }
 
 pub empty-part : (s : List ℕ) → EmptyPart s

@@ -91,26 +91,13 @@ module _ (n : Counts) (l : List ℕ) (at : Placement) (camera ball : Point) wher
 pub camera-first : (n : Counts) (l : List ℕ) (at : Placement) (camera : Point) → CameraFirst n l at camera
 camera-first n l at camera =
     record {
+      refusal = λ r fine placed lost ball s hs. hs .says ∙ alike r lost ball ∙ ap₂ (λ v w. if-fine v (if-fine w (Refused r))) fine placed;
       any-ball = λ r lost ball other s t hs ht. hs .says ∙ alike r lost ball ∙ sym (alike r lost other) ∙ sym (ht .says);
     }
   where
     alike : (r : Refusal) → look-up P n at camera ≡ NoCell r → (ball : Point) →
         sight n l at camera ball ≡ if-fine (shape n (length l)) (if-fine (placement-check at) (Refused r))
     alike r lost ball = sight-is n l at camera ball ∙ ap (λ s. if-fine (shape n (length l)) (if-fine (placement-check at) s)) (camera-refused n l at camera ball (sym lost) refl)
-
--- ---- what document 01 says of an answer tells which it is
-
-abbrev seen-as : Unit {0} ⊎ Block → Sight
-seen-as (inl u) = Clear
-seen-as (inr b) = Blocked b
-
-told-sight-back : (a : Sight) → untold-by Refused seen-as (told-sight a) ≡ some a
-told-sight-back Clear = refl
-told-sight-back (Blocked b) = refl
-told-sight-back (Refused r) = ap (Option·map Refused) (told-back r)
-
-pub sights-one-to-one : (a b : Sight) → told-sight a ≡ told-sight b → a ≡ b
-sights-one-to-one = tells-apart told-sight (untold-by Refused seen-as) told-sight-back
 
 -- ---- wrong sights
 

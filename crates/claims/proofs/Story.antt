@@ -199,20 +199,6 @@ module _ (n : Counts) (l : List ℕ) (p q : Cell) where
 pub marked-first : (n : Counts) (l exit : List ℕ) → MarkedFirst n l exit
 marked-first n l exit = record { premise = λ m. ap (complete 3 n) (m .holds ∙ ap (λ v. after-marking v n l) (sym (m .says))) ∙ marked-complete 3 n l }
 
--- ---- what document 01 says of an answer tells which it is
-
-abbrev hit-as : ℕ ⊎ Hit → FirstHit
-hit-as (inl reads) = Clear reads
-hit-as (inr h) = Blocked h
-
-told-hit-back : (a : FirstHit) → untold-by Refused hit-as (told-hit a) ≡ some a
-told-hit-back (Clear reads) = refl
-told-hit-back (Blocked h) = refl
-told-hit-back (Refused r) = ap (Option·map Refused) (told-back r)
-
-pub hits-one-to-one : (a b : FirstHit) → told-hit a ≡ told-hit b → a ≡ b
-hits-one-to-one = tells-apart told-hit (untold-by Refused hit-as) told-hit-back
-
 -- ---- wrong walks
 
 pub wrong-walks : WrongWalks
@@ -222,7 +208,9 @@ wrong-walks =
       plain-refuses = λ r h. absurd (let z : _≡_ {A = ℕ} 2 0 = ap kind (h .says) in omega arith);
       adaptive-refuses = λ r h. absurd (let z : _≡_ {A = ℕ} 2 1 = ap kind (h .says) in omega arith);
       secretly-plain = λ r h k. absurd (let z : _≡_ {A = ℕ} 0 1 = ap kind (sym (h .says) ∙ k .says) in omega arith);
-      clear-always = λ reads h. absurd (let z : _≡_ {A = ℕ} 1 0 = ap kind (h .says) in omega arith);
+      plain-in-reads = λ h. absurd (let z : _≡_ {A = ℕ} 4 3 = ap (reads-or 0) (h .says) in omega arith);
+      plain-always-clear = λ reads h. absurd (let z : _≡_ {A = ℕ} 1 0 = ap kind (h .says) in omega arith);
+      adaptive-always-clear = λ reads h. absurd (let z : _≡_ {A = ℕ} 1 0 = ap kind (h .says) in omega arith);
       reads-made-up = λ reads h. ap (reads-or 0) (h .says);
       long-at-any-clear = λ h. absurd (let z : _≡_ {A = ℕ} 3 4 = ap (reads-or 0) (h .says) in omega arith);
       place-of-first-face = λ h. absurd (let z : _≡_ {A = ℕ} 1 3 = ap (λ a. hit-or (record { cell = record { x = pos 0; y = pos 0; z = pos 0 }; code = 0; place = record { num = 0; den = 1 }; reads = 0 }) a .place .num) (h .says) in omega arith);

@@ -63,11 +63,17 @@ in-turns (suc turns) n h = go (ltb n 10) refl (in-turns turns (n / 10))
     go true e ih = one-digit n (ltb-true n 10 e)
     go false e ih = let large = ltb-false n 10 e in digit-more n (decimal-in turns (n / 10)) large (ih (omega arith))
 
+-- 0 has one digit
+more-than-one : (n : ℕ) → 2 ≤ length (decimal n) → 1 ≤ n
+unfolding decimal-in decimal
+more-than-one zero h = absurd (omega arith)
+more-than-one (suc n) h = omega arith
+
 pub decimal-right : (n : ℕ) → Decimal n
 unfolding decimal
 decimal-right n =
     let r = in-turns (suc n) n (omega arith) in
-    record { says = r .says; digits = r .digits; no-leading-zero = r .no-leading-zero; some = r .some }
+    record { says = r .says; digits = r .digits; no-leading-zero = λ two. r .no-leading-zero (more-than-one n two); some = r .some }
 
 pub one-line : (line entry : List ℕ) → OneLine line entry
 one-line line entry = record { one = λ r t x y e f. (e .says ∙ sym (f .says), e .holds ∙ sym (f .holds)) }

@@ -1,19 +1,30 @@
--- Each refusal's number and details, as document 01 has them, tell which refusal it is. Assumes nothing.
-use mathlib.Core.Path.{_≡_}
+-- What is said of a refusal or an answer tells which it is, each by its left inverse. Assumes nothing.
 use native.Mathlib.Omega.{arith}
-use Rattle.cells.specs.declared.Axis.the-variants.{X}
-use Rattle.cells.specs.declared.End.the-variants.{P}
-use Rattle.cells.specs.declared.Refusal.{Refusal}
-use Rattle.cells.specs.declared.Refusal.the-variants.{OffGrid, Record, Version}
-use Rattle.cells.specs.Refusals.{told}
-use Rattle.cells.proofs.Refusals.{told-one}
+use Rattle.cells.proofs.Refusals.{told-one, told-verdict-one}
+use Rattle.lists.proofs.Told.{told-listed-one}
+use Rattle.grids.proofs.Told.{told-part-one, told-completeness-one}
+use Rattle.walks.proofs.Told.{told-hit-one}
+use Rattle.sights.proofs.Told.{told-lookup-one}
+use Rattle.sight.proofs.Told.{told-sight-one}
+use Rattle.records.proofs.Told.{told-venue-one, told-pair-one}
+use Rattle.venues.proofs.Told.{told-written-one}
+use Rattle.claims.specs.Words.{ToldApart, WrongNumbers}
 
-pub refusals-one-to-one : (r s : Refusal) → told r ≡ told s → r ≡ s
-refusals-one-to-one = told-one
+pub told-apart : ToldApart
+told-apart =
+    record {
+      refusal = told-one;
+      verdict = told-verdict-one;
+      listed = told-listed-one;
+      part = told-part-one;
+      completeness = told-completeness-one;
+      hit = told-hit-one;
+      lookup = told-lookup-one;
+      sight = told-sight-one;
+      venue = told-venue-one;
+      pair = told-pair-one;
+      written = told-written-one;
+    }
 
--- wrong numbers: an end outside the grid called 9, another version called a record cut short
-pub off-grid-not-nine : told (OffGrid P X) .number ≡ 9 → ⊥
-off-grid-not-nine e = omega (arith, e)
-
-pub version-not-record : told Version .number ≡ told Record .number → ⊥
-version-not-record e = omega (arith, e)
+pub wrong-numbers : WrongNumbers
+wrong-numbers = record { off-grid-nine = λ e. omega (arith, e); version-as-record = λ e. omega (arith, e) }

@@ -12,15 +12,14 @@ use Rattle.cells.specs.declared.Refusal.{Refusal}
 use Rattle.cells.specs.declared.Refusal.the-variants.{Bytes}
 use Rattle.cells.specs.declared.Verdict.{Verdict}
 use Rattle.cells.specs.declared.Verdict.the-variants.{Fine, Refused}
-use Rattle.cells.specs.Refusals.{told-verdict}
 use Rattle.cells.specs.Touching.{Touches}
 use Rattle.grids.specs.declared.LayerPart.{LayerPart}
 use Rattle.grids.specs.declared.LayerPart.the-variants.{Part, Refused as NoPart}
 use Rattle.grids.specs.declared.Completeness.{Completeness}
 use Rattle.grids.specs.declared.Completeness.the-variants.{Yes, No}
-use Rattle.grids.specs.Grid.{size, shape, index, cell-at, clear, solid, layer-part, layer, told-part}
-use Rattle.grids.specs.Marks.{marked, complete, completeness, Marks, told-completeness}
-use Rattle.claims.specs.Starred.{at}
+use Rattle.grids.specs.Grid.{size, shape, index, cell-at, clear, solid, layer-part, layer}
+use Rattle.grids.specs.Marks.{marked, complete, completeness, Marks}
+use Rattle.claims.specs.Example.{at, example-counts, example-cells, marked-cells}
 
 -- 1. Each call's contract admits one answer, and marking one final memory, for each input; of a returned layer the contents.
 pub record OneAnswer : Type 0 where
@@ -30,31 +29,28 @@ pub record OneAnswer : Type 0 where
   pub by-complete : (n : Counts) (l : List ℕ) (r s : Completeness) → r ≡ completeness n l → s ≡ completeness n l → r ≡ s
   pub by-mark : (n : Counts) (l : List ℕ) (r s : Verdict) (a b : List ℕ) → Marks n l r a → Marks n l s b → (r ≡ s) × (a ≡ b)
 
--- 2. What an answer says, as document 01 has it, tells which answer it is.
-pub record OneToOne : Type 0 where
-  pub of-verdict : (a b : Verdict) → told-verdict a ≡ told-verdict b → a ≡ b
-  pub of-part : (a b : LayerPart) → told-part a ≡ told-part b → a ≡ b
-  pub of-completeness : (a b : Completeness) → told-completeness a ≡ told-completeness b → a ≡ b
-
 -- the cell (x, y, z) lies inside the grid
 abbrev pub Inside : Counts → ℕ → ℕ → ℕ → Type 0
 Inside n x y z = (x < n .nx) × (y < n .ny) × (z < n .nz)
 
--- 3. Where the shape is fine, each count is 1 to 1,024 and there is a byte for each cell: the cell of an index is inside the grid and has that
+-- 2. Where the shape is fine, each count is 1 to 1,024 and there is a byte for each cell: the cell of an index is inside the grid and has that
 -- index, and every cell inside the grid is the cell of its index.
-pub record Places (n : Counts) (bytes : ℕ) : Type 0 where
+pub record Numbered (n : Counts) (bytes : ℕ) : Type 0 where
   pub counts : (1 ≤ n .nx) × (n .nx ≤ 1024) × (1 ≤ n .ny) × (n .ny ≤ 1024) × (1 ≤ n .nz) × (n .nz ≤ 1024)
   pub bytes-are : bytes ≡ size n
   pub inside : (i : ℕ) → i < bytes → (x : ℕ) × (y : ℕ) × (z : ℕ) × Inside n x y z × (index n x y z ≡ i) × (cell-at n i ≡ at x y z)
   pub every : (x y z : ℕ) → Inside n x y z → (index n x y z < bytes) × (cell-at n (index n x y z) ≡ at x y z)
 
--- 4. The layer is the caller's bytes where the partner says, and it is empty exactly when the partner refuses.
+pub record Places (n : Counts) (bytes : ℕ) : Type 0 where
+  pub numbered : shape n bytes ≡ Fine → Numbered n bytes
+
+-- 3. The layer is the caller's bytes where the partner says, and it is empty exactly when the partner refuses.
 pub record Layers (n : Counts) (l : List ℕ) (z : ℤ) : Type 0 where
   pub empty : (layer n l z ≡ []) ↔ ((r : Refusal) × (layer-part n (length l) z ≡ NoPart r))
   pub long : (start many : ℕ) → layer-part n (length l) z ≡ Part start many → length (layer n l z) ≡ many
   pub own : (start many : ℕ) → layer-part n (length l) z ≡ Part start many → (i : ℕ) → i < many → getD (layer n l z) i 0 ≡ getD l (start + i) 0
 
--- 5. Marking changes no solid byte and no cell's solidity, makes the marks complete, and done twice is done once.
+-- 4. Marking changes no solid byte and no cell's solidity, makes the marks complete, and done twice is done once.
 pub record Marking (k : ℕ) (n : Counts) (l : List ℕ) : Type 0 where
   pub long : length (marked k n l) ≡ length l
   pub keeps : (i : ℕ) → solid (getD l i 0) ≡ true → getD (marked k n l) i 0 ≡ getD l i 0
@@ -75,25 +71,19 @@ pub record Complete (k : ℕ) (n : Counts) (l : List ℕ) : Type 0 where
 -- 7. What the contracts shut out, on the program's venue and on a grid of two layers: a shape of one byte short, none, or one whose bytes are
 -- tested before its counts; a marker that touches nothing, one that refuses; complete always, or never; a layer that is empty, or always the
 -- first.
-abbrev pub venue : Counts
-venue = record { nx = 4; ny = 2; nz = 1 }
-
-abbrev pub unmarked : List ℕ
-unmarked = 0 ∷ 0 ∷ 0 ∷ 0 ∷ 0 ∷ 2 ∷ 0 ∷ 0 ∷ []
-
 abbrev pub two-layers : Counts
 two-layers = record { nx = 2; ny = 1; nz = 2 }
 
 pub record ShutOut : Type 0 where
-  pub one-byte-short : Fine ≡ shape venue 7 → ⊥
-  pub no-shape : (r : Refusal) → Refused r ≡ shape venue 8 → ⊥
+  pub one-byte-short : Fine ≡ shape example-counts 7 → ⊥
+  pub no-shape : (r : Refusal) → Refused r ≡ shape example-counts 8 → ⊥
   -- 2 and 3 both apply
   pub bytes-first : Refused Bytes ≡ shape (record { nx = 0; ny = 2; nz = 1 }) 8 → ⊥
-  pub marks-nothing : (r : Verdict) → Marks venue unmarked r unmarked → ⊥
-  pub refuses : (r : Refusal) (a : List ℕ) → Marks venue unmarked (Refused r) a → ⊥
-  pub complete-always : Yes ≡ completeness venue unmarked → ⊥
-  pub never-complete : No ≡ completeness venue (1 ∷ 1 ∷ 1 ∷ 0 ∷ 1 ∷ 2 ∷ 1 ∷ 0 ∷ []) → ⊥
-  pub empty-layer : [] ≡ layer venue unmarked (pos 0) → ⊥
+  pub marks-nothing : (r : Verdict) → Marks example-counts example-cells r example-cells → ⊥
+  pub refuses : (r : Refusal) (a : List ℕ) → Marks example-counts example-cells (Refused r) a → ⊥
+  pub complete-always : Yes ≡ completeness example-counts example-cells → ⊥
+  pub never-complete : No ≡ completeness example-counts marked-cells → ⊥
+  pub empty-layer : [] ≡ layer example-counts example-cells (pos 0) → ⊥
   pub first-layer : 1 ∷ 2 ∷ [] ≡ layer two-layers (1 ∷ 2 ∷ 3 ∷ 4 ∷ []) (pos 1) → ⊥
   pub first-part : Part 0 2 ≡ layer-part two-layers 4 (pos 1) → ⊥
   pub no-part : (r : Refusal) → NoPart r ≡ layer-part two-layers 4 (pos 1) → ⊥

@@ -1,3 +1,5 @@
+pub mod Words
+pub mod Example
 pub mod Starred
 pub mod Lines
 pub mod Lists

@@ -74,10 +74,13 @@ pub record Entered (r : Preference) (D : Steps) : Type 0 where
   pub alone : (t : Steps) (m n : Axis) → LastMade (centres r D) t m → LastMade (centres r D) t n → m ≡ n
 
 -- 8. With a longest, at 26-line cell m < M, b moves exactly when e_ab + B ≥ 0, which is e_ba ≤ B: as document 01's values say it, pair by pair.
-pub record LongStep (D : Steps) (m : ℕ) : Type 0 where
+pub record Moves (D : Steps) (m : ℕ) : Type 0 where
   pub x-y : D X ≡ longest D → (place-26 D (m + 1) Y ≡ place-26 D m Y + 1) ↔ (pos 0 ≤ℤ (e-xy D (place-26 D m) +ℤ pos (D Y)))
   pub x-z : D X ≡ longest D → (place-26 D (m + 1) Z ≡ place-26 D m Z + 1) ↔ (pos 0 ≤ℤ (e-xz D (place-26 D m) +ℤ pos (D Z)))
   pub y-x : D Y ≡ longest D → (place-26 D (m + 1) X ≡ place-26 D m X + 1) ↔ (e-xy D (place-26 D m) ≤ℤ pos (D X))
   pub y-z : D Y ≡ longest D → (place-26 D (m + 1) Z ≡ place-26 D m Z + 1) ↔ (e-zy D (place-26 D m) ≤ℤ pos (D Z))
   pub z-x : D Z ≡ longest D → (place-26 D (m + 1) X ≡ place-26 D m X + 1) ↔ (e-xz D (place-26 D m) ≤ℤ pos (D X))
   pub z-y : D Z ≡ longest D → (place-26 D (m + 1) Y ≡ place-26 D m Y + 1) ↔ (pos 0 ≤ℤ (e-zy D (place-26 D m) +ℤ pos (D Y)))
+
+pub record LongStep (D : Steps) : Type 0 where
+  pub moves : (m : ℕ) → m < longest D → Moves D m

@@ -11,7 +11,7 @@ use Rattle.lines.specs.Lines.{six-line, InLimit}
 use Rattle.lists.specs.declared.Listed.{Listed}
 use Rattle.lists.specs.declared.Listed.the-variants.{Refused}
 use Rattle.lists.specs.Lists.{Lists, Line6, Line26, numbers}
-use Rattle.claims.specs.Starred.{at}
+use Rattle.claims.specs.Example.{at}
 
 -- one answer and one final memory for each input: of either call, whatever line it lists; a refusal writes nothing
 pub record ListedOnce (line : List Cell) (p q : Cell) (entry : List ℤ) : Type 0 where
@@ -41,7 +41,7 @@ room = replicate 13 (pos 7)
 abbrev pub then-q : List ℤ
 then-q = numbers (at 0 0 0 ∷ at 1 0 0 ∷ at 2 1 0 ∷ at 2 1 0 ∷ []) ++ pos 7 ∷ []
 
--- wrong answers that the contract of the 6-line shuts out, on named inputs
+-- wrong answers that the contracts shut out, on named inputs
 pub record WrongLists : Type 0 where
   pub repeats-q : (r : Listed) → Line6 (at 0 0 0) (at 2 1 0) room r then-q → ⊥
   pub refuses-6 : (r : Refusal) (exit : List ℤ) → Line6 (at 0 0 0) (at 2 1 0) room (Refused r) exit → ⊥

@@ -24,12 +24,11 @@ use Rattle.sights.specs.declared.Point.{Point}
 use Rattle.sights.specs.Quotient.{as-f64, outside, in-cell, share-of}
 use Rattle.sights.specs.Survey.{Tested, quotients, cell-of, told-lookup}
 
--- 1. One answer for each input; and what document 01 has for an answer tells which it is.
+-- 1. One answer for each input.
 pub record OneAnswer (n : Counts) (at : Placement) (p : Point) : Type 0 where
   pub alone : (r s : Lookup) → r ≡ cell-of n at p → s ≡ cell-of n at p → r ≡ s
-  pub told-apart : (r : Lookup) → told-lookup r ≡ told-lookup (cell-of n at p) → r ≡ cell-of n at p
 
--- 2. On one axis: the coordinate z is a whole number k below the count with k ≤ q < k+1, and no other whole number (up to 2^53) is.
+-- 2. On one axis: the coordinate z is a whole number k below the count with k ≤ q < k+1, and no other whole number below 2^53 is.
 -- It is q's whole part.
 pub record Coordinate (count : ℕ) (q : Float) (z : ℤ) : Type 0 where
   pub number : ℕ
@@ -67,7 +66,7 @@ pub record Outside (n : Counts) (at : Placement) (p : Point) : Type 0 where
 pub record Exact (k : ℕ) : Type 0 where
   pub value : k ≤ 2 ^ 53 → HasValue (as-f64 k) false k 1
 
--- 5. The share of the way is that quotient rounded once: 1 over 2 is 0.5, 1 over 3 the f64 nearest to a third, 0 over 1 is 0.
+-- 5. Examples of the share of the way, the quotient rounded once: 1 over 2 is 0.5, 1 over 3 the f64 nearest to a third, 0 over 1 is 0.
 pub record Shares : Type 0 where
   pub half : toBits binary64 (share-of 1 2) ≡ 0x3fe0_0000_0000_0000
   pub third : toBits binary64 (share-of 1 3) ≡ 0x3fd5_5555_5555_5555

@@ -9,6 +9,7 @@ use Rattle.records.specs.declared.VenueRead.the-variants.{Read}
 use Rattle.program.specs.declared.Next.the-variants.{On, Over}
 use Rattle.program.specs.declared.Step.{Step}
 use Rattle.program.specs.Program.{venue-most, pair-most, venue-said, pair-said, output, frame, after-frame, Says}
+use Rattle.claims.specs.Example.{marked-cells}
 use Rattle.claims.specs.Records.{ReadsVenue, GivesCells, example-venue, example-pair}
 
 -- ---- a run of the program
@@ -56,7 +57,7 @@ example-output = plain-line ++ (49 ∷ 32 ∷ 65 ∷ 32 ∷ 99 ∷ 108 ∷ 101 �
 
 -- the same venue, marked: "its bytes are 1 1 1 0 and 1 2 1 0"
 abbrev pub marked-input : List ℕ
-marked-input = (0 ∷ 0 ∷ 0 ∷ 15 ∷ 1 ∷ 0 ∷ 4 ∷ 0 ∷ 2 ∷ 0 ∷ 1 ∷ 1 ∷ 1 ∷ 1 ∷ 0 ∷ 1 ∷ 2 ∷ 1 ∷ 0 ∷ []) ++ example-pair
+marked-input = (0 ∷ 0 ∷ 0 ∷ 15 ∷ 1 ∷ 0 ∷ 4 ∷ 0 ∷ 2 ∷ 0 ∷ 1 ∷ marked-cells) ++ example-pair
 
 -- "and the A line is `1 A hit 1 1 0 2 3`"
 abbrev pub marked-output : List ℕ

@@ -7,18 +7,20 @@ use lib.ListN.{length, take, replicate}
 use Rattle.buffers.specs.Numbers.{AllBytes}
 use Rattle.cells.specs.declared.Counts.{Counts}
 use Rattle.cells.specs.declared.Refusal.{Refusal}
+use Rattle.cells.specs.declared.Refusal.the-variants.{Bytes}
 use Rattle.cells.specs.declared.Verdict.the-variants.{Fine}
-use Rattle.grids.specs.Grid.{size, shape}
+use Rattle.grids.specs.Grid.{size, count-check, shape}
 use Rattle.records.specs.declared.Venue.{Venue}
 use Rattle.records.specs.declared.VenueRead.{VenueRead}
 use Rattle.records.specs.declared.VenueRead.the-variants.{Read, Refused as NoVenue}
 use Rattle.records.specs.declared.Pair.{Pair}
 use Rattle.records.specs.declared.PairRead.{PairRead}
 use Rattle.records.specs.declared.PairRead.the-variants.{Read as ReadPair, Refused as NoPair}
-use Rattle.records.specs.Records.{length-field, announced, version-of, cells-from, venue-read, venue-cells, pair-read, told-venue, told-pair}
+use Rattle.records.specs.Records.{length-field, announced, version-of, cells-from, venue-read, venue-cells, pair-read, counts-at}
 use Rattle.venues.specs.declared.Written.{Written}
 use Rattle.venues.specs.declared.Written.the-variants.{Wrote, Refused as NotWritten}
-use Rattle.venues.specs.Writing.{written-version, WritesVenue, told-written}
+use Rattle.venues.specs.Writing.{written-version, WritesVenue}
+use Rattle.claims.specs.Example.{example-counts, example-cells}
 
 -- ---- the contracts of the reading calls
 
@@ -33,7 +35,7 @@ ReadsPair s r = r ≡ pair-read s
 
 -- ---- the claims
 
--- One answer and one final memory for each input; a refusal writes nothing; case and values tell which answer it is.
+-- One answer and one final memory for each input; a refusal writes nothing.
 pub record OneAnswer (s : List ℕ) : Type 0 where
   pub venue : (r t : VenueRead) → ReadsVenue s r → ReadsVenue s t → r ≡ t
   pub cells : (a b : List ℕ) → GivesCells s a → GivesCells s b → a ≡ b
@@ -41,19 +43,23 @@ pub record OneAnswer (s : List ℕ) : Type 0 where
   pub written : (n : Counts) (entry : List ℕ) (r t : Written) (x y : List ℕ) → WritesVenue n s entry r x → WritesVenue n s entry t y → (r ≡ t) × (x ≡ y)
   pub untouched : (n : Counts) (entry : List ℕ) (r : Refusal) (x : List ℕ) → WritesVenue n s entry (NotWritten r) x → x ≡ entry
 
-pub record ToldApart : Type 0 where
-  pub venue : (r t : VenueRead) → told-venue r ≡ told-venue t → r ≡ t
-  pub pair : (r t : PairRead) → told-pair r ≡ told-pair t → r ≡ t
-  pub written : (r t : Written) → told-written r ≡ told-written t → r ≡ t
-
--- What reading accepts, in document 01's numbers; the part is never empty, so the empty part means refused.
-pub record Accepted (s : List ℕ) (v : Venue) : Type 0 where
+-- What reading accepts, in document 01's numbers.
+pub record Right (s : List ℕ) (v : Venue) : Type 0 where
   pub whole : 4 + announced s ≤ length s
   pub version : version-of s ≡ 1
   pub length-is : announced s ≡ 7 + size (v .counts)
   pub shape-is : shape (v .counts) (size (v .counts)) ≡ Fine
   pub part : (v .start ≡ 11) × (v .long ≡ size (v .counts))
 
+pub record Accepted (s : List ℕ) : Type 0 where
+  pub right : (v : Venue) → venue-read s ≡ Read v → Right s v
+
+-- "3 if the length is not 7 + nx·ny·nz": of a whole record of version 1, long enough for its head, with counts that pass.
+pub record LengthTested (s : List ℕ) : Type 0 where
+  pub three : 4 + announced s ≤ length s → version-of s ≡ 1 → 7 ≤ announced s → count-check (counts-at s 5) ≡ Fine →
+      (announced s ≡ 7 + size (counts-at s 5) → ⊥) → venue-read s ≡ NoVenue Bytes
+
+-- The part is never empty, so the empty part means refused.
 pub record EmptyPart (s : List ℕ) : Type 0 where
   pub accepted : (v : Venue) → venue-read s ≡ Read v → 1 ≤ length (venue-cells s)
   pub refused : (r : Refusal) → venue-read s ≡ NoVenue r → venue-cells s ≡ []
@@ -74,27 +80,21 @@ pub record WrittenBack (s : List ℕ) : Type 0 where
       (entry : List ℕ) → length entry ≡ length-field + announced s → (w : Written) (exit : List ℕ) → WritesVenue (v .counts) part entry w exit →
       (w ≡ Wrote (length-field + announced s)) × (exit ≡ take (length-field + announced s) s)
 
--- Bytes after a record are not looked at.
+-- Bytes after a record are not looked at: s is as long as its first four bytes say.
 pub record NotLookedAt (s rest : List ℕ) : Type 0 where
-  pub venue : (r t : VenueRead) → ReadsVenue s r → ReadsVenue (s ++ rest) t → r ≡ t
-  pub cells : (a b : List ℕ) → GivesCells s a → GivesCells (s ++ rest) b → a ≡ b
-  pub pair : (r t : PairRead) → ReadsPair s r → ReadsPair (s ++ rest) t → r ≡ t
+  pub venue : length s ≡ length-field + announced s → (r t : VenueRead) → ReadsVenue s r → ReadsVenue (s ++ rest) t → r ≡ t
+  pub cells : length s ≡ length-field + announced s → (a b : List ℕ) → GivesCells s a → GivesCells (s ++ rest) b → a ≡ b
+  pub pair : length s ≡ length-field + announced s → (r t : PairRead) → ReadsPair s r → ReadsPair (s ++ rest) t → r ≡ t
 
 -- ---- named inputs
 
 -- document 01: `0000000F 01 0004 0002 0001 0000000000020000`
-abbrev pub example-cells : List ℕ
-example-cells = 0 ∷ 0 ∷ 0 ∷ 0 ∷ 0 ∷ 2 ∷ 0 ∷ 0 ∷ []
-
 abbrev pub example-venue : List ℕ
 example-venue = 0 ∷ 0 ∷ 0 ∷ 15 ∷ 1 ∷ 0 ∷ 4 ∷ 0 ∷ 2 ∷ 0 ∷ 1 ∷ example-cells
 
 -- document 01: `0000000D 01 0000 0000 0000 0003 0001 0000`
 abbrev pub example-pair : List ℕ
 example-pair = 0 ∷ 0 ∷ 0 ∷ 13 ∷ 1 ∷ 0 ∷ 0 ∷ 0 ∷ 0 ∷ 0 ∷ 0 ∷ 0 ∷ 3 ∷ 0 ∷ 1 ∷ 0 ∷ 0 ∷ []
-
-abbrev pub example-counts : Counts
-example-counts = record { nx = 4; ny = 2; nz = 1 }
 
 -- room for the example and one byte more
 abbrev pub example-room : List ℕ

@@ -23,7 +23,8 @@ use Rattle.sight.specs.declared.Sight.{Sight}
 use Rattle.sight.specs.declared.Sight.the-variants.{Clear, Refused}
 use Rattle.sight.specs.Sight.{sight-of, Sees}
 use Rattle.claims.specs.Points.{metres, placement, point}
-use Rattle.claims.specs.Starred.{counts, halves}
+use Rattle.claims.specs.Example.{example-counts, marked-cells}
+use Rattle.claims.specs.Starred.{halves}
 
 module _ (n : Counts) (l : List ℕ) (at : Placement) where
   -- 1. One answer for each input.
@@ -47,8 +48,10 @@ module _ (n : Counts) (l : List ℕ) (at : Placement) where
   pub record NothingInSight (camera ball : Point) : Type 0 where
     pub open-way : complete 3 n l ≡ true → Sees n l at camera ball Clear → OpenWay camera ball
 
-  -- 4. Where the camera's point has no cell, the answer does not depend on the ball.
+  -- 4. Where the camera's point has no cell, its refusal is the answer; so the answer does not depend on the ball, whatever else is refused.
   pub record CameraFirst (camera : Point) : Type 0 where
+    pub refusal : (r : Refusal) → shape n (length l) ≡ Fine → placement-check at ≡ Fine → look-up P n at camera ≡ NoCell r → (ball : Point) (s : Sight) →
+        Sees n l at camera ball s → s ≡ Refused r
     pub any-ball : (r : Refusal) → look-up P n at camera ≡ NoCell r → (ball other : Point) (s t : Sight) →
         Sees n l at camera ball s → Sees n l at camera other t → s ≡ t
 
@@ -56,7 +59,7 @@ module _ (n : Counts) (l : List ℕ) (at : Placement) where
 
 abbrev pub Seen-there : Sight → Type 0
 Seen-there =
-    Sees (counts 4 2 1) (1 ∷ 1 ∷ 1 ∷ 0 ∷ 1 ∷ 2 ∷ 1 ∷ 0 ∷ []) (placement (metres 0) (metres 1)) (point (halves 1) (halves 1) (halves 1))
+    Sees example-counts marked-cells (placement (metres 0) (metres 1)) (point (halves 1) (halves 1) (halves 1))
     (point (halves 7) (halves 3) (halves 1))
 
 pub record WrongSights : Type 0 where

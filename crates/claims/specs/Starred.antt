@@ -2,12 +2,13 @@
 use Prim.Native.Nat.{ℕ, _-_}
 use mathlib.Core.Path.{_≡_}
 use mathlib.Core.List.{List, [], _∷_}
-use mathlib.Core.Logic.{inr}
+use mathlib.Core.Logic.{_⊎_, inl, inr}
 use lib.IntN.{pos, negℤ}
 use lib.Ieee.{Float, binary64, div, ofBits}
 use lib.ListN.{length}
 use Rattle.cells.specs.declared.Cell.{Cell}
 use Rattle.cells.specs.declared.Counts.{Counts}
+use Rattle.cells.specs.Refusals.{Told}
 use Rattle.lines.specs.Preference.{rule-1}
 use Rattle.lines.specs.Lines.{six-line, line-26}
 use Rattle.grids.specs.Marks.{marked}
@@ -15,33 +16,27 @@ use Rattle.records.specs.Records.{venue-read, venue-cells, told-venue, pair-rea
 use Rattle.program.specs.Program.{output}
 use Rattle.walks.specs.declared.Walker.{Walker}
 use Rattle.walks.specs.declared.Walker.the-variants.{Plain, Adaptive}
-use Rattle.walks.specs.declared.FirstHit.{FirstHit}
-use Rattle.walks.specs.declared.FirstHit.the-variants.{Clear, Hit as Blocked}
-use Rattle.walks.specs.Answers.{first-hit}
+use Rattle.walks.specs.declared.Hit.{Hit}
+use Rattle.walks.specs.Answers.{first-hit, told-hit}
 use Rattle.sights.specs.declared.Placement.{Placement}
 use Rattle.sights.specs.declared.Point.{Point}
 use Rattle.sights.specs.Quotient.{as-f64}
-use Rattle.sight.specs.declared.Sight.the-variants.{Blocked as InTheWay}
-use Rattle.sight.specs.Sight.{sight}
+use Rattle.sight.specs.Sight.{sight, told-sight}
 use Rattle.claims.specs.Points.{metres, placement, point}
-use Rattle.claims.specs.Records.{example-venue, example-cells, example-pair}
+use Rattle.claims.specs.Example.{counts, at, example-counts, example-cells, marked-cells}
+use Rattle.claims.specs.Records.{example-venue, example-pair}
 use Rattle.claims.specs.Program.{example-input, example-output, marked-input, marked-output}
-
--- counts
-abbrev pub counts : ℕ → ℕ → ℕ → Counts
-counts nx ny nz = record { nx = nx; ny = ny; nz = nz }
-
--- the cell (x, y, z)
-abbrev pub at : ℕ → ℕ → ℕ → Cell
-at x y z = record { x = pos x; y = pos y; z = pos z }
 
 -- the cell (-x, y, z)
 abbrev pub at-minus : ℕ → ℕ → ℕ → Cell
 at-minus x y z = record { x = negℤ (pos x); y = pos y; z = pos z }
 
--- the hit at a cell, with its code, place and reads
-abbrev pub hit : Cell → ℕ → ℕ → ℕ → ℕ → FirstHit
-hit c code num den reads = Blocked (record { cell = c; code = code; place = record { num = num; den = den }; reads = reads })
+-- what a walk answers: a hit at a cell, with its code, place and reads; or clear, with its reads
+abbrev pub hit : Cell → ℕ → ℕ → ℕ → ℕ → Told ⊎ (ℕ ⊎ Hit)
+hit c code num den reads = inr (inr (record { cell = c; code = code; place = record { num = num; den = den }; reads = reads }))
+
+abbrev pub clear : ℕ → Told ⊎ (ℕ ⊎ Hit)
+clear reads = inr (inl reads)
 
 -- k halves of a metre
 abbrev pub halves : ℕ → Float
@@ -54,7 +49,7 @@ pub data Row : Type 0 where
   six : Cell → Cell → List Cell → Row
   twenty-six : Cell → Cell → List Cell → Row
   marks : Counts → List ℕ → List ℕ → Row
-  finds : Walker → Counts → List ℕ → Cell → Cell → FirstHit → Row
+  finds : Walker → Counts → List ℕ → Cell → Cell → Told ⊎ (ℕ ⊎ Hit) → Row
   venue : List ℕ → Counts → List ℕ → Row
   venue-part : List ℕ → List ℕ → Row
   pair : List ℕ → Cell → Cell → Row
@@ -66,11 +61,11 @@ abbrev pub Holds : Row → Type 0
 Holds (six p q l) = six-line rule-1 p q ≡ l
 Holds (twenty-six p q l) = line-26 p q ≡ l
 Holds (marks n l m) = marked 3 n l ≡ m
-Holds (finds w n l p q a) = first-hit w n l p q ≡ a
+Holds (finds w n l p q says) = told-hit (first-hit w n l p q) ≡ says
 Holds (venue s n cells) = told-venue (venue-read s) ≡ inr (n, length s - length cells, length cells)
 Holds (venue-part s cells) = venue-cells s ≡ cells
 Holds (sees n l place camera ball share c code reads) =
-    sight n l place camera ball ≡ InTheWay (record { share = ofBits binary64 share; cell = c; code = code; reads = reads })
+    told-sight (sight n l place camera ball) ≡ inr (inr (record { share = ofBits binary64 share; cell = c; code = code; reads = reads }))
 Holds (pair s p q) = told-pair (pair-read s) ≡ inr (p, q)
 Holds (writes s out) = output s ≡ out
 
@@ -87,7 +82,7 @@ program-rows = writes example-input example-output ∷ writes marked-input marke
 -- the program's input, `0000000F 01 0004 0002 0001 0000000000020000` and `0000000D 01 0000 0000 0000 0003 0001 0000`
 abbrev pub record-rows : List Row
 record-rows =
-    venue example-venue (counts 4 2 1) example-cells
+    venue example-venue example-counts example-cells
     ∷ venue-part example-venue example-cells
     ∷ pair example-pair (at 0 0 0) (at 3 1 0)
     ∷ program-rows
@@ -95,7 +90,7 @@ record-rows =
 -- the marked program's venue, its origin 0, its edge 1 metre, from the middle of (0,0,0) to the middle of (3,1,0): share 0.5
 abbrev pub sight-rows : List Row
 sight-rows =
-    sees (counts 4 2 1) (1 ∷ 1 ∷ 1 ∷ 0 ∷ 1 ∷ 2 ∷ 1 ∷ 0 ∷ []) (placement (metres 0) (metres 1)) (point (halves 1) (halves 1) (halves 1))
+    sees example-counts marked-cells (placement (metres 0) (metres 1)) (point (halves 1) (halves 1) (halves 1))
     (point (halves 7) (halves 3) (halves 1)) 0x3fe0_0000_0000_0000 (at 1 1 0) 2 3
     ∷ record-rows
 
@@ -112,23 +107,23 @@ table =
     ∷ six (at 5 6 7) (at 5 6 7) (at 5 6 7 ∷ [])
     ∷ twenty-six (at 5 6 7) (at 5 6 7) (at 5 6 7 ∷ [])
     -- the program's venue: its marks; its walks, unmarked and marked
-    ∷ marks (counts 4 2 1) (0 ∷ 0 ∷ 0 ∷ 0 ∷ 0 ∷ 2 ∷ 0 ∷ 0 ∷ []) (1 ∷ 1 ∷ 1 ∷ 0 ∷ 1 ∷ 2 ∷ 1 ∷ 0 ∷ [])
+    ∷ marks example-counts example-cells marked-cells
     -- a corner touches
     ∷ marks (counts 2 2 2) (0 ∷ 0 ∷ 0 ∷ 0 ∷ 0 ∷ 0 ∷ 0 ∷ 9 ∷ []) (1 ∷ 1 ∷ 1 ∷ 1 ∷ 1 ∷ 1 ∷ 1 ∷ 9 ∷ [])
-    ∷ finds Plain (counts 4 2 1) (0 ∷ 0 ∷ 0 ∷ 0 ∷ 0 ∷ 2 ∷ 0 ∷ 0 ∷ []) (at 0 0 0) (at 3 1 0) (hit (at 1 1 0) 2 1 2 3)
-    ∷ finds Adaptive (counts 4 2 1) (0 ∷ 0 ∷ 0 ∷ 0 ∷ 0 ∷ 2 ∷ 0 ∷ 0 ∷ []) (at 0 0 0) (at 3 1 0) (Clear 4)
-    ∷ finds Plain (counts 4 2 1) (1 ∷ 1 ∷ 1 ∷ 0 ∷ 1 ∷ 2 ∷ 1 ∷ 0 ∷ []) (at 0 0 0) (at 3 1 0) (hit (at 1 1 0) 2 1 2 3)
-    ∷ finds Adaptive (counts 4 2 1) (1 ∷ 1 ∷ 1 ∷ 0 ∷ 1 ∷ 2 ∷ 1 ∷ 0 ∷ []) (at 0 0 0) (at 3 1 0) (hit (at 1 1 0) 2 1 2 3)
+    ∷ finds Plain example-counts example-cells (at 0 0 0) (at 3 1 0) (hit (at 1 1 0) 2 1 2 3)
+    ∷ finds Adaptive example-counts example-cells (at 0 0 0) (at 3 1 0) (clear 4)
+    ∷ finds Plain example-counts marked-cells (at 0 0 0) (at 3 1 0) (hit (at 1 1 0) 2 1 2 3)
+    ∷ finds Adaptive example-counts marked-cells (at 0 0 0) (at 3 1 0) (hit (at 1 1 0) 2 1 2 3)
     -- equal ends: one cell, one read
-    ∷ finds Plain (counts 4 2 1) (1 ∷ 1 ∷ 1 ∷ 0 ∷ 1 ∷ 2 ∷ 1 ∷ 0 ∷ []) (at 3 1 0) (at 3 1 0) (Clear 1)
-    ∷ finds Adaptive (counts 4 2 1) (1 ∷ 1 ∷ 1 ∷ 0 ∷ 1 ∷ 2 ∷ 1 ∷ 0 ∷ []) (at 3 1 0) (at 3 1 0) (Clear 1)
+    ∷ finds Plain example-counts marked-cells (at 3 1 0) (at 3 1 0) (clear 1)
+    ∷ finds Adaptive example-counts marked-cells (at 3 1 0) (at 3 1 0) (clear 1)
     -- complete marks, both clear, the adaptive walk reads fewer
-    ∷ finds Plain (counts 3 2 1) (0 ∷ 0 ∷ 0 ∷ 0 ∷ 0 ∷ 0 ∷ []) (at 0 0 0) (at 2 1 0) (Clear 4)
-    ∷ finds Adaptive (counts 3 2 1) (0 ∷ 0 ∷ 0 ∷ 0 ∷ 0 ∷ 0 ∷ []) (at 0 0 0) (at 2 1 0) (Clear 3)
+    ∷ finds Plain (counts 3 2 1) (0 ∷ 0 ∷ 0 ∷ 0 ∷ 0 ∷ 0 ∷ []) (at 0 0 0) (at 2 1 0) (clear 4)
+    ∷ finds Adaptive (counts 3 2 1) (0 ∷ 0 ∷ 0 ∷ 0 ∷ 0 ∷ 0 ∷ []) (at 0 0 0) (at 2 1 0) (clear 3)
     -- missing marks: a long step lands on the hit
     ∷ finds Plain (counts 6 3 1) (0 ∷ 0 ∷ 0 ∷ 0 ∷ 0 ∷ 0 ∷ 0 ∷ 0 ∷ 2 ∷ 0 ∷ 0 ∷ 0 ∷ 0 ∷ 0 ∷ 0 ∷ 0 ∷ 0 ∷ 0 ∷ []) (at 0 0 0) (at 5 2 0) (hit (at 2 1 0) 2 3 10 4)
     ∷ finds Adaptive (counts 6 3 1) (0 ∷ 0 ∷ 0 ∷ 0 ∷ 0 ∷ 0 ∷ 0 ∷ 0 ∷ 2 ∷ 0 ∷ 0 ∷ 0 ∷ 0 ∷ 0 ∷ 0 ∷ 0 ∷ 0 ∷ 0 ∷ []) (at 0 0 0) (at 5 2 0) (hit (at 2 1 0) 2 3 10 3)
     -- missing marks: the adaptive walk is clear and reads more than the plain one
     ∷ finds Plain (counts 3 2 1) (0 ∷ 0 ∷ 0 ∷ 0 ∷ 2 ∷ 0 ∷ []) (at 0 1 0) (at 2 0 0) (hit (at 1 1 0) 2 1 4 2)
-    ∷ finds Adaptive (counts 3 2 1) (0 ∷ 0 ∷ 0 ∷ 0 ∷ 2 ∷ 0 ∷ []) (at 0 1 0) (at 2 0 0) (Clear 3)
+    ∷ finds Adaptive (counts 3 2 1) (0 ∷ 0 ∷ 0 ∷ 0 ∷ 2 ∷ 0 ∷ []) (at 0 1 0) (at 2 0 0) (clear 3)
     ∷ sight-rows

@@ -25,7 +25,7 @@ use Rattle.walks.specs.declared.FirstHit.the-variants.{Clear, Hit as Blocked, R
 use Rattle.walks.specs.Walks.{hit-at, walk-of}
 use Rattle.walks.specs.Safe.{InGrid}
 use Rattle.walks.specs.Answers.{last-of, Finds}
-use Rattle.claims.specs.Starred.{at}
+use Rattle.claims.specs.Example.{counts, at, example-counts, example-cells, marked-cells}
 
 -- the first answer is the plain walk's, the second the adaptive one's: the same cell, code and place, or both clear, or both refuse alike; and the
 -- adaptive walk reads no more cells
@@ -61,7 +61,7 @@ pub record Reads (n : Counts) (l : List ℕ) (p q : Cell) : Type 0 where
   pub plain : (reads : ℕ) → Finds Plain n l p q (Clear reads) → reads ≡ total (differences p q) + 1
   pub adaptive : (reads : ℕ) → Finds Adaptive n l p q (Clear reads) → (longest (differences p q) + 1 ≤ reads) × (reads ≤ total (differences p q) + 1)
 
--- "The plain walk is the 6-line to its first solid cell": cell number s of the 6-line is solid and none before it; or none is at all.
+-- 5. "The plain walk is the 6-line to its first solid cell": cell number s of the 6-line is solid and none before it; or none is at all.
 pub record FirstOf (n : Counts) (l : List ℕ) (p q : Cell) (h : Hit) (s : ℕ) : Type 0 where
   pub most : s ≤ total (differences p q)
   pub cell : h .cell ≡ six-cell rule-1 p q s
@@ -73,42 +73,32 @@ pub record FirstSolid (n : Counts) (l : List ℕ) (p q : Cell) : Type 0 where
   pub hit : (h : Hit) → Finds Plain n l p q (Blocked h) → (s : ℕ) × FirstOf n l p q h s
   pub none : (reads : ℕ) → Finds Plain n l p q (Clear reads) → (s : ℕ) → s ≤ total (differences p q) → hit-at n l (six-cell rule-1 p q s) ≡ false
 
--- A hit lies in the grid.
+-- 6. A hit lies in the grid.
 pub record HitInside (n : Counts) (l : List ℕ) (p q : Cell) : Type 0 where
   pub inside : (w : Walker) (h : Hit) → Finds w n l p q (Blocked h) → InGrid n (h .cell)
 
--- 4. Each walk ends: its last cell is solid, or Q. (The number of steps that bounds its definition is never used up.)
+-- 7. Each walk ends: its last cell is solid, or Q. (The number of steps that bounds its definition is never used up.)
 pub record WalksEnd (n : Counts) (l : List ℕ) (p q : Cell) : Type 0 where
   pub ends : (w : Walker) → (hit-at n l (last-of p (walk-of w n l p q)) ≡ true) ⊎ (last-of p (walk-of w n l p q) ≡ q)
 
--- 5. Mark, then walk: after an accepted marking the premise of 1 and 3 holds.
+-- 8. Mark, then walk: after an accepted marking the premise of 1 and 3 holds.
 pub record MarkedFirst (n : Counts) (l exit : List ℕ) : Type 0 where
   pub premise : Marks n l Fine exit → complete 3 n exit ≡ true
 
--- 6. One answer for each input.
+-- 9. One answer for each input.
 pub record HitOnce (n : Counts) (l : List ℕ) (p q : Cell) : Type 0 where
   pub once : (w : Walker) (r s : FirstHit) → Finds w n l p q r → Finds w n l p q s → r ≡ s
 
 -- ---- wrong walks, on named inputs
 
--- the program's venue, without marks
-abbrev pub venue : Counts
-venue = record { nx = 4; ny = 2; nz = 1 }
-
-abbrev pub no-marks : List ℕ
-no-marks = 0 ∷ 0 ∷ 0 ∷ 0 ∷ 0 ∷ 2 ∷ 0 ∷ 0 ∷ []
-
--- one near cell, at P
-abbrev pub near-start : Counts
-near-start = record { nx = 3; ny = 2; nz = 1 }
+-- nothing in the way, 3 by 2 by 1; and one near cell there, at P
+abbrev pub all-clear : List ℕ
+all-clear = 0 ∷ 0 ∷ 0 ∷ 0 ∷ 0 ∷ 0 ∷ []
 
 abbrev pub near-bytes : List ℕ
 near-bytes = 1 ∷ 0 ∷ 0 ∷ 0 ∷ 0 ∷ 0 ∷ []
 
--- no marks, one solid cell at (2,1,0), onto which a long step leads
-abbrev pub long-way : Counts
-long-way = record { nx = 6; ny = 3; nz = 1 }
-
+-- 6 by 3 by 1, no marks, one solid cell at (2,1,0), onto which a long step leads
 abbrev pub long-bytes : List ℕ
 long-bytes = 0 ∷ 0 ∷ 0 ∷ 0 ∷ 0 ∷ 0 ∷ 0 ∷ 0 ∷ 2 ∷ 0 ∷ 0 ∷ 0 ∷ 0 ∷ 0 ∷ 0 ∷ 0 ∷ 0 ∷ 0 ∷ []
 
@@ -117,10 +107,12 @@ abbrev pub first-face : Hit
 first-face = record { cell = at 2 1 0; code = 2; place = record { num = 1; den = 4 }; reads = 3 }
 
 pub record WrongWalks : Type 0 where
-  pub plain-refuses : (r : Refusal) → Finds Plain venue no-marks (at 0 0 0) (at 3 1 0) (Refused r) → ⊥
-  pub adaptive-refuses : (r : Refusal) → Finds Adaptive venue no-marks (at 0 0 0) (at 3 1 0) (Refused r) → ⊥
-  pub secretly-plain : (r : FirstHit) → Finds Plain venue no-marks (at 0 0 0) (at 3 1 0) r → Finds Adaptive venue no-marks (at 0 0 0) (at 3 1 0) r → ⊥
-  pub clear-always : (reads : ℕ) → Finds Plain venue no-marks (at 0 0 0) (at 3 1 0) (Clear reads) → ⊥
-  pub reads-made-up : (reads : ℕ) → Finds Adaptive venue no-marks (at 0 0 0) (at 3 1 0) (Clear reads) → reads ≡ 4
-  pub long-at-any-clear : Finds Adaptive near-start near-bytes (at 0 0 0) (at 2 1 0) (Clear 3) → ⊥
-  pub place-of-first-face : Finds Adaptive long-way long-bytes (at 0 0 0) (at 5 2 0) (Blocked first-face) → ⊥
+  pub plain-refuses : (r : Refusal) → Finds Plain example-counts example-cells (at 0 0 0) (at 3 1 0) (Refused r) → ⊥
+  pub adaptive-refuses : (r : Refusal) → Finds Adaptive example-counts example-cells (at 0 0 0) (at 3 1 0) (Refused r) → ⊥
+  pub secretly-plain : (r : FirstHit) → Finds Plain example-counts example-cells (at 0 0 0) (at 3 1 0) r → Finds Adaptive example-counts example-cells (at 0 0 0) (at 3 1 0) r → ⊥
+  pub plain-in-reads : Finds Adaptive (counts 3 2 1) all-clear (at 0 0 0) (at 2 1 0) (Clear 4) → ⊥
+  pub plain-always-clear : (reads : ℕ) → Finds Plain example-counts example-cells (at 0 0 0) (at 3 1 0) (Clear reads) → ⊥
+  pub adaptive-always-clear : (reads : ℕ) → Finds Adaptive example-counts marked-cells (at 0 0 0) (at 3 1 0) (Clear reads) → ⊥
+  pub reads-made-up : (reads : ℕ) → Finds Adaptive example-counts example-cells (at 0 0 0) (at 3 1 0) (Clear reads) → reads ≡ 4
+  pub long-at-any-clear : Finds Adaptive (counts 3 2 1) near-bytes (at 0 0 0) (at 2 1 0) (Clear 3) → ⊥
+  pub place-of-first-face : Finds Adaptive (counts 6 3 1) long-bytes (at 0 0 0) (at 5 2 0) (Blocked first-face) → ⊥

@@ -11,11 +11,11 @@ abbrev pub value-after : ℕ → List ℕ → ℕ
 value-after n [] = n
 value-after n (b ∷ l) = value-after (10 * n + (b - 48)) l
 
--- "Numbers are decimal without leading zeros": the text says the number, in digits, and the first is 0 only where the number is
+-- "Numbers are decimal without leading zeros": the text says the number, in digits, and where there is more than one the first is not 0
 pub record Decimal (n : ℕ) : Type 0 where
   pub says : value-after 0 (decimal n) ≡ n
   pub digits : (i : ℕ) → i < length (decimal n) → (48 ≤ getD (decimal n) i 0) × (getD (decimal n) i 0 ≤ 57)
-  pub no-leading-zero : 1 ≤ n → 48 < getD (decimal n) 0 0
+  pub no-leading-zero : 2 ≤ length (decimal n) → 48 < getD (decimal n) 0 0
   pub some : 1 ≤ length (decimal n)
 
 -- One answer and one final memory for each line and lent slice.

@@ -2,3 +2,4 @@ pub mod Line
 pub mod Front
 pub mod Filling
 pub mod Moving
+pub mod Told

@@ -7,3 +7,4 @@ pub mod Safe
 pub mod Story
 pub mod Progress
 pub mod Long
+pub mod Told

@@ -1,0 +1,25 @@
+-- Document 01's worked example, by which claims name their inputs: the program's venue, without marks and with them. Assumes nothing.
+use Prim.Native.Nat.{ℕ}
+use mathlib.Core.List.{List, [], _∷_}
+use lib.IntN.{pos}
+use Rattle.cells.specs.declared.Cell.{Cell}
+use Rattle.cells.specs.declared.Counts.{Counts}
+
+-- counts
+abbrev pub counts : ℕ → ℕ → ℕ → Counts
+counts nx ny nz = record { nx = nx; ny = ny; nz = nz }
+
+-- the cell (x, y, z)
+abbrev pub at : ℕ → ℕ → ℕ → Cell
+at x y z = record { x = pos x; y = pos y; z = pos z }
+
+-- 4 by 2 by 1, solid at (1,1,0) alone
+abbrev pub example-counts : Counts
+example-counts = counts 4 2 1
+
+abbrev pub example-cells : List ℕ
+example-cells = 0 ∷ 0 ∷ 0 ∷ 0 ∷ 0 ∷ 2 ∷ 0 ∷ 0 ∷ []
+
+-- marked: "its bytes are 1 1 1 0 and 1 2 1 0"
+abbrev pub marked-cells : List ℕ
+marked-cells = 1 ∷ 1 ∷ 1 ∷ 0 ∷ 1 ∷ 2 ∷ 1 ∷ 0 ∷ []

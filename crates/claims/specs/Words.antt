@@ -1,0 +1,44 @@
+-- What is claimed of the words: what document 01 says of a refusal, its number and details, tells which refusal it is; and what it says of an
+-- answer, a refusal or the values, tells which answer it is. Assumes nothing.
+use mathlib.Core.Path.{_≡_}
+use Rattle.cells.specs.declared.Axis.the-variants.{X}
+use Rattle.cells.specs.declared.End.the-variants.{P}
+use Rattle.cells.specs.declared.Refusal.{Refusal}
+use Rattle.cells.specs.declared.Refusal.the-variants.{OffGrid, Record, Version}
+use Rattle.cells.specs.declared.Verdict.{Verdict}
+use Rattle.cells.specs.Refusals.{told, told-verdict}
+use Rattle.lists.specs.declared.Listed.{Listed}
+use Rattle.lists.specs.Lists.{told-listed}
+use Rattle.grids.specs.declared.LayerPart.{LayerPart}
+use Rattle.grids.specs.declared.Completeness.{Completeness}
+use Rattle.grids.specs.Grid.{told-part}
+use Rattle.grids.specs.Marks.{told-completeness}
+use Rattle.walks.specs.declared.FirstHit.{FirstHit}
+use Rattle.walks.specs.Answers.{told-hit}
+use Rattle.sights.specs.declared.Lookup.{Lookup}
+use Rattle.sights.specs.Survey.{told-lookup}
+use Rattle.sight.specs.declared.Sight.{Sight}
+use Rattle.sight.specs.Sight.{told-sight}
+use Rattle.records.specs.declared.VenueRead.{VenueRead}
+use Rattle.records.specs.declared.PairRead.{PairRead}
+use Rattle.records.specs.Records.{told-venue, told-pair}
+use Rattle.venues.specs.declared.Written.{Written}
+use Rattle.venues.specs.Writing.{told-written}
+
+pub record ToldApart : Type 0 where
+  pub refusal : (r s : Refusal) → told r ≡ told s → r ≡ s
+  pub verdict : (r s : Verdict) → told-verdict r ≡ told-verdict s → r ≡ s
+  pub listed : (r s : Listed) → told-listed r ≡ told-listed s → r ≡ s
+  pub part : (r s : LayerPart) → told-part r ≡ told-part s → r ≡ s
+  pub completeness : (r s : Completeness) → told-completeness r ≡ told-completeness s → r ≡ s
+  pub hit : (r s : FirstHit) → told-hit r ≡ told-hit s → r ≡ s
+  pub lookup : (r s : Lookup) → told-lookup r ≡ told-lookup s → r ≡ s
+  pub sight : (r s : Sight) → told-sight r ≡ told-sight s → r ≡ s
+  pub venue : (r s : VenueRead) → told-venue r ≡ told-venue s → r ≡ s
+  pub pair : (r s : PairRead) → told-pair r ≡ told-pair s → r ≡ s
+  pub written : (r s : Written) → told-written r ≡ told-written s → r ≡ s
+
+-- wrong numbers: an end outside the grid called 9, another version called a record cut short
+pub record WrongNumbers : Type 0 where
+  pub off-grid-nine : told (OffGrid P X) .number ≡ 9 → ⊥
+  pub version-as-record : told Version .number ≡ told Record .number → ⊥
