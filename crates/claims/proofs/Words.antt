@@ -1,5 +1,7 @@
 -- What is said of a refusal or an answer tells which it is, each by its left inverse. Assumes nothing.
+use mathlib.Core.Path.{sym, _∙_}
 use native.Mathlib.Omega.{arith}
+use Rattle.cells.specs.declared.Refusal.{Refusal}
 use Rattle.cells.proofs.Refusals.{told-one, told-verdict-one}
 use Rattle.lists.proofs.Told.{told-listed-one}
 use Rattle.grids.proofs.Told.{told-part-one, told-completeness-one}
@@ -8,7 +10,7 @@ use Rattle.sights.proofs.Told.{told-lookup-one}
 use Rattle.sight.proofs.Told.{told-sight-one}
 use Rattle.records.proofs.Told.{told-venue-one, told-pair-one}
 use Rattle.venues.proofs.Told.{told-written-one}
-use Rattle.claims.specs.Words.{ToldApart, WrongNumbers}
+use Rattle.claims.specs.Words.{ToldApart, OneNumber, WrongNumbers}
 
 pub told-apart : ToldApart
 told-apart =
@@ -25,6 +27,9 @@ told-apart =
       pair = told-pair-one;
       written = told-written-one;
     }
+
+pub one-number : (r : Refusal) → OneNumber r
+one-number r = record { one = λ m n e f. e ∙ sym f }
 
 pub wrong-numbers : WrongNumbers
 wrong-numbers = record { off-grid-nine = λ e. omega (arith, e); version-as-record = λ e. omega (arith, e) }

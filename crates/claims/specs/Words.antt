@@ -1,5 +1,6 @@
 -- What is claimed of the words: what document 01 says of a refusal, its number and details, tells which refusal it is; and what it says of an
 -- answer, a refusal or the values, tells which answer it is. Assumes nothing.
+use Prim.Native.Nat.{ℕ}
 use mathlib.Core.Path.{_≡_}
 use Rattle.cells.specs.declared.Axis.the-variants.{X}
 use Rattle.cells.specs.declared.End.the-variants.{P}
@@ -37,6 +38,10 @@ pub record ToldApart : Type 0 where
   pub venue : (r s : VenueRead) → told-venue r ≡ told-venue s → r ≡ s
   pub pair : (r s : PairRead) → told-pair r ≡ told-pair s → r ≡ s
   pub written : (r s : Written) → told-written r ≡ told-written s → r ≡ s
+
+-- the call that gives a refusal's number: one answer for each
+pub record OneNumber (r : Refusal) : Type 0 where
+  pub one : (m n : ℕ) → m ≡ told r .number → n ≡ told r .number → m ≡ n
 
 -- wrong numbers: an end outside the grid called 9, another version called a record cut short
 pub record WrongNumbers : Type 0 where

@@ -1,4 +1,5 @@
--- The answer of a walk, from the spot where it stopped. Assumes nothing.
+-- How the code makes the answer of a walk, from the spot where it stopped. No promise rests on this file: 01's answer is `answer-of` of `walks`,
+-- and this is equal to it (`proofs/Stops.antt`). Assumes nothing.
 use Prim.Native.Nat.{ℕ}
 use mathlib.Core.Bool.{cond}
 use mathlib.Core.List.{List}

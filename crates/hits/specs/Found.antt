@@ -1,4 +1,5 @@
--- Where each walk is, where it stops and what it answers, by the numbers of the 6-line's cells. Assumes nothing.
+-- Where each walk is, where it stops and what it answers, by the numbers of the 6-line's cells: words for the contracts of inner functions.
+-- No promise rests on this file. Assumes nothing.
 use Prim.Native.Nat.{ℕ, suc, _+_, _≤_, _<_}
 use mathlib.Core.Path.{_≡_}
 use mathlib.Core.Bool.{Bool, true, false}

@@ -78,7 +78,7 @@ walk-line k w (Clear reads) = clear-line k w reads
 walk-line k w (Blocked h) = hit-line k w (coordinate (h .cell .x)) (coordinate (h .cell .y)) (coordinate (h .cell .z)) (h .code) (h .reads)
 walk-line k w (NotWalked r) = []
 
--- "after 5 it goes on"; "Otherwise two lines a pair"
+-- "after 5 it goes on"; "Otherwise two lines a pair". An accepted venue leaves no refusal but 5.
 abbrev pub said-of-walks : ℕ → Verdict → FirstHit → FirstHit → Said
 said-of-walks k (Refused r) a b = pair-refused k r (On (k + 1))
 said-of-walks k Fine a b = record { text = walk-line k Plain a ++ walk-line k Adaptive b; next = On (k + 1) }

@@ -1,4 +1,5 @@
--- Clear runs of the 26-line: what the code keeps along them, and what its steps ask and promise. Assumes nothing.
+-- Clear runs of the 26-line: what the code keeps along them, and what its steps ask and promise. No promise to users rests
+-- on this file. Assumes nothing.
 use Prim.Native.Nat.{ℕ, _+_, _≤_, _<_}
 use mathlib.Core.Path.{_≡_}
 use mathlib.Core.Bool.{cond}

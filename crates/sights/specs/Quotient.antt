@@ -21,7 +21,8 @@ outside count q = lt q (as-f64 0) || le (as-f64 count) q
 abbrev pub in-cell : Float → ℕ → Bool
 in-cell q n = le (as-f64 n) q && lt q (as-f64 (n + 1))
 
--- "The cell is the whole number n with n ≤ q < n+1": the one among those below the count. (0 where there is none: such a q is outside.)
+-- "The cell is the whole number n with n ≤ q < n+1": the one among those below the count. (0 where there is none: such a q is outside, or NaN, which
+-- tested inputs never give.)
 unfoldable pub cell-number : ℕ → Float → ℕ
 cell-number zero q = 0
 cell-number (suc n) q = cond (in-cell q n) n (cell-number n q)

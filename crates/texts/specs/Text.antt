@@ -21,7 +21,7 @@ unfoldable pub decimal-in : ℕ → ℕ → List ℕ
 decimal-in zero n = []
 decimal-in (suc turns) n = cond (ltb n 10) (digit n ∷ []) (decimal-in turns (n / 10) ++ (digit (n % 10) ∷ []))
 
--- more turns than the number says are never needed
+-- n + 1 turns are always enough
 unfoldable pub decimal : ℕ → List ℕ
 unfolding decimal-in
 decimal n = decimal-in (suc n) n

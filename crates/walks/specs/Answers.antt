@@ -42,7 +42,7 @@ entered-at p q (suc s) =
     let a : Axis = next c (place c s) in
     record { num = 2 * place c (suc s) a - 1; den = 2 * differences p q a }
 
--- by the cell's number in the 6-line
+-- by the cell's number in the 6-line (a walk's cell always has one: `six-found`)
 abbrev pub place-by : Cell → Cell → Option ℕ → Place
 place-by p q none = entered-at p q 0
 place-by p q (some s) = entered-at p q s

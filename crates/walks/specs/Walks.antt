@@ -34,7 +34,7 @@ six-count p q = total (differences p q) + 1
 abbrev pub count-26 : Cell → Cell → ℕ
 count-26 p q = longest (differences p q) + 1
 
--- the cell after the one that was found, or w itself
+-- the cell after the one that was found (a walk's cell is always found: `six-found`)
 abbrev pub after : (ℕ → Cell) → Cell → Option ℕ → Cell
 after f w none = w
 after f w (some s) = f (s + 1)
