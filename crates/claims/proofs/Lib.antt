@@ -9,3 +9,4 @@ pub mod Sights
 pub mod Records
 pub mod Texts
 pub mod Program
+pub mod Exports

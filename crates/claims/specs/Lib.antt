@@ -10,3 +10,4 @@ pub mod Sights
 pub mod Records
 pub mod Texts
 pub mod Program
+pub mod Exports

@@ -1,0 +1,70 @@
+-- What is claimed of the calls for C, by the contracts of the twelve exports. Assumes nothing.
+use Prim.Native.Nat.{ℕ}
+use mathlib.Core.Path.{_≡_}
+use mathlib.Core.List.{List}
+use lib.IntN.{ℤ}
+use lib.ListN.{length}
+use Rattle.cells.specs.declared.Cell.{Cell}
+use Rattle.cells.specs.declared.Counts.{Counts}
+use Rattle.grids.specs.Grid.{layer-part}
+use Rattle.grids.specs.Marks.{completeness}
+use Rattle.walks.specs.declared.Walker.the-variants.{Plain, Adaptive}
+use Rattle.walks.specs.Answers.{first-hit}
+use Rattle.sights.specs.Survey.{cell-of}
+use Rattle.sight.specs.Sight.{sight}
+use Rattle.records.specs.Records.{venue-read, pair-read}
+use Rattle.oatmarten.specs.declared.inputs.OatCell.{OatCell}
+use Rattle.oatmarten.specs.declared.inputs.OatCounts.{OatCounts}
+use Rattle.oatmarten.specs.declared.inputs.OatPlacement.{OatPlacement}
+use Rattle.oatmarten.specs.declared.inputs.OatPoint.{OatPoint}
+use Rattle.oatmarten.specs.declared.line_calls.OatListed.{OatListed}
+use Rattle.oatmarten.specs.declared.grid_calls.OatVerdict.{OatVerdict}
+use Rattle.oatmarten.specs.declared.grid_calls.OatComplete.{OatComplete}
+use Rattle.oatmarten.specs.declared.grid_calls.OatPart.{OatPart}
+use Rattle.oatmarten.specs.declared.walk_calls.OatHit.{OatHit}
+use Rattle.oatmarten.specs.declared.sight_calls.OatFound.{OatFound}
+use Rattle.oatmarten.specs.declared.sight_calls.OatSight.{OatSight}
+use Rattle.oatmarten.specs.declared.record_calls.OatVenue.{OatVenue}
+use Rattle.oatmarten.specs.declared.record_calls.OatPair.{OatPair}
+use Rattle.oatmarten.specs.declared.record_calls.OatWritten.{OatWritten}
+use Rattle.oatmarten.specs.Inputs.{as-cell, as-counts, as-placement, as-point}
+use Rattle.oatmarten.specs.LineCalls.{FlatLists}
+use Rattle.oatmarten.specs.GridCalls.{flat-complete, flat-part, FlatMarks}
+use Rattle.oatmarten.specs.WalkCalls.{flat-hit}
+use Rattle.oatmarten.specs.SightCalls.{flat-found, flat-sight}
+use Rattle.oatmarten.specs.RecordCalls.{flat-venue, flat-pair, FlatWritesVenue}
+
+-- 1. One answer and one final memory for each input. `lines` is of oat_line6 and oat_line26, whatever line the call lists.
+pub record ExportsOnce : Type 0 where
+  pub lines : (line : List Cell) (p q : Cell) (entry : List ℤ) (r s : OatListed) (exit last : List ℤ) →
+      FlatLists line p q entry r exit → FlatLists line p q entry s last → (r ≡ s) × (exit ≡ last)
+  pub mark : (n : Counts) (entry : List ℕ) (r s : OatVerdict) (exit last : List ℕ) →
+      FlatMarks n entry r exit → FlatMarks n entry s last → (r ≡ s) × (exit ≡ last)
+  pub complete : (n : OatCounts) (cells : List ℕ) (r s : OatComplete) →
+      r ≡ flat-complete (completeness (as-counts n) cells) → s ≡ flat-complete (completeness (as-counts n) cells) → r ≡ s
+  pub layer : (n : OatCounts) (cells : List ℕ) (z : ℤ) (r s : OatPart) →
+      r ≡ flat-part (layer-part (as-counts n) (length cells) z) → s ≡ flat-part (layer-part (as-counts n) (length cells) z) → r ≡ s
+  pub plain : (n : OatCounts) (cells : List ℕ) (p q : OatCell) (r s : OatHit) →
+      r ≡ flat-hit (first-hit Plain (as-counts n) cells (as-cell p) (as-cell q)) →
+      s ≡ flat-hit (first-hit Plain (as-counts n) cells (as-cell p) (as-cell q)) → r ≡ s
+  pub adaptive : (n : OatCounts) (cells : List ℕ) (p q : OatCell) (r s : OatHit) →
+      r ≡ flat-hit (first-hit Adaptive (as-counts n) cells (as-cell p) (as-cell q)) →
+      s ≡ flat-hit (first-hit Adaptive (as-counts n) cells (as-cell p) (as-cell q)) → r ≡ s
+  pub found : (n : OatCounts) (at : OatPlacement) (p : OatPoint) (r s : OatFound) →
+      r ≡ flat-found (cell-of (as-counts n) (as-placement at) (as-point p)) →
+      s ≡ flat-found (cell-of (as-counts n) (as-placement at) (as-point p)) → r ≡ s
+  pub seen : (n : OatCounts) (cells : List ℕ) (at : OatPlacement) (camera ball : OatPoint) (r s : OatSight) →
+      r ≡ flat-sight (sight (as-counts n) cells (as-placement at) (as-point camera) (as-point ball)) →
+      s ≡ flat-sight (sight (as-counts n) cells (as-placement at) (as-point camera) (as-point ball)) → r ≡ s
+  pub venue : (bytes : List ℕ) (r s : OatVenue) → r ≡ flat-venue (venue-read bytes) → s ≡ flat-venue (venue-read bytes) → r ≡ s
+  pub pair : (bytes : List ℕ) (r s : OatPair) → r ≡ flat-pair (pair-read bytes) → s ≡ flat-pair (pair-read bytes) → r ≡ s
+  pub written : (n : Counts) (cells entry : List ℕ) (r s : OatWritten) (exit last : List ℕ) →
+      FlatWritesVenue n cells entry r exit → FlatWritesVenue n cells entry s last → (r ≡ s) × (exit ≡ last)
+
+-- 2. Where `refusal` is not 0, the lent memory is as it was: of the calls that write.
+pub record RefusedUntouched : Type 0 where
+  pub lines : (line : List Cell) (p q : Cell) (entry : List ℤ) (r : OatListed) (exit : List ℤ) →
+      FlatLists line p q entry r exit → (r .refusal ≡ 0 → ⊥) → exit ≡ entry
+  pub mark : (n : Counts) (entry : List ℕ) (r : OatVerdict) (exit : List ℕ) → FlatMarks n entry r exit → (r .refusal ≡ 0 → ⊥) → exit ≡ entry
+  pub written : (n : Counts) (cells entry : List ℕ) (r : OatWritten) (exit : List ℕ) →
+      FlatWritesVenue n cells entry r exit → (r .refusal ≡ 0 → ⊥) → exit ≡ entry
