@@ -1,18 +1,47 @@
 -- The claims about the calls for C, from their contracts and the flattenings. Assumes nothing.
-use Prim.Native.Nat.{ℕ}
+use Prim.Native.Nat.{ℕ, _≤_}
 use mathlib.Core.Path.{_≡_, refl, sym, ap, _∙_}
+use mathlib.Core.Bool.{true, false}
+use mathlib.Core.Logic.{_⊎_, inl, inr, _↔_}
+use native.Mathlib.Omega.{arith}
 use lib.ListN.{length}
 use Rattle.cells.specs.declared.Refusal.{Refusal}
+use Rattle.cells.specs.declared.Refusal.the-variants.{Limit, Count, Bytes, Layer, OffGrid, Room, Placement, NotFinite, OffSurvey, Record, Version}
 use Rattle.cells.specs.declared.Verdict.{Verdict}
 use Rattle.cells.specs.declared.Verdict.the-variants.{Fine, Refused as Fails}
-use Rattle.lists.specs.Lists.{list-check, listed, after-listing}
-use Rattle.grids.specs.Grid.{shape}
-use Rattle.grids.specs.Marks.{after-marking}
-use Rattle.venues.specs.Writing.{write-check, written, after-writing}
+use Rattle.cells.specs.Refusals.{Told, told, told-verdict}
+use Rattle.lists.specs.declared.Listed.{Listed}
+use Rattle.lists.specs.declared.Listed.the-variants.{Cells, Refused as NotListed}
+use Rattle.lists.specs.Lists.{list-check, listed, after-listing, told-listed}
+use Rattle.grids.specs.declared.LayerPart.{LayerPart}
+use Rattle.grids.specs.declared.LayerPart.the-variants.{Part as LayerAt, Refused as NoPart}
+use Rattle.grids.specs.declared.Completeness.{Completeness}
+use Rattle.grids.specs.declared.Completeness.the-variants.{Yes, No, Refused as NotAsked}
+use Rattle.grids.specs.Grid.{shape, told-part}
+use Rattle.grids.specs.Marks.{after-marking, told-completeness}
+use Rattle.walks.specs.declared.FirstHit.{FirstHit}
+use Rattle.walks.specs.declared.FirstHit.the-variants.{Clear, Hit as Blocked, Refused as NotWalked}
+use Rattle.walks.specs.Answers.{told-hit}
+use Rattle.sights.specs.declared.Lookup.{Lookup}
+use Rattle.sights.specs.declared.Lookup.the-variants.{Cell as At, Refused as NotFound}
+use Rattle.sights.specs.Survey.{told-lookup}
+use Rattle.sight.specs.declared.Sight.{Sight}
+use Rattle.sight.specs.declared.Sight.the-variants.{Clear as Seen, Blocked as InTheWay, Refused as NotSeen}
+use Rattle.sight.specs.Sight.{told-sight}
+use Rattle.records.specs.declared.VenueRead.{VenueRead}
+use Rattle.records.specs.declared.VenueRead.the-variants.{Read as ReadVenue, Refused as NoVenue}
+use Rattle.records.specs.declared.PairRead.{PairRead}
+use Rattle.records.specs.declared.PairRead.the-variants.{Read as ReadPair, Refused as NoPair}
+use Rattle.records.specs.Records.{told-venue, told-pair}
+use Rattle.venues.specs.declared.Written.{Written}
+use Rattle.venues.specs.declared.Written.the-variants.{Wrote, Refused as NotWritten}
+use Rattle.venues.specs.Writing.{write-check, written, after-writing, told-written}
 use Rattle.oatmarten.specs.LineCalls.{flat-listed}
-use Rattle.oatmarten.specs.GridCalls.{flat-verdict}
-use Rattle.oatmarten.specs.RecordCalls.{flat-written}
-use Rattle.claims.specs.Exports.{ExportsOnce, RefusedUntouched}
+use Rattle.oatmarten.specs.GridCalls.{flat-verdict, flat-complete, flat-part}
+use Rattle.oatmarten.specs.WalkCalls.{flat-hit}
+use Rattle.oatmarten.specs.SightCalls.{flat-found, flat-sight}
+use Rattle.oatmarten.specs.RecordCalls.{flat-venue, flat-pair, flat-written}
+use Rattle.claims.specs.Exports.{ExportsOnce, RefusedUntouched, number-told, Numbered, InTable, RefusalNumbers}
 
 -- ---- one answer, one final memory
 
@@ -64,4 +93,100 @@ refused-untouched =
       written = λ n cells entry r exit h.
           untouched (λ f. f .refusal) (λ v. flat-written (written v n)) (λ v. after-writing v n cells entry) refl (λ x. refl)
           (write-check n (length cells) (length entry)) (h .flat ∙ ap flat-written (h .meets .says)) (h .meets .holds);
+    }
+
+-- ---- the numbers of refusals
+
+in-table : (r : Refusal) → InTable (told r .number)
+in-table (Limit e a) = (omega arith, omega arith)
+in-table (Count a) = (omega arith, omega arith)
+in-table Bytes = (omega arith, omega arith)
+in-table Layer = (omega arith, omega arith)
+in-table (OffGrid e a) = (omega arith, omega arith)
+in-table Room = (omega arith, omega arith)
+in-table (Placement p) = (omega arith, omega arith)
+in-table (NotFinite e a) = (omega arith, omega arith)
+in-table (OffSurvey e a) = (omega arith, omega arith)
+in-table Record = (omega arith, omega arith)
+in-table Version = (omega arith, omega arith)
+
+-- an answer that document 01 tells as t, and the number that C reads of it: a refusal with its number, or accepted with 0
+abbrev Case : {B : Type 0} → Told ⊎ B → ℕ → Type 0
+Case {B} t k = ((r : Refusal) × (t ≡ inl (told r)) × (k ≡ told r .number)) ⊎ ((v : B) × (t ≡ inr v) × (k ≡ 0))
+
+refused : {B : Type 0} (r : Refusal) → Case {B = B} (inl (told r)) (told r .number)
+refused r = inl (r, refl, refl)
+
+accepted : {B : Type 0} (v : B) → Case (inr v) 0
+accepted v = inr (v, refl, refl)
+
+numbered : {A B F : Type 0} (says : A → Told ⊎ B) (flat : A → F) (refusal : F → ℕ) → ((a : A) → Case (says a) (refusal (flat a))) → Numbered says flat refusal
+numbered says flat refusal case = record { number = λ a. number (case a); accepted = λ a. exactly (case a) }
+  where
+    number : {B : Type 0} {t : Told ⊎ B} {k : ℕ} → Case t k → k ≡ number-told t
+    number (inl (r, e, f)) = f ∙ sym (ap number-told e)
+    number (inr (v, e, f)) = f ∙ sym (ap number-told e)
+
+    exactly : {B : Type 0} {t : Told ⊎ B} {k : ℕ} → Case t k → (k ≡ 0) ↔ ((v : B) × (t ≡ inr v))
+    exactly (inl (r, e, f)) =
+        (λ z. absurd (omega (arith, in-table r .0, f, z)), λ v. absurd (let z : told r .number ≡ 0 = sym (ap number-told e) ∙ ap number-told (v .1) in omega (arith, in-table r .0)))
+    exactly (inr (v, e, f)) = (λ z. (v, e), λ w. f)
+
+listed-case : (a : Listed) → Case (told-listed a) (flat-listed a .refusal)
+listed-case (Cells n) = accepted n
+listed-case (NotListed r) = refused r
+
+verdict-case : (a : Verdict) → Case (told-verdict a) (flat-verdict a .refusal)
+verdict-case Fine = accepted tt
+verdict-case (Fails r) = refused r
+
+complete-case : (a : Completeness) → Case (told-completeness a) (flat-complete a .refusal)
+complete-case Yes = accepted true
+complete-case No = accepted false
+complete-case (NotAsked r) = refused r
+
+part-case : (a : LayerPart) → Case (told-part a) (flat-part a .refusal)
+part-case (LayerAt start many) = accepted (start, many)
+part-case (NoPart r) = refused r
+
+hit-case : (a : FirstHit) → Case (told-hit a) (flat-hit a .refusal)
+hit-case (Clear reads) = accepted (inl reads)
+hit-case (Blocked h) = accepted (inr h)
+hit-case (NotWalked r) = refused r
+
+found-case : (a : Lookup) → Case (told-lookup a) (flat-found a .refusal)
+found-case (At c) = accepted c
+found-case (NotFound r) = refused r
+
+sight-case : (a : Sight) → Case (told-sight a) (flat-sight a .refusal)
+sight-case Seen = accepted (inl tt)
+sight-case (InTheWay b) = accepted (inr b)
+sight-case (NotSeen r) = refused r
+
+venue-case : (a : VenueRead) → Case (told-venue a) (flat-venue a .refusal)
+venue-case (ReadVenue v) = accepted (v .counts, v .start, v .long)
+venue-case (NoVenue r) = refused r
+
+pair-case : (a : PairRead) → Case (told-pair a) (flat-pair a .refusal)
+pair-case (ReadPair e) = accepted (e .p, e .q)
+pair-case (NoPair r) = refused r
+
+written-case : (a : Written) → Case (told-written a) (flat-written a .refusal)
+written-case (Wrote many) = accepted many
+written-case (NotWritten r) = refused r
+
+pub refusal-numbers : RefusalNumbers
+refusal-numbers =
+    record {
+      in-table = in-table;
+      lines = numbered told-listed flat-listed (λ f. f .refusal) listed-case;
+      mark = numbered told-verdict flat-verdict (λ f. f .refusal) verdict-case;
+      complete = numbered told-completeness flat-complete (λ f. f .refusal) complete-case;
+      layer = numbered told-part flat-part (λ f. f .refusal) part-case;
+      walks = numbered told-hit flat-hit (λ f. f .refusal) hit-case;
+      found = numbered told-lookup flat-found (λ f. f .refusal) found-case;
+      seen = numbered told-sight flat-sight (λ f. f .refusal) sight-case;
+      venue = numbered told-venue flat-venue (λ f. f .refusal) venue-case;
+      pair = numbered told-pair flat-pair (λ f. f .refusal) pair-case;
+      written = numbered told-written flat-written (λ f. f .refusal) written-case;
     }

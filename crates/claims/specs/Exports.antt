@@ -1,18 +1,23 @@
 -- What is claimed of the calls for C, by the contracts of the twelve exports. Assumes nothing.
-use Prim.Native.Nat.{ℕ}
+use Prim.Native.Nat.{ℕ, _≤_}
 use mathlib.Core.Path.{_≡_}
 use mathlib.Core.List.{List}
+use mathlib.Core.Logic.{_⊎_, inl, inr, _↔_}
 use lib.IntN.{ℤ}
 use lib.ListN.{length}
 use Rattle.cells.specs.declared.Cell.{Cell}
 use Rattle.cells.specs.declared.Counts.{Counts}
-use Rattle.grids.specs.Grid.{layer-part}
-use Rattle.grids.specs.Marks.{completeness}
+use Rattle.cells.specs.declared.Refusal.{Refusal}
+use Rattle.cells.specs.Refusals.{Told, told-verdict}
+use Rattle.lists.specs.Lists.{told-listed}
+use Rattle.grids.specs.Grid.{layer-part, told-part}
+use Rattle.grids.specs.Marks.{completeness, told-completeness}
 use Rattle.walks.specs.declared.Walker.the-variants.{Plain, Adaptive}
-use Rattle.walks.specs.Answers.{first-hit}
-use Rattle.sights.specs.Survey.{cell-of}
-use Rattle.sight.specs.Sight.{sight}
-use Rattle.records.specs.Records.{venue-read, pair-read}
+use Rattle.walks.specs.Answers.{first-hit, told-hit}
+use Rattle.sights.specs.Survey.{cell-of, told-lookup}
+use Rattle.sight.specs.Sight.{sight, told-sight}
+use Rattle.records.specs.Records.{venue-read, pair-read, told-venue, told-pair}
+use Rattle.venues.specs.Writing.{told-written}
 use Rattle.oatmarten.specs.declared.inputs.OatCell.{OatCell}
 use Rattle.oatmarten.specs.declared.inputs.OatCounts.{OatCounts}
 use Rattle.oatmarten.specs.declared.inputs.OatPlacement.{OatPlacement}
@@ -28,11 +33,12 @@ use Rattle.oatmarten.specs.declared.record_calls.OatVenue.{OatVenue}
 use Rattle.oatmarten.specs.declared.record_calls.OatPair.{OatPair}
 use Rattle.oatmarten.specs.declared.record_calls.OatWritten.{OatWritten}
 use Rattle.oatmarten.specs.Inputs.{as-cell, as-counts, as-placement, as-point}
-use Rattle.oatmarten.specs.LineCalls.{FlatLists}
-use Rattle.oatmarten.specs.GridCalls.{flat-complete, flat-part, FlatMarks}
+use Rattle.oatmarten.specs.Refusals.{flat-refusal}
+use Rattle.oatmarten.specs.LineCalls.{flat-listed, FlatLists}
+use Rattle.oatmarten.specs.GridCalls.{flat-verdict, flat-complete, flat-part, FlatMarks}
 use Rattle.oatmarten.specs.WalkCalls.{flat-hit}
 use Rattle.oatmarten.specs.SightCalls.{flat-found, flat-sight}
-use Rattle.oatmarten.specs.RecordCalls.{flat-venue, flat-pair, FlatWritesVenue}
+use Rattle.oatmarten.specs.RecordCalls.{flat-venue, flat-pair, flat-written, FlatWritesVenue}
 
 -- 1. One answer and one final memory for each input. `lines` is of oat_line6 and oat_line26, whatever line the call lists.
 pub record ExportsOnce : Type 0 where
@@ -68,3 +74,31 @@ pub record RefusedUntouched : Type 0 where
   pub mark : (n : Counts) (entry : List ℕ) (r : OatVerdict) (exit : List ℕ) → FlatMarks n entry r exit → (r .refusal ≡ 0 → ⊥) → exit ≡ entry
   pub written : (n : Counts) (cells entry : List ℕ) (r : OatWritten) (exit : List ℕ) →
       FlatWritesVenue n cells entry r exit → (r .refusal ≡ 0 → ⊥) → exit ≡ entry
+
+-- the number of the refusal that is told, 0 where the answer is told by its values
+abbrev pub number-told : {B : Type 0} → Told ⊎ B → ℕ
+number-told (inl t) = t .number
+number-told (inr v) = 0
+
+-- 3. What C reads in `refusal`, over what document 01 says of the answer: the refusal's number, and 0 exactly where the call was accepted.
+pub record Numbered {A B F : Type 0} (says : A → Told ⊎ B) (flat : A → F) (refusal : F → ℕ) : Type 0 where
+  pub number : (a : A) → refusal (flat a) ≡ number-told (says a)
+  pub accepted : (a : A) → (refusal (flat a) ≡ 0) ↔ ((v : B) × (says a ≡ inr v))
+
+-- document 01's table has the numbers 1 to 11
+abbrev pub InTable : ℕ → Type 0
+InTable k = (1 ≤ k) × (k ≤ 11)
+
+-- of each flattening
+pub record RefusalNumbers : Type 0 where
+  pub in-table : (r : Refusal) → InTable (flat-refusal r .number)
+  pub lines : Numbered told-listed flat-listed (λ f. f .refusal)
+  pub mark : Numbered told-verdict flat-verdict (λ f. f .refusal)
+  pub complete : Numbered told-completeness flat-complete (λ f. f .refusal)
+  pub layer : Numbered told-part flat-part (λ f. f .refusal)
+  pub walks : Numbered told-hit flat-hit (λ f. f .refusal)
+  pub found : Numbered told-lookup flat-found (λ f. f .refusal)
+  pub seen : Numbered told-sight flat-sight (λ f. f .refusal)
+  pub venue : Numbered told-venue flat-venue (λ f. f .refusal)
+  pub pair : Numbered told-pair flat-pair (λ f. f .refusal)
+  pub written : Numbered told-written flat-written (λ f. f .refusal)
