@@ -1,15 +1,26 @@
 -- The claims about the calls for C, from their contracts and the flattenings. Assumes nothing.
 use Prim.Native.Nat.{ℕ, _≤_}
 use mathlib.Core.Path.{_≡_, refl, sym, ap, _∙_}
-use mathlib.Core.Bool.{true, false}
+use mathlib.Core.Bool.{true, false, cond}
+use mathlib.Core.List.{List, [], _∷_}
 use mathlib.Core.Logic.{_⊎_, inl, inr, _↔_}
+use mathlib.Core.Option.{Option, none, some, Option·map}
 use native.Mathlib.Omega.{arith}
+use lib.Dec.{eqb}
+use borrow.Author.Tests.{ne-eqb}
 use lib.ListN.{length}
+use Rattle.cells.specs.declared.Axis.{Axis}
+use Rattle.cells.specs.declared.Axis.the-variants.{X, Y, Z}
+use Rattle.cells.specs.declared.End.{End}
+use Rattle.cells.specs.declared.End.the-variants.{P, Q}
+use Rattle.cells.specs.declared.Part.{Part}
+use Rattle.cells.specs.declared.Part.the-variants.{OriginX, OriginY, OriginZ, Edge}
 use Rattle.cells.specs.declared.Refusal.{Refusal}
 use Rattle.cells.specs.declared.Refusal.the-variants.{Limit, Count, Bytes, Layer, OffGrid, Room, Placement, NotFinite, OffSurvey, Record, Version}
 use Rattle.cells.specs.declared.Verdict.{Verdict}
 use Rattle.cells.specs.declared.Verdict.the-variants.{Fine, Refused as Fails}
 use Rattle.cells.specs.Refusals.{Told, told, told-verdict}
+use Rattle.cells.proofs.Refusals.{untold, told-back, tells-apart}
 use Rattle.lists.specs.declared.Listed.{Listed}
 use Rattle.lists.specs.declared.Listed.the-variants.{Cells, Refused as NotListed}
 use Rattle.lists.specs.Lists.{list-check, listed, after-listing, told-listed}
@@ -19,29 +30,44 @@ use Rattle.grids.specs.declared.Completeness.{Completeness}
 use Rattle.grids.specs.declared.Completeness.the-variants.{Yes, No, Refused as NotAsked}
 use Rattle.grids.specs.Grid.{shape, told-part}
 use Rattle.grids.specs.Marks.{after-marking, told-completeness}
+use Rattle.walks.specs.declared.Hit.{Hit}
 use Rattle.walks.specs.declared.FirstHit.{FirstHit}
 use Rattle.walks.specs.declared.FirstHit.the-variants.{Clear, Hit as Blocked, Refused as NotWalked}
 use Rattle.walks.specs.Answers.{told-hit}
 use Rattle.sights.specs.declared.Lookup.{Lookup}
 use Rattle.sights.specs.declared.Lookup.the-variants.{Cell as At, Refused as NotFound}
 use Rattle.sights.specs.Survey.{told-lookup}
+use Rattle.sight.specs.declared.Block.{Block}
 use Rattle.sight.specs.declared.Sight.{Sight}
 use Rattle.sight.specs.declared.Sight.the-variants.{Clear as Seen, Blocked as InTheWay, Refused as NotSeen}
 use Rattle.sight.specs.Sight.{told-sight}
+use Rattle.records.specs.declared.Venue.{Venue}
 use Rattle.records.specs.declared.VenueRead.{VenueRead}
 use Rattle.records.specs.declared.VenueRead.the-variants.{Read as ReadVenue, Refused as NoVenue}
+use Rattle.records.specs.declared.Pair.{Pair}
 use Rattle.records.specs.declared.PairRead.{PairRead}
 use Rattle.records.specs.declared.PairRead.the-variants.{Read as ReadPair, Refused as NoPair}
 use Rattle.records.specs.Records.{told-venue, told-pair}
 use Rattle.venues.specs.declared.Written.{Written}
 use Rattle.venues.specs.declared.Written.the-variants.{Wrote, Refused as NotWritten}
 use Rattle.venues.specs.Writing.{write-check, written, after-writing, told-written}
+use Rattle.oatmarten.specs.declared.line_calls.OatListed.{OatListed}
+use Rattle.oatmarten.specs.declared.grid_calls.OatVerdict.{OatVerdict}
+use Rattle.oatmarten.specs.declared.grid_calls.OatComplete.{OatComplete}
+use Rattle.oatmarten.specs.declared.grid_calls.OatPart.{OatPart}
+use Rattle.oatmarten.specs.declared.walk_calls.OatHit.{OatHit}
+use Rattle.oatmarten.specs.declared.sight_calls.OatFound.{OatFound}
+use Rattle.oatmarten.specs.declared.sight_calls.OatSight.{OatSight}
+use Rattle.oatmarten.specs.declared.record_calls.OatVenue.{OatVenue}
+use Rattle.oatmarten.specs.declared.record_calls.OatPair.{OatPair}
+use Rattle.oatmarten.specs.declared.record_calls.OatWritten.{OatWritten}
+use Rattle.oatmarten.specs.Refusals.{end-number, axis-number, part-number, flat-refusal}
 use Rattle.oatmarten.specs.LineCalls.{flat-listed}
 use Rattle.oatmarten.specs.GridCalls.{flat-verdict, flat-complete, flat-part}
 use Rattle.oatmarten.specs.WalkCalls.{flat-hit}
 use Rattle.oatmarten.specs.SightCalls.{flat-found, flat-sight}
 use Rattle.oatmarten.specs.RecordCalls.{flat-venue, flat-pair, flat-written}
-use Rattle.claims.specs.Exports.{ExportsOnce, RefusedUntouched, number-told, Numbered, InTable, RefusalNumbers}
+use Rattle.claims.specs.Exports.{ExportsOnce, RefusedUntouched, number-told, Numbered, InTable, RefusalNumbers, FlatApart}
 
 -- ---- one answer, one final memory
 
@@ -189,4 +215,191 @@ refusal-numbers =
       venue = numbered told-venue flat-venue (λ f. f .refusal) venue-case;
       pair = numbered told-pair flat-pair (λ f. f .refusal) pair-case;
       written = numbered told-written flat-written (λ f. f .refusal) written-case;
+    }
+
+-- ---- nothing is lost for C: each flattening has a left inverse
+
+-- the one that has the number k, if one has it
+numbered-of : {A : Type 0} → ℕ → List (ℕ × A) → Option A
+numbered-of k [] = none
+numbered-of k (p ∷ l) = cond (eqb k (p .0)) (some (p .1)) (numbered-of k l)
+
+abbrev end-of : ℕ → Option End
+end-of k = numbered-of k ((1, P) ∷ (2, Q) ∷ [])
+
+abbrev axis-of : ℕ → Option Axis
+axis-of k = numbered-of k ((1, X) ∷ (2, Y) ∷ (3, Z) ∷ [])
+
+abbrev part-of : ℕ → Option Part
+part-of k = numbered-of k ((1, OriginX) ∷ (2, OriginY) ∷ (3, OriginZ) ∷ (4, Edge) ∷ [])
+
+end-back : (e : End) → end-of (end-number e) ≡ some e
+unfolding numbered-of
+end-back P = refl
+end-back Q = refl
+
+axis-back : (a : Axis) → axis-of (axis-number a) ≡ some a
+unfolding numbered-of
+axis-back X = refl
+axis-back Y = refl
+axis-back Z = refl
+
+part-back : (p : Part) → part-of (part-number p) ≡ some p
+unfolding numbered-of
+part-back OriginX = refl
+part-back OriginY = refl
+part-back OriginZ = refl
+part-back Edge = refl
+
+-- what three numbers tell: with number 7 the last is a part of a placement, else an axis
+abbrev meant : ℕ → ℕ → ℕ → Told
+meant number end axis =
+    record {
+      number = number;
+      end = end-of end;
+      axis = cond (eqb number 7) none (axis-of axis);
+      part = cond (eqb number 7) (part-of axis) none;
+    }
+
+meant-told : (r : Refusal) → meant (flat-refusal r .number) (flat-refusal r .end) (flat-refusal r .axis) ≡ told r
+unfolding numbered-of
+meant-told (Limit e a) = rw (end-back e, axis-back a)
+meant-told (Count a) = rw (axis-back a)
+meant-told Bytes = refl
+meant-told Layer = refl
+meant-told (OffGrid e a) = rw (end-back e, axis-back a)
+meant-told Room = refl
+meant-told (Placement p) = rw (part-back p)
+meant-told (NotFinite e a) = rw (end-back e, axis-back a)
+meant-told (OffSurvey e a) = rw (end-back e, axis-back a)
+meant-told Record = refl
+meant-told Version = refl
+
+refusal-back : (r : Refusal) → untold (meant (flat-refusal r .number) (flat-refusal r .end) (flat-refusal r .axis)) ≡ some r
+refusal-back r = ap untold (meant-told r) ∙ told-back r
+
+-- the answer that a struct means: the one made of its values where `refusal` is 0, else a refusal
+answer-in : {A : Type 0} → (Refusal → A) → A → ℕ → ℕ → ℕ → Option A
+answer-in refuses accepts number end axis = cond (eqb number 0) (some accepts) (Option·map refuses (untold (meant number end axis)))
+
+accepted-back : {A : Type 0} (refuses : Refusal → A) (a : A) → answer-in refuses a 0 0 0 ≡ some a
+unfolding answer-in
+accepted-back refuses a = refl
+
+refused-back : {A : Type 0} (refuses : Refusal → A) (a : A) (r : Refusal) →
+    answer-in refuses a (flat-refusal r .number) (flat-refusal r .end) (flat-refusal r .axis) ≡ some (refuses r)
+unfolding answer-in
+refused-back refuses a r =
+    ap (λ t. cond t (some a) (Option·map refuses (untold (meant (flat-refusal r .number) (flat-refusal r .end) (flat-refusal r .axis)))))
+    (ne-eqb (told r .number) 0 (λ e. omega (arith, in-table r .0, e)))
+    ∙ ap (Option·map refuses) (refusal-back r)
+
+abbrev listed-in : OatListed → Option Listed
+listed-in f = answer-in NotListed (Cells (f .count)) (f .refusal) (f .end) (f .axis)
+
+listed-back : (a : Listed) → listed-in (flat-listed a) ≡ some a
+listed-back (Cells n) = accepted-back NotListed (Cells n)
+listed-back (NotListed r) = refused-back NotListed (Cells 0) r
+
+abbrev verdict-in : OatVerdict → Option Verdict
+verdict-in f = answer-in Fails Fine (f .refusal) (f .end) (f .axis)
+
+verdict-back : (a : Verdict) → verdict-in (flat-verdict a) ≡ some a
+verdict-back Fine = accepted-back Fails Fine
+verdict-back (Fails r) = refused-back Fails Fine r
+
+abbrev complete-in : OatComplete → Option Completeness
+complete-in f = answer-in NotAsked (cond (eqb (f .yes) 1) Yes No) (f .refusal) (f .end) (f .axis)
+
+complete-back : (a : Completeness) → complete-in (flat-complete a) ≡ some a
+complete-back Yes = accepted-back NotAsked Yes
+complete-back No = accepted-back NotAsked No
+complete-back (NotAsked r) = refused-back NotAsked No r
+
+abbrev part-in : OatPart → Option LayerPart
+part-in f = answer-in NoPart (LayerAt (f .offset) (f .length)) (f .refusal) (f .end) (f .axis)
+
+layer-back : (a : LayerPart) → part-in (flat-part a) ≡ some a
+layer-back (LayerAt start many) = accepted-back NoPart (LayerAt start many)
+layer-back (NoPart r) = refused-back NoPart (LayerAt 0 0) r
+
+abbrev hit-values : OatHit → Hit
+hit-values f =
+    record {
+      cell = record { x = f .x; y = f .y; z = f .z };
+      code = f .code;
+      place = record { num = f .num; den = f .den };
+      reads = f .reads;
+    }
+
+abbrev walk-values : OatHit → FirstHit
+walk-values f = cond (eqb (f .hit) 1) (Blocked (hit-values f)) (Clear (f .reads))
+
+abbrev hit-in : OatHit → Option FirstHit
+hit-in f = answer-in NotWalked (walk-values f) (f .refusal) (f .end) (f .axis)
+
+hit-back : (a : FirstHit) → hit-in (flat-hit a) ≡ some a
+hit-back (Blocked h) = accepted-back NotWalked (Blocked h)
+hit-back (Clear reads) = accepted-back NotWalked (Clear reads)
+hit-back (NotWalked r) = refused-back NotWalked (Clear 0) r
+
+abbrev found-in : OatFound → Option Lookup
+found-in f = answer-in NotFound (At (record { x = f .x; y = f .y; z = f .z })) (f .refusal) (f .end) (f .axis)
+
+found-back : (a : Lookup) → found-in (flat-found a) ≡ some a
+found-back (At c) = accepted-back NotFound (At c)
+found-back (NotFound r) = refused-back NotFound _ r
+
+abbrev block-values : OatSight → Block
+block-values f = record { share = f .share; cell = record { x = f .x; y = f .y; z = f .z }; code = f .code; reads = f .reads }
+
+abbrev sight-in : OatSight → Option Sight
+sight-in f = answer-in NotSeen (cond (eqb (f .blocked) 1) (InTheWay (block-values f)) Seen) (f .refusal) (f .end) (f .axis)
+
+sight-back : (a : Sight) → sight-in (flat-sight a) ≡ some a
+sight-back (InTheWay b) = accepted-back NotSeen (InTheWay b)
+sight-back Seen = accepted-back NotSeen Seen
+sight-back (NotSeen r) = refused-back NotSeen Seen r
+
+abbrev venue-values : OatVenue → Venue
+venue-values f = record { counts = record { nx = f .nx; ny = f .ny; nz = f .nz }; start = f .offset; long = f .length }
+
+abbrev venue-in : OatVenue → Option VenueRead
+venue-in f = answer-in NoVenue (ReadVenue (venue-values f)) (f .refusal) (f .end) (f .axis)
+
+venue-back : (a : VenueRead) → venue-in (flat-venue a) ≡ some a
+venue-back (ReadVenue v) = accepted-back NoVenue (ReadVenue v)
+venue-back (NoVenue r) = refused-back NoVenue _ r
+
+abbrev pair-values : OatPair → Pair
+pair-values f = record { p = record { x = f .px; y = f .py; z = f .pz }; q = record { x = f .qx; y = f .qy; z = f .qz } }
+
+abbrev pair-in : OatPair → Option PairRead
+pair-in f = answer-in NoPair (ReadPair (pair-values f)) (f .refusal) (f .end) (f .axis)
+
+pair-back : (a : PairRead) → pair-in (flat-pair a) ≡ some a
+pair-back (ReadPair e) = accepted-back NoPair (ReadPair e)
+pair-back (NoPair r) = refused-back NoPair _ r
+
+abbrev written-in : OatWritten → Option Written
+written-in f = answer-in NotWritten (Wrote (f .written)) (f .refusal) (f .end) (f .axis)
+
+written-back : (a : Written) → written-in (flat-written a) ≡ some a
+written-back (Wrote many) = accepted-back NotWritten (Wrote many)
+written-back (NotWritten r) = refused-back NotWritten (Wrote 0) r
+
+pub flat-apart : FlatApart
+flat-apart =
+    record {
+      refusals = tells-apart flat-refusal (λ f. untold (meant (f .number) (f .end) (f .axis))) refusal-back;
+      lines = tells-apart flat-listed listed-in listed-back;
+      mark = tells-apart flat-verdict verdict-in verdict-back;
+      complete = tells-apart flat-complete complete-in complete-back;
+      layer = tells-apart flat-part part-in layer-back;
+      walks = tells-apart flat-hit hit-in hit-back;
+      found = tells-apart flat-found found-in found-back;
+      seen = tells-apart flat-sight sight-in sight-back;
+      venue = tells-apart flat-venue venue-in venue-back;
+      pair = tells-apart flat-pair pair-in pair-back;
+      written = tells-apart flat-written written-in written-back;
     }

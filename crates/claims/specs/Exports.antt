@@ -8,15 +8,25 @@ use lib.ListN.{length}
 use Rattle.cells.specs.declared.Cell.{Cell}
 use Rattle.cells.specs.declared.Counts.{Counts}
 use Rattle.cells.specs.declared.Refusal.{Refusal}
+use Rattle.cells.specs.declared.Verdict.{Verdict}
 use Rattle.cells.specs.Refusals.{Told, told-verdict}
+use Rattle.lists.specs.declared.Listed.{Listed}
 use Rattle.lists.specs.Lists.{told-listed}
+use Rattle.grids.specs.declared.LayerPart.{LayerPart}
+use Rattle.grids.specs.declared.Completeness.{Completeness}
 use Rattle.grids.specs.Grid.{layer-part, told-part}
 use Rattle.grids.specs.Marks.{completeness, told-completeness}
 use Rattle.walks.specs.declared.Walker.the-variants.{Plain, Adaptive}
+use Rattle.walks.specs.declared.FirstHit.{FirstHit}
 use Rattle.walks.specs.Answers.{first-hit, told-hit}
+use Rattle.sights.specs.declared.Lookup.{Lookup}
 use Rattle.sights.specs.Survey.{cell-of, told-lookup}
+use Rattle.sight.specs.declared.Sight.{Sight}
 use Rattle.sight.specs.Sight.{sight, told-sight}
+use Rattle.records.specs.declared.VenueRead.{VenueRead}
+use Rattle.records.specs.declared.PairRead.{PairRead}
 use Rattle.records.specs.Records.{venue-read, pair-read, told-venue, told-pair}
+use Rattle.venues.specs.declared.Written.{Written}
 use Rattle.venues.specs.Writing.{told-written}
 use Rattle.oatmarten.specs.declared.inputs.OatCell.{OatCell}
 use Rattle.oatmarten.specs.declared.inputs.OatCounts.{OatCounts}
@@ -102,3 +112,17 @@ pub record RefusalNumbers : Type 0 where
   pub venue : Numbered told-venue flat-venue (λ f. f .refusal)
   pub pair : Numbered told-pair flat-pair (λ f. f .refusal)
   pub written : Numbered told-written flat-written (λ f. f .refusal)
+
+-- 4. Nothing is lost for C: the numbers of a struct tell which answer it flattens, and those of a refusal which refusal it is.
+pub record FlatApart : Type 0 where
+  pub refusals : (r s : Refusal) → flat-refusal r ≡ flat-refusal s → r ≡ s
+  pub lines : (a b : Listed) → flat-listed a ≡ flat-listed b → a ≡ b
+  pub mark : (a b : Verdict) → flat-verdict a ≡ flat-verdict b → a ≡ b
+  pub complete : (a b : Completeness) → flat-complete a ≡ flat-complete b → a ≡ b
+  pub layer : (a b : LayerPart) → flat-part a ≡ flat-part b → a ≡ b
+  pub walks : (a b : FirstHit) → flat-hit a ≡ flat-hit b → a ≡ b
+  pub found : (a b : Lookup) → flat-found a ≡ flat-found b → a ≡ b
+  pub seen : (a b : Sight) → flat-sight a ≡ flat-sight b → a ≡ b
+  pub venue : (a b : VenueRead) → flat-venue a ≡ flat-venue b → a ≡ b
+  pub pair : (a b : PairRead) → flat-pair a ≡ flat-pair b → a ≡ b
+  pub written : (a b : Written) → flat-written a ≡ flat-written b → a ≡ b
