@@ -8,7 +8,8 @@ use mathlib.Core.Option.{Option, none, some, Option·map}
 use native.Mathlib.Omega.{arith}
 use lib.Dec.{eqb}
 use borrow.Author.Tests.{ne-eqb}
-use lib.ListN.{length}
+use lib.IntN.{pos, natAbs}
+use lib.ListN.{length, getD}
 use Rattle.cells.specs.declared.Axis.{Axis}
 use Rattle.cells.specs.declared.Axis.the-variants.{X, Y, Z}
 use Rattle.cells.specs.declared.End.{End}
@@ -21,6 +22,7 @@ use Rattle.cells.specs.declared.Verdict.{Verdict}
 use Rattle.cells.specs.declared.Verdict.the-variants.{Fine, Refused as Fails}
 use Rattle.cells.specs.Refusals.{Told, told, told-verdict}
 use Rattle.cells.proofs.Refusals.{untold, told-back, tells-apart}
+use Rattle.lines.specs.Lines.{six-line}
 use Rattle.lists.specs.declared.Listed.{Listed}
 use Rattle.lists.specs.declared.Listed.the-variants.{Cells, Refused as NotListed}
 use Rattle.lists.specs.Lists.{list-check, listed, after-listing, told-listed}
@@ -28,8 +30,8 @@ use Rattle.grids.specs.declared.LayerPart.{LayerPart}
 use Rattle.grids.specs.declared.LayerPart.the-variants.{Part as LayerAt, Refused as NoPart}
 use Rattle.grids.specs.declared.Completeness.{Completeness}
 use Rattle.grids.specs.declared.Completeness.the-variants.{Yes, No, Refused as NotAsked}
-use Rattle.grids.specs.Grid.{shape, told-part}
-use Rattle.grids.specs.Marks.{after-marking, told-completeness}
+use Rattle.grids.specs.Grid.{shape, layer-part, told-part}
+use Rattle.grids.specs.Marks.{marked, after-marking, complete, completeness, told-completeness}
 use Rattle.walks.specs.declared.Hit.{Hit}
 use Rattle.walks.specs.declared.FirstHit.{FirstHit}
 use Rattle.walks.specs.declared.FirstHit.the-variants.{Clear, Hit as Blocked, Refused as NotWalked}
@@ -47,7 +49,7 @@ use Rattle.records.specs.declared.VenueRead.the-variants.{Read as ReadVenue, Re
 use Rattle.records.specs.declared.Pair.{Pair}
 use Rattle.records.specs.declared.PairRead.{PairRead}
 use Rattle.records.specs.declared.PairRead.the-variants.{Read as ReadPair, Refused as NoPair}
-use Rattle.records.specs.Records.{told-venue, told-pair}
+use Rattle.records.specs.Records.{venue-head, told-venue, told-pair}
 use Rattle.venues.specs.declared.Written.{Written}
 use Rattle.venues.specs.declared.Written.the-variants.{Wrote, Refused as NotWritten}
 use Rattle.venues.specs.Writing.{write-check, written, after-writing, told-written}
@@ -67,7 +69,7 @@ use Rattle.oatmarten.specs.GridCalls.{flat-verdict, flat-complete, flat-part}
 use Rattle.oatmarten.specs.WalkCalls.{flat-hit}
 use Rattle.oatmarten.specs.SightCalls.{flat-found, flat-sight}
 use Rattle.oatmarten.specs.RecordCalls.{flat-venue, flat-pair, flat-written}
-use Rattle.claims.specs.Exports.{ExportsOnce, RefusedUntouched, number-told, Numbered, InTable, RefusalNumbers, FlatApart}
+use Rattle.claims.specs.Exports.{ExportsOnce, RefusedUntouched, number-told, Numbered, InTable, RefusalNumbers, FlatApart, WrongExports}
 
 -- ---- one answer, one final memory
 
@@ -402,4 +404,19 @@ flat-apart =
       venue = tells-apart flat-venue venue-in venue-back;
       pair = tells-apart flat-pair pair-in pair-back;
       written = tells-apart flat-written written-in written-back;
+    }
+
+-- ---- wrong answers
+
+pub wrong-exports : WrongExports
+unfolding six-line shape marked complete completeness layer-part venue-head write-check
+wrong-exports =
+    record {
+      idle-line = λ r h. let z : _≡_ {A = ℕ} 7 0 = ap (λ l. natAbs (getD l 0 (pos 0))) (h .meets .holds) in omega arith;
+      idle-marker = λ r h. let z : _≡_ {A = ℕ} 0 1 = ap (λ (l : List ℕ). getD l 0 0) (h .meets .holds) in omega arith;
+      idle-writer = λ r h. let z : _≡_ {A = ℕ} 99 0 = ap (λ (l : List ℕ). getD l 0 0) (h .meets .holds) in omega arith;
+      refusing-marker = λ r exit h k.
+          let z : r .refusal ≡ 0 = ap (λ f. f .refusal) (h .flat ∙ ap flat-verdict (h .meets .says)) in omega (arith, k);
+      complete-always = λ r e k. let z : r .yes ≡ 0 = ap (λ f. f .yes) e in omega (arith, k);
+      first-layer = λ r e k. let z : r .offset ≡ 2 = ap (λ f. f .offset) e in omega (arith, k);
     }

@@ -3,13 +3,15 @@ use Prim.Native.Nat.{ℕ, _≤_}
 use mathlib.Core.Path.{_≡_}
 use mathlib.Core.List.{List}
 use mathlib.Core.Logic.{_⊎_, inl, inr, _↔_}
-use lib.IntN.{ℤ}
+use lib.IntN.{ℤ, pos}
 use lib.ListN.{length}
 use Rattle.cells.specs.declared.Cell.{Cell}
 use Rattle.cells.specs.declared.Counts.{Counts}
 use Rattle.cells.specs.declared.Refusal.{Refusal}
 use Rattle.cells.specs.declared.Verdict.{Verdict}
 use Rattle.cells.specs.Refusals.{Told, told-verdict}
+use Rattle.lines.specs.Preference.{rule-1}
+use Rattle.lines.specs.Lines.{six-line}
 use Rattle.lists.specs.declared.Listed.{Listed}
 use Rattle.lists.specs.Lists.{told-listed}
 use Rattle.grids.specs.declared.LayerPart.{LayerPart}
@@ -49,6 +51,10 @@ use Rattle.oatmarten.specs.GridCalls.{flat-verdict, flat-complete, flat-part, F
 use Rattle.oatmarten.specs.WalkCalls.{flat-hit}
 use Rattle.oatmarten.specs.SightCalls.{flat-found, flat-sight}
 use Rattle.oatmarten.specs.RecordCalls.{flat-venue, flat-pair, flat-written, FlatWritesVenue}
+use Rattle.claims.specs.Starred.{at}
+use Rattle.claims.specs.Lists.{room}
+use Rattle.claims.specs.Grids.{venue, unmarked, two-layers}
+use Rattle.claims.specs.Records.{example-counts, example-cells, example-room}
 
 -- 1. One answer and one final memory for each input. `lines` is of oat_line6 and oat_line26, whatever line the call lists.
 pub record ExportsOnce : Type 0 where
@@ -126,3 +132,13 @@ pub record FlatApart : Type 0 where
   pub venue : (a b : VenueRead) → flat-venue a ≡ flat-venue b → a ≡ b
   pub pair : (a b : PairRead) → flat-pair a ≡ flat-pair b → a ≡ b
   pub written : (a b : Written) → flat-written a ≡ flat-written b → a ≡ b
+
+-- 5. Wrong answers that the contracts shut out, on named inputs: a 6-line, a marking and a venue's record that leave the memory as it was,
+-- whatever the struct says; a marking that refuses the program's venue; marks of it that are complete; the first layer for the second.
+pub record WrongExports : Type 0 where
+  pub idle-line : (r : OatListed) → FlatLists (six-line rule-1 (at 0 0 0) (at 2 1 0)) (at 0 0 0) (at 2 1 0) room r room → ⊥
+  pub idle-marker : (r : OatVerdict) → FlatMarks venue unmarked r unmarked → ⊥
+  pub idle-writer : (r : OatWritten) → FlatWritesVenue example-counts example-cells example-room r example-room → ⊥
+  pub refusing-marker : (r : OatVerdict) (exit : List ℕ) → FlatMarks venue unmarked r exit → 1 ≤ r .refusal → ⊥
+  pub complete-always : (r : OatComplete) → r ≡ flat-complete (completeness venue unmarked) → r .yes ≡ 1 → ⊥
+  pub first-layer : (r : OatPart) → r ≡ flat-part (layer-part two-layers 4 (pos 1)) → r .offset ≡ 0 → ⊥
