@@ -90,8 +90,7 @@ exports-once =
           (flat-one flat-verdict r s (h .flat) (h .meets .says) (k .flat) (k .meets .says), one exit last (h .meets .holds) (k .meets .holds));
       complete = λ n cells. one;
       layer = λ n cells z. one;
-      plain = λ n cells p q. one;
-      adaptive = λ n cells p q. one;
+      walks = λ w n cells p q. one;
       found = λ n at p. one;
       seen = λ n cells at camera ball. one;
       venue = λ bytes. one;

@@ -18,7 +18,7 @@ use Rattle.grids.proofs.Shapes.{Shaped, shaped}
 use Rattle.grids.proofs.Layers.{layer-empty, layer-long, layer-own}
 use Rattle.grids.proofs.Places.{cell-at-index, index-of-cell, index-below, x-below, y-below, z-below}
 use Rattle.grids.proofs.Marking.{marked-length, marked-keeps, marked-same, marked-twice, marked-complete, complete-iff}
-use Rattle.claims.specs.Grids.{OneAnswer, Numbered, Places, Layers, Marking, MarkedCall, Complete, ShutOut}
+use Rattle.claims.specs.Grids.{OneAnswer, BytePlaces, Places, Layers, Marking, MarkedCall, Complete, ShutOut}
 
 -- a contract `r ≡ f of the inputs` admits one answer
 one : {A : Type 0} {f : A} (r s : A) → r ≡ f → s ≡ f → r ≡ s
@@ -34,7 +34,7 @@ one-answer =
       by-mark = λ n l r s a b p q. (one r s (p .says) (q .says), one a b (p .holds) (q .holds));
     }
 
-numbered : (n : Counts) (bytes : ℕ) → shape n bytes ≡ Fine → Numbered n bytes
+numbered : (n : Counts) (bytes : ℕ) → shape n bytes ≡ Fine → BytePlaces n bytes
 numbered n bytes fine =
     record {
       counts = (s .x .some, s .x .most, s .y .some, s .y .most, s .z .some, s .z .most);

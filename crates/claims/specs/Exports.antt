@@ -18,7 +18,7 @@ use Rattle.grids.specs.declared.LayerPart.{LayerPart}
 use Rattle.grids.specs.declared.Completeness.{Completeness}
 use Rattle.grids.specs.Grid.{layer-part, told-part}
 use Rattle.grids.specs.Marks.{completeness, told-completeness}
-use Rattle.walks.specs.declared.Walker.the-variants.{Plain, Adaptive}
+use Rattle.walks.specs.declared.Walker.{Walker}
 use Rattle.walks.specs.declared.FirstHit.{FirstHit}
 use Rattle.walks.specs.Answers.{first-hit, told-hit}
 use Rattle.sights.specs.declared.Lookup.{Lookup}
@@ -51,12 +51,13 @@ use Rattle.oatmarten.specs.GridCalls.{flat-verdict, flat-complete, flat-part, F
 use Rattle.oatmarten.specs.WalkCalls.{flat-hit}
 use Rattle.oatmarten.specs.SightCalls.{flat-found, flat-sight}
 use Rattle.oatmarten.specs.RecordCalls.{flat-venue, flat-pair, flat-written, FlatWritesVenue}
-use Rattle.claims.specs.Starred.{at}
+use Rattle.claims.specs.Example.{at, example-counts, example-cells}
 use Rattle.claims.specs.Lists.{room}
-use Rattle.claims.specs.Grids.{venue, unmarked, two-layers}
-use Rattle.claims.specs.Records.{example-counts, example-cells, example-room}
+use Rattle.claims.specs.Grids.{two-layers}
+use Rattle.claims.specs.Records.{example-room}
 
--- 1. One answer and one final memory for each input. `lines` is of oat_line6 and oat_line26, whatever line the call lists.
+-- 1. One answer and one final memory for each input. `lines` is of oat_line6 and oat_line26, whatever line the call lists; `walks` of
+-- oat_plain and oat_adaptive.
 pub record ExportsOnce : Type 0 where
   pub lines : (line : List Cell) (p q : Cell) (entry : List ℤ) (r s : OatListed) (exit last : List ℤ) →
       FlatLists line p q entry r exit → FlatLists line p q entry s last → (r ≡ s) × (exit ≡ last)
@@ -66,12 +67,9 @@ pub record ExportsOnce : Type 0 where
       r ≡ flat-complete (completeness (as-counts n) cells) → s ≡ flat-complete (completeness (as-counts n) cells) → r ≡ s
   pub layer : (n : OatCounts) (cells : List ℕ) (z : ℤ) (r s : OatPart) →
       r ≡ flat-part (layer-part (as-counts n) (length cells) z) → s ≡ flat-part (layer-part (as-counts n) (length cells) z) → r ≡ s
-  pub plain : (n : OatCounts) (cells : List ℕ) (p q : OatCell) (r s : OatHit) →
-      r ≡ flat-hit (first-hit Plain (as-counts n) cells (as-cell p) (as-cell q)) →
-      s ≡ flat-hit (first-hit Plain (as-counts n) cells (as-cell p) (as-cell q)) → r ≡ s
-  pub adaptive : (n : OatCounts) (cells : List ℕ) (p q : OatCell) (r s : OatHit) →
-      r ≡ flat-hit (first-hit Adaptive (as-counts n) cells (as-cell p) (as-cell q)) →
-      s ≡ flat-hit (first-hit Adaptive (as-counts n) cells (as-cell p) (as-cell q)) → r ≡ s
+  pub walks : (w : Walker) (n : OatCounts) (cells : List ℕ) (p q : OatCell) (r s : OatHit) →
+      r ≡ flat-hit (first-hit w (as-counts n) cells (as-cell p) (as-cell q)) →
+      s ≡ flat-hit (first-hit w (as-counts n) cells (as-cell p) (as-cell q)) → r ≡ s
   pub found : (n : OatCounts) (at : OatPlacement) (p : OatPoint) (r s : OatFound) →
       r ≡ flat-found (cell-of (as-counts n) (as-placement at) (as-point p)) →
       s ≡ flat-found (cell-of (as-counts n) (as-placement at) (as-point p)) → r ≡ s
@@ -137,8 +135,8 @@ pub record FlatApart : Type 0 where
 -- whatever the struct says; a marking that refuses the program's venue; marks of it that are complete; the first layer for the second.
 pub record WrongExports : Type 0 where
   pub idle-line : (r : OatListed) → FlatLists (six-line rule-1 (at 0 0 0) (at 2 1 0)) (at 0 0 0) (at 2 1 0) room r room → ⊥
-  pub idle-marker : (r : OatVerdict) → FlatMarks venue unmarked r unmarked → ⊥
+  pub idle-marker : (r : OatVerdict) → FlatMarks example-counts example-cells r example-cells → ⊥
   pub idle-writer : (r : OatWritten) → FlatWritesVenue example-counts example-cells example-room r example-room → ⊥
-  pub refusing-marker : (r : OatVerdict) (exit : List ℕ) → FlatMarks venue unmarked r exit → 1 ≤ r .refusal → ⊥
-  pub complete-always : (r : OatComplete) → r ≡ flat-complete (completeness venue unmarked) → r .yes ≡ 1 → ⊥
+  pub refusing-marker : (r : OatVerdict) (exit : List ℕ) → FlatMarks example-counts example-cells r exit → 1 ≤ r .refusal → ⊥
+  pub complete-always : (r : OatComplete) → r ≡ flat-complete (completeness example-counts example-cells) → r .yes ≡ 1 → ⊥
   pub first-layer : (r : OatPart) → r ≡ flat-part (layer-part two-layers 4 (pos 1)) → r .offset ≡ 0 → ⊥

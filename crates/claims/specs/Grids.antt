@@ -35,14 +35,14 @@ Inside n x y z = (x < n .nx) × (y < n .ny) × (z < n .nz)
 
 -- 2. Where the shape is fine, each count is 1 to 1,024 and there is a byte for each cell: the cell of an index is inside the grid and has that
 -- index, and every cell inside the grid is the cell of its index.
-pub record Numbered (n : Counts) (bytes : ℕ) : Type 0 where
+pub record BytePlaces (n : Counts) (bytes : ℕ) : Type 0 where
   pub counts : (1 ≤ n .nx) × (n .nx ≤ 1024) × (1 ≤ n .ny) × (n .ny ≤ 1024) × (1 ≤ n .nz) × (n .nz ≤ 1024)
   pub bytes-are : bytes ≡ size n
   pub inside : (i : ℕ) → i < bytes → (x : ℕ) × (y : ℕ) × (z : ℕ) × Inside n x y z × (index n x y z ≡ i) × (cell-at n i ≡ at x y z)
   pub every : (x y z : ℕ) → Inside n x y z → (index n x y z < bytes) × (cell-at n (index n x y z) ≡ at x y z)
 
 pub record Places (n : Counts) (bytes : ℕ) : Type 0 where
-  pub numbered : shape n bytes ≡ Fine → Numbered n bytes
+  pub numbered : shape n bytes ≡ Fine → BytePlaces n bytes
 
 -- 3. The layer is the caller's bytes where the partner says, and it is empty exactly when the partner refuses.
 pub record Layers (n : Counts) (l : List ℕ) (z : ℤ) : Type 0 where

@@ -1,10 +1,15 @@
 -- `tripod::next_face` meets its contract: each way out has the signs of figure 6, which give the next crossing. Assumes nothing.
 use mathlib.Core.Path.{_≡_, subst, ap}
-use lib.IntN.{pos}
+use mathlib.Core.Bool.{true, false}
+use Prim.Native.Nat.{_≤_, _<_}
+use lib.IntN.{ℤ, pos}
+use lib.Signed.{ltZ}
+use mir.Syntax.{w32}
+use mir.Val.{SFits}
 use borrow.Author.Needs.{needs}
 use native.Mathlib.Omega.{arith}
 use Rattle.cells.proofs.Signed.{up, dn, leZ-true, leZ-false, ltZ-true, ltZ-false, lt-ltZ, le-ltZ}
-use Rattle.cells.proofs.Machine.{held-is}
+use Rattle.cells.proofs.Machine.{held, held-is}
 use Rattle.lines.specs.Steps.{Axis, X, Y, Z}
 use Rattle.lines.specs.declared.Tripod.{Tripod}
 use Rattle.lines.specs.Decisions.{by-signs}
@@ -17,41 +22,32 @@ use Rattle.tripod.proofs.next_face.Tie as tie
 by : (e : Tripod) (r : Axis) → by-signs e ≡ r → NextFace e r
 by e r h = subst (NextFace e) h (by-signs-next e)
 
+-- a value that is read back as it is: below 0, or not
+negative : (z : ℤ) → SFits w32 z → up (held z) < dn (held z) → ltZ z (pos 0) ≡ true
+negative z f h = let e = held-is z f in lt-ltZ z (pos 0) (omega (arith, ap up e, ap dn e))
+
+not-negative : (z : ℤ) → SFits w32 z → dn (held z) ≤ up (held z) → ltZ z (pos 0) ≡ false
+not-negative z f h = let e = held-is z f in le-ltZ z (pos 0) (omega (arith, ap up e, ap dn e))
+
 returns : tie.Need-returns
 returns c =
     let e = c .before .before .before .before .before .before .args .e in
-    let h = held-is (e .xy) (search needs) in
-    let k = held-is (e .xz) (search needs) in
-    let first = lt-ltZ (e .xy) (pos 0) (omega (arith, leZ-true, ltZ-true, ap up h, ap dn h)) in
-    let second = lt-ltZ (e .xz) (pos 0) (omega (arith, leZ-true, ltZ-true, ap up k, ap dn k)) in
-    by e X (simp (first, second))
+    by e X (simp (negative (e .xy) (search needs) (omega (arith, leZ-true, ltZ-true)), negative (e .xz) (search needs) (omega (arith, leZ-true, ltZ-true))))
 
 returns-2 : tie.Need-returns-2
 returns-2 c =
     let e = c .before .before .before .before .before .before .args .e in
-    let h = held-is (e .xy) (search needs) in
-    let k = held-is (e .xz) (search needs) in
-    let first = lt-ltZ (e .xy) (pos 0) (omega (arith, leZ-true, ltZ-true, ap up h, ap dn h)) in
-    let second = le-ltZ (e .xz) (pos 0) (omega (arith, leZ-false, ltZ-false, ap up k, ap dn k)) in
-    by e Z (simp (first, second))
+    by e Z (simp (negative (e .xy) (search needs) (omega (arith, leZ-true, ltZ-true)), not-negative (e .xz) (search needs) (omega (arith, leZ-false, ltZ-false))))
 
 returns-3 : tie.Need-returns-3
 returns-3 c =
     let e = c .before .before .before .before .before .before .args .e in
-    let h = held-is (e .xy) (search needs) in
-    let k = held-is (e .zy) (search needs) in
-    let first = le-ltZ (e .xy) (pos 0) (omega (arith, leZ-false, ltZ-false, ap up h, ap dn h)) in
-    let second = lt-ltZ (e .zy) (pos 0) (omega (arith, leZ-true, ltZ-true, ap up k, ap dn k)) in
-    by e Z (simp (first, second))
+    by e Z (simp (not-negative (e .xy) (search needs) (omega (arith, leZ-false, ltZ-false)), negative (e .zy) (search needs) (omega (arith, leZ-true, ltZ-true))))
 
 returns-4 : tie.Need-returns-4
 returns-4 c =
     let e = c .before .before .before .before .before .before .args .e in
-    let h = held-is (e .xy) (search needs) in
-    let k = held-is (e .zy) (search needs) in
-    let first = le-ltZ (e .xy) (pos 0) (omega (arith, leZ-false, ltZ-false, ap up h, ap dn h)) in
-    let second = le-ltZ (e .zy) (pos 0) (omega (arith, leZ-false, ltZ-false, ap up k, ap dn k)) in
-    by e Y (simp (first, second))
+    by e Y (simp (not-negative (e .xy) (search needs) (omega (arith, leZ-false, ltZ-false)), not-negative (e .zy) (search needs) (omega (arith, leZ-false, ltZ-false))))
 
 pub next-face-spec : {M : Type 1} → statement M
 next-face-spec = tie.close (tie.spec returns returns-2 returns-3 returns-4)
