@@ -3,3 +3,4 @@ pub mod Signed
 pub mod Touching
 pub mod Machine
 pub mod Checks
+pub mod Tabulate

@@ -2,3 +2,4 @@ pub mod Refusals
 pub mod Checks
 pub mod Touching
 pub mod Small
+pub mod Tabulate

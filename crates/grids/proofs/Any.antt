@@ -1,4 +1,4 @@
--- Laws of `any`, some number below n passes, and of `tabulate`, a list by its index. Assumes nothing.
+-- Laws of `any`, some number below n passes. Assumes nothing.
 use Prim.Native.Nat.{ℕ, zero, suc, _+_, _<_}
 use native.Mathlib.Nat.{eq-or-lt-of-le}
 use native.Mathlib.Numerals.{add-one}
@@ -9,7 +9,7 @@ use mathlib.Core.Logic.{_⊎_, inl, inr}
 use mathlib.Core.List.{List, [], _∷_, _++_}
 use lib.ListN.{length, getD, length-append, List·getD-append}
 use lib.Seq.{getD-append-seam, ext-getD}
-use Rattle.grids.specs.Marks.{any, tabulate}
+use Rattle.grids.specs.Marks.{any}
 
 -- ---- tests
 
@@ -78,25 +78,3 @@ any-more p n = rw (add-one n)
 -- where none below n passes, each fails
 pub any-false : (p : ℕ → Bool) (n k : ℕ) → any p n ≡ false → k < n → p k ≡ false
 any-false p n k e h = not-so (p k) (λ t. true≢false (sym (any-some p n k h t) ∙ e))
-
--- ---- a list by its index
-
-pub length-tab : (f : ℕ → ℕ) (n : ℕ) → length (tabulate f n) ≡ n
-unfolding tabulate
-length-tab f zero = refl
-length-tab f (suc n) = length-append (tabulate f n) (f n ∷ []) ∙ ap (λ (k : ℕ). k + 1) (length-tab f n) ∙ omega arith
-
-pub getD-tab : (f : ℕ → ℕ) (n k : ℕ) → k < n → getD (tabulate f n) k 0 ≡ f k
-unfolding tabulate
-getD-tab f zero k h = absurd (omega arith)
-getD-tab f (suc n) k h = go (eq-or-lt-of-le {n = k} {m = n} (omega arith)) (getD-tab f n k)
-  where
-    go : (k ≡ n) ⊎ (k < n) → (k < n → getD (tabulate f n) k 0 ≡ f k) → getD (tabulate f n ++ (f n ∷ [])) k 0 ≡ f k
-    go (inl e) ih = ap (λ (j : ℕ). getD (tabulate f n ++ (f n ∷ [])) j 0) (e ∙ sym (length-tab f n)) ∙ getD-append-seam (tabulate f n) (f n) [] 0 ∙ ap f (sym e)
-    go (inr l) ih = List·getD-append (tabulate f n) (f n ∷ []) 0 k (subst (λ (m : ℕ). k < m) (sym (length-tab f n)) l) ∙ ih l
-
--- a list that is f at each index below its length n
-pub is-tab : (f : ℕ → ℕ) (n : ℕ) (xs : List ℕ) → length xs ≡ n → ((k : ℕ) → k < n → getD xs k 0 ≡ f k) → xs ≡ tabulate f n
-is-tab f n xs l h =
-    ext-getD 0 xs (tabulate f n) (l ∙ sym (length-tab f n))
-    (λ i b. let k : i < n = subst (λ (m : ℕ). i < m) l b in h i k ∙ sym (getD-tab f n i k))

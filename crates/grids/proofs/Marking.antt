@@ -13,9 +13,10 @@ use Rattle.cells.specs.declared.Cell.{Cell}
 use Rattle.cells.specs.declared.Counts.{Counts}
 use Rattle.cells.specs.Touching.{Touches, touching}
 use Rattle.cells.proofs.Touching.{and-both, touching-iff}
+use Rattle.cells.proofs.Tabulate.{tabulate-length, tabulate-at}
 use Rattle.grids.specs.Grid.{cell-at, clear, solid}
 use Rattle.grids.specs.Marks.{any, touches-solid, marked-byte, marked, complete}
-use Rattle.grids.proofs.Any.{not-so, any-none, any-some, any-which, any-same, length-tab, getD-tab}
+use Rattle.grids.proofs.Any.{not-so, any-none, any-some, any-which, any-same}
 
 -- ---- marking keeps what is solid
 
@@ -47,11 +48,11 @@ marked-byte-solid k n l i = ap solid (marked-byte-is k n l i) ∙ go (solid (get
 
 pub marked-length : (k : ℕ) (n : Counts) (l : List ℕ) → length (marked k n l) ≡ length l
 unfolding marked
-marked-length k n l = length-tab (marked-byte k n l) (length l)
+marked-length k n l = tabulate-length (marked-byte k n l) (length l)
 
 pub marked-at : (k : ℕ) (n : Counts) (l : List ℕ) (i : ℕ) → i < length l → getD (marked k n l) i 0 ≡ marked-byte k n l i
 unfolding marked
-marked-at k n l i h = getD-tab (marked-byte k n l) (length l) i h
+marked-at k n l i h = tabulate-at (marked-byte k n l) (length l) i 0 h
 
 past : (k : ℕ) (n : Counts) (l : List ℕ) (i : ℕ) → length l ≤ i → getD (marked k n l) i 0 ≡ getD l i 0
 past k n l i h =

@@ -11,6 +11,7 @@ use Rattle.cells.specs.declared.Counts.{Counts}
 use Rattle.cells.specs.declared.Verdict.{Verdict}
 use Rattle.cells.specs.declared.Verdict.the-variants.{Fine, Refused}
 use Rattle.cells.specs.Refusals.{Told, told}
+use Rattle.cells.specs.Tabulate.{tabulate}
 use Rattle.cells.specs.Touching.{touching}
 use Rattle.grids.specs.declared.Completeness.{Completeness}
 use Rattle.grids.specs.declared.Completeness.the-variants.{Yes, No, Refused as NotAsked}
@@ -20,11 +21,6 @@ use Rattle.grids.specs.Grid.{shape, cell-at, clear, solid}
 unfoldable pub any : (ℕ → Bool) → ℕ → Bool
 any p zero = false
 any p (suc n) = any p n || p n
-
--- f 0, f 1, up to f (n - 1)
-unfoldable pub tabulate : (ℕ → ℕ) → ℕ → List ℕ
-tabulate f zero = []
-tabulate f (suc n) = tabulate f n ++ f n ∷ []
 
 -- the cell c touches a solid one inside the grid
 unfoldable pub touches-solid : ℕ → Counts → List ℕ → Cell → Bool
@@ -37,7 +33,7 @@ unfolding touches-solid
 marked-byte k n l i = cond (solid (getD l i 0)) (getD l i 0) (cond (touches-solid k n l (cell-at n i)) 1 0)
 
 unfoldable pub marked : ℕ → Counts → List ℕ → List ℕ
-unfolding marked-byte tabulate
+unfolding marked-byte
 marked k n l = tabulate (marked-byte k n l) (length l)
 
 -- what the marking call leaves: refused, the bytes as they were

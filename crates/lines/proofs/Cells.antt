@@ -11,14 +11,16 @@ use lib.Signed.{leZ}
 use lib.ListN.{length, getD, length-append, List·getD-append}
 use lib.Seq.{getD-append-add}
 use Rattle.cells.specs.declared.Cell.{Cell}
+use Rattle.cells.specs.Tabulate.{tabulate}
 use Rattle.cells.specs.Touching.{on, apart, differ, axes-apart, Touches}
+use Rattle.cells.proofs.Tabulate.{tabulate-length, tabulate-at}
 use Rattle.cells.proofs.Touching.{and-both}
 use Rattle.cells.proofs.Signed.{up, dn, one-sided, diff-is, abs-is, leZ-true}
 use Rattle.lines.specs.Steps.{Axis, X, Y, Z, Steps, total, same}
 use Rattle.lines.specs.Crossings.{Course, upper, before, next, place}
 use Rattle.lines.specs.Preference.{Preference, rule-1}
 use Rattle.lines.specs.Towards.{towards}
-use Rattle.lines.specs.Lines.{differences, cell-of, centres, cells, six-cell, six-line, longest, place-26, cell-26, line-26, in-limit, InLimit}
+use Rattle.lines.specs.Lines.{differences, cell-of, centres, six-cell, six-line, longest, place-26, cell-26, line-26, in-limit, InLimit}
 use Rattle.lines.specs.Segment.{Share, InClosed, InOpen}
 use Rattle.lines.proofs.Steps.{lt-or-ge, bump, total-bump, same-self, Cmp, here, other, cmp}
 use Rattle.lines.proofs.Merge.{Within, OnLine, Next, Rule, walk-end}
@@ -65,23 +67,6 @@ further-touches p q s t k one some most =
     moved : (a : Axis) → s a + differ (on (cell-of p q s) a) (on (cell-of p q t) a) ≡ t a
     moved a = omega (arith, cells-apart p q s t a, one a)
 
--- ---- a list of cells
-
-pub cells-length : (f : ℕ → Cell) (n : ℕ) → length (cells f n) ≡ n
-cells-length f zero = refl
-cells-length f (suc n) = omega (arith, length-append (cells f n) (f n ∷ []), cells-length f n)
-
-pub cells-at : (f : ℕ → Cell) (n i : ℕ) (d : Cell) → i < n → getD (cells f n) i d ≡ f i
-cells-at f zero i d lt = absurd (omega arith)
-cells-at f (suc n) i d lt =
-    ⊎-elim
-    (λ h. List·getD-append (cells f n) (f n ∷ []) d i (omega (arith, cells-length f n)) ∙ cells-at f n i d h)
-    (λ h.
-    let e : i ≡ n = omega arith in
-    let k : i ≡ length (cells f n) + 0 = omega (arith, cells-length f n) in
-    ap (λ m. getD (cells f n ++ f n ∷ []) m d) k ∙ getD-append-add (cells f n) (f n ∷ []) 0 d ∙ ap f (sym e))
-    (lt-or-ge i n)
-
 module _ (r : Preference) (p q : Cell) where
   abbrev D : Steps
   D = differences p q
@@ -97,7 +82,7 @@ module _ (r : Preference) (p q : Cell) where
   unfolding six-cell
   six-is n = refl
 
-  pub six-line-is : six-line r p q ≡ cells (six-cell r p q) (total D + 1)
+  pub six-line-is : six-line r p q ≡ tabulate (six-cell r p q) (total D + 1)
   unfolding six-line
   six-line-is = refl
 
@@ -110,11 +95,11 @@ module _ (r : Preference) (p q : Cell) where
   six-end = six-is (total D) ∙ cell-end p q (place C (total D)) (place-end C G)
 
   pub six-length : length (six-line r p q) ≡ total D + 1
-  six-length = ap length six-line-is ∙ cells-length (six-cell r p q) (total D + 1)
+  six-length = ap length six-line-is ∙ tabulate-length (six-cell r p q) (total D + 1)
 
   pub six-numbered : (n : ℕ) → n ≤ total D → getD (six-line r p q) n p ≡ six-cell r p q n
   unfolding six-line
-  six-numbered n le = cells-at (six-cell r p q) (total D + 1) n p (omega arith)
+  six-numbered n le = tabulate-at (six-cell r p q) (total D + 1) n p (omega arith)
 
   pub six-different : (m n : ℕ) → six-cell r p q m ≡ six-cell r p q n → m ≡ n
   six-different m n e =
@@ -205,16 +190,16 @@ module _ (p q : Cell) where
   pub end-26 : cell-26 p q (longest D′) ≡ q
   end-26 = is-26 rule-1 p q (longest D′) ∙ cell-end p q (place-26 D′ (longest D′)) (λ a. moved-end (longest D′) (D′ a) (longest-most D′ a))
 
-  pub line-26-is : line-26 p q ≡ cells (cell-26 p q) (longest D′ + 1)
+  pub line-26-is : line-26 p q ≡ tabulate (cell-26 p q) (longest D′ + 1)
   unfolding line-26
   line-26-is = refl
 
   pub length-26 : length (line-26 p q) ≡ longest D′ + 1
-  length-26 = ap length line-26-is ∙ cells-length (cell-26 p q) (longest D′ + 1)
+  length-26 = ap length line-26-is ∙ tabulate-length (cell-26 p q) (longest D′ + 1)
 
   pub numbered-26 : (m : ℕ) → m ≤ longest D′ → getD (line-26 p q) m p ≡ cell-26 p q m
   unfolding line-26
-  numbered-26 m le = cells-at (cell-26 p q) (longest D′ + 1) m p (omega arith)
+  numbered-26 m le = tabulate-at (cell-26 p q) (longest D′ + 1) m p (omega arith)
 
   -- from m to m + 1
   moves-26 : (m : ℕ) (a : Axis) → apart (on (cell-26 p q m) a) (on (cell-26 p q (m + 1)) a) ≡ (place-26 D′ m a - place-26 D′ (m + 1) a) + (place-26 D′ (m + 1) a - place-26 D′ m a)

@@ -6,6 +6,7 @@ use mathlib.Core.List.{List, [], _∷_, _++_}
 use lib.IntN.{ℤ, pos, negsuc}
 use lib.Signed.{leZ}
 use Rattle.cells.specs.declared.Cell.{Cell}
+use Rattle.cells.specs.Tabulate.{tabulate}
 use Rattle.cells.specs.Touching.{on, apart}
 use Rattle.lines.specs.Steps.{Axis, X, Y, Z, Steps, total}
 use Rattle.lines.specs.Crossings.{Course, place}
@@ -24,11 +25,6 @@ cell-of p q t = record { x = towards (p .x) (q .x) (t X); y = towards (p .y) (q 
 abbrev pub centres : Preference → Steps → Course
 centres r D = record { count = D; first = λ a. 1; step = 2; length = λ a. 2 * D a; rank = r .rank }
 
--- the cells f 0 to f (n - 1)
-abbrev pub cells : (ℕ → Cell) → ℕ → List Cell
-cells f zero = []
-cells f (suc n) = cells f n ++ f n ∷ []
-
 -- "Start at P; cross the A+B+C faces in order of their fractions, one cell each": cell number n
 unfoldable pub six-cell : Preference → Cell → Cell → ℕ → Cell
 unfolding place
@@ -36,7 +32,7 @@ six-cell r p q n = cell-of p q (place (centres r (differences p q)) n)
 
 unfoldable pub six-line : Preference → Cell → Cell → List Cell
 unfolding six-cell
-six-line r p q = cells (six-cell r p q) (total (differences p q) + 1)
+six-line r p q = tabulate (six-cell r p q) (total (differences p q) + 1)
 
 -- "M is the largest of A, B, C"
 abbrev pub longest : Steps → ℕ
@@ -59,7 +55,7 @@ cell-26 p q m = cell-of p q (place-26 (differences p q) m)
 
 unfoldable pub line-26 : Cell → Cell → List Cell
 unfolding cell-26
-line-26 p q = cells (cell-26 p q) (longest (differences p q) + 1)
+line-26 p q = tabulate (cell-26 p q) (longest (differences p q) + 1)
 
 -- the coordinate limit, -8,192 to 8,191
 abbrev pub in-limit : ℤ → Bool

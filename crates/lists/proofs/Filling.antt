@@ -10,7 +10,8 @@ use Rattle.cells.specs.declared.Cell.{Cell}
 use Rattle.lines.specs.Steps.{Axis, X, Y, Z, Steps, at, total}
 use Rattle.lines.specs.Crossings.{Course, next, place}
 use Rattle.lines.specs.Preference.{rule-1}
-use Rattle.lines.specs.Lines.{differences, centres, cells}
+use Rattle.lines.specs.Lines.{differences, centres}
+use Rattle.cells.specs.Tabulate.{tabulate}
 use Rattle.lines.specs.Decisions.{values}
 use Rattle.lines.proofs.Steps.{bump}
 use Rattle.lines.proofs.Fractions.{place-suc, place-on, place-total}
@@ -48,7 +49,7 @@ module _ (f : ℕ → Cell) (last : ℕ) (out₀ : List ℤ) (room : 3 * (last +
 
   -- the last cell
   pub filled-last :
-      (out out′ : List ℤ) (q : Cell) (m at : ℕ) → Filling f last out₀ out m at → last ≤ m → f last ≡ q → out′ ≡ put3 out at q → out′ ≡ filled (cells f (last + 1)) out₀
+      (out out′ : List ℤ) (q : Cell) (m at : ℕ) → Filling f last out₀ out m at → last ≤ m → f last ≡ q → out′ ≡ put3 out at q → out′ ≡ filled (tabulate f (last + 1)) out₀
   filled-last out out′ q m at h ge end e =
       let n : m ≡ last = omega (arith, h .most) in
       e ∙ ap₂ (λ l k. put3 l k q) (h .stored) (h .next-at) ∙ ap (put3 (front f m out₀) (3 * m)) (sym end ∙ ap f (sym n)) ∙ put-next f out₀ m (omega arith)

@@ -22,8 +22,9 @@ use Rattle.cells.specs.Touching.{on}
 use Rattle.cells.proofs.Checks.{fine-first, fine-rest, passed}
 use Rattle.cells.specs.declared.Verdict.{Verdict}
 use Rattle.cells.specs.declared.Verdict.the-variants.{Fine, Refused}
-use Rattle.lines.specs.Lines.{cells, in-limit, InLimit}
-use Rattle.lines.proofs.Cells.{cells-length}
+use Rattle.lines.specs.Lines.{in-limit, InLimit}
+use Rattle.cells.specs.Tabulate.{tabulate}
+use Rattle.cells.proofs.Tabulate.{tabulate-length}
 use Rattle.lists.specs.declared.Listed.the-variants.{Cells, Refused as NotListed}
 use Rattle.lists.specs.Lists.{end-check, ends-check, list-check, listed, numbers, filled, after-listing, Lists}
 use Rattle.lists.specs.Way.{put3}
@@ -40,7 +41,7 @@ numbers-append (c ∷ l) k = ap (λ m. c .x ∷ c .y ∷ c .z ∷ m) (numbers-ap
 
 -- the first m cells at the front
 abbrev pub front : (ℕ → Cell) → ℕ → List ℤ → List ℤ
-front f m entry = numbers (cells f m) ++ drop (3 * m) entry
+front f m entry = numbers (tabulate f m) ++ drop (3 * m) entry
 
 -- a cell stored where the front ends lengthens the front
 put-after : (F d : List ℤ) (n : ℕ) (c : Cell) → length F ≡ n → n + 3 ≤ length d → put3 (F ++ drop n d) n c ≡ (F ++ numbers (c ∷ [])) ++ drop (n + 3) d
@@ -55,12 +56,12 @@ put-after F d n c e h =
 pub put-next : (f : ℕ → Cell) (entry : List ℤ) (m : ℕ) → 3 * (m + 1) ≤ length entry → put3 (front f m entry) (3 * m) (f m) ≡ front f (m + 1) entry
 put-next f entry m h =
     let e : 3 * m + 3 ≡ 3 * (m + 1) = omega arith in
-    put-after (numbers (cells f m)) entry (3 * m) (f m) (numbers-length (cells f m) ∙ ap (λ k. 3 * k) (cells-length f m)) (omega arith)
-    ∙ ap₂ (λ a k. a ++ drop k entry) (sym (numbers-append (cells f m) (f m ∷ [])) ∙ ap (λ k. numbers (cells f k)) (sym (add-one m))) e
+    put-after (numbers (tabulate f m)) entry (3 * m) (f m) (numbers-length (tabulate f m) ∙ ap (λ k. 3 * k) (tabulate-length f m)) (omega arith)
+    ∙ ap₂ (λ a k. a ++ drop k entry) (sym (numbers-append (tabulate f m) (f m ∷ [])) ∙ ap (λ k. numbers (tabulate f k)) (sym (add-one m))) e
 
 -- all its cells at the front: the line is filled in
-pub front-filled : (f : ℕ → Cell) (n : ℕ) (entry : List ℤ) → front f n entry ≡ filled (cells f n) entry
-front-filled f n entry = ap (λ k. numbers (cells f n) ++ drop (3 * k) entry) (sym (cells-length f n))
+pub front-filled : (f : ℕ → Cell) (n : ℕ) (entry : List ℤ) → front f n entry ≡ filled (tabulate f n) entry
+front-filled f n entry = ap (λ k. numbers (tabulate f n) ++ drop (3 * k) entry) (sym (tabulate-length f n))
 
 -- ---- the ways out
 

@@ -7,9 +7,9 @@ use mathlib.Core.Path.{_≡_, refl, _∙_}
 use mathlib.Core.List.{List}
 use lib.ListN.{length, getD, set, length-set}
 use lib.Seq.{getD-set-same, getD-set-other}
-use Rattle.grids.specs.Marks.{tabulate}
+use Rattle.cells.specs.Tabulate.{tabulate}
 use Rattle.marks.specs.Rows.{Filled}
-use Rattle.grids.proofs.Any.{is-tab}
+use Rattle.cells.proofs.Tabulate.{is-tabulate}
 
 pub filled-none : (f : ℕ → ℕ) (from to : ℕ) (l : List ℕ) → to ≤ from → Filled f from to l l
 filled-none f from to l none = record { long = refl; inside = λ k ge lt. absurd (omega arith); before = λ k h. refl; after = λ k h. refl }
@@ -46,7 +46,7 @@ filled-more f from at next v l m le e h is done =
 
 -- filled from end to end
 pub filled-whole : (f : ℕ → ℕ) (n : ℕ) (l m : List ℕ) → length l ≡ n → Filled f 0 n l m → m ≡ tabulate f n
-filled-whole f n l m e h = is-tab f n m (h .long ∙ e) (λ k lt. h .inside k (omega arith) lt)
+filled-whole f n l m e h = is-tabulate f n 0 m (h .long ∙ e) (λ k lt. h .inside k (omega arith) lt)
 
 -- filled by another function with the same values
 pub filled-as : (f g : ℕ → ℕ) (a b : ℕ) (l m : List ℕ) → a ≤ b → ((k : ℕ) → a ≤ k → k < b → g k ≡ f k) → Filled g a b l m → Filled f a b l m

@@ -4,7 +4,8 @@ use mathlib.Core.Path.{_≡_, sym, ap, _∙_, subst}
 use Prim.Native.Nat.{_+_, _-_}
 use native.Mathlib.Omega.{arith}
 use borrow.Author.Needs.{needs}
-use Rattle.lines.specs.Lines.{differences, longest, cells, cell-26}
+use Rattle.lines.specs.Lines.{differences, longest, cell-26}
+use Rattle.cells.specs.Tabulate.{tabulate}
 use Rattle.lines.proofs.Cells.{end-26, line-26-is}
 use Rattle.lists.specs.Lists.{filled}
 use Rattle.lists.specs.Way.{cell-at, paces, firsts, nexts, CanMoves}
@@ -116,8 +117,8 @@ returns c =
     let q = s .args .q in
     let e = last-is (l .before .before) in
     filled-last _ _ _ (s .pre .2) _ _ q (l .loop .m) _ (l .loop .inv .0) (omega arith) (ap (λ u. cell-26 u q (s .args .last)) (at-p (l .before)) ∙ ap (cell-26 p q) e ∙ end-26 p q) (c .before .put2 .ensures)
-    ∙ ap (λ u. filled (cells (cell-26 u q) (s .args .last + 1)) (s .args .out .now)) (at-p (l .before))
-    ∙ ap (λ n. filled (cells (cell-26 p q) (n + 1)) (s .args .out .now)) e ∙ ap (λ x. filled x (s .args .out .now)) (sym (line-26-is p q))
+    ∙ ap (λ u. filled (tabulate (cell-26 u q) (s .args .last + 1)) (s .args .out .now)) (at-p (l .before))
+    ∙ ap (λ n. filled (tabulate (cell-26 p q) (n + 1)) (s .args .out .now)) e ∙ ap (λ x. filled x (s .args .out .now)) (sym (line-26-is p q))
 
 pub fill26-spec : {M : Type 1} → statement M
 fill26-spec =

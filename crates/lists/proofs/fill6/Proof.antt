@@ -6,7 +6,8 @@ use native.Mathlib.Omega.{arith}
 use borrow.Author.Needs.{needs}
 use Rattle.lines.specs.Steps.{at, total}
 use Rattle.lines.specs.Preference.{rule-1}
-use Rattle.lines.specs.Lines.{differences, cells, six-cell}
+use Rattle.lines.specs.Lines.{differences, six-cell}
+use Rattle.cells.specs.Tabulate.{tabulate}
 use Rattle.lines.specs.Crossings.{place}
 use Rattle.lines.specs.Decisions.{values}
 use Rattle.lines.proofs.Cells.{six-is, six-line-is, six-end}
@@ -97,7 +98,7 @@ returns c =
     let e = ap total (k .is) in
     filled-last (six-cell rule-1 p q) _ _ (s .pre .1) _ _ q (l .loop .m) _ (l .loop .inv .0) (omega arith)
     (ap (six-cell rule-1 p q) e ∙ six-end rule-1 p q) (c .before .put2 .ensures)
-    ∙ ap (λ n. filled (cells (six-cell rule-1 p q) (n + 1)) (s .args .out .now)) e ∙ ap (λ x. filled x (s .args .out .now)) (sym (six-line-is rule-1 p q))
+    ∙ ap (λ n. filled (tabulate (six-cell rule-1 p q) (n + 1)) (s .args .out .now)) e ∙ ap (λ x. filled x (s .args .out .now)) (sym (six-line-is rule-1 p q))
 
 pub fill6-spec : {M : Type 1} → statement M
 fill6-spec =
