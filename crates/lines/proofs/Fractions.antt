@@ -20,11 +20,11 @@ ahead r s = 1 - (suc r - s)
 
 -- `before` as one inequality
 unfoldable pub Before : Course → Axis → ℕ → Axis → ℕ → Type 0
-Before c a i b j = upper c a i * c .length b < upper c b j * c .length a + ahead (c .rank a) (c .rank b)
+Before c a i b j = upper c a i * c .lower b < upper c b j * c .lower a + ahead (c .rank a) (c .rank b)
 
-pub before-test : (c : Course) (a b : Axis) (i j : ℕ) → before c a i b j ≡ ltb (upper c a i * c .length b) (upper c b j * c .length a + ahead (c .rank a) (c .rank b))
+pub before-test : (c : Course) (a b : Axis) (i j : ℕ) → before c a i b j ≡ ltb (upper c a i * c .lower b) (upper c b j * c .lower a + ahead (c .rank a) (c .rank b))
 unfolding before
-before-test c a b i j = go (upper c a i * c .length b) (upper c b j * c .length a) (c .rank a) (c .rank b)
+before-test c a b i j = go (upper c a i * c .lower b) (upper c b j * c .lower a) (c .rank a) (c .rank b)
   where
     go : (x y r s : ℕ) → (ltb x y || (eqb x y && ltb r s)) ≡ ltb x (y + ahead r s)
     go x y r s =
@@ -56,8 +56,8 @@ true-before c a b i j h = before-test c a b i j ∙ lt-ltb _ _ h
 pub record Good (c : Course) : Type 0 where
   pub steps : 0 < c .step
   pub starts : (a : Axis) → c .first a ≤ c .step
-  pub inside : (a : Axis) {i : ℕ} → i < c .count a → upper c a i < c .length a
-  pub ends : (a : Axis) → c .length a < upper c a (c .count a)
+  pub inside : (a : Axis) {i : ℕ} → i < c .count a → upper c a i < c .lower a
+  pub ends : (a : Axis) → c .lower a < upper c a (c .count a)
   pub axis : ℕ → Axis
   pub ranked : (a : Axis) → axis (c .rank a) ≡ a
 
@@ -88,16 +88,16 @@ chain x y z D E F r s u d e f p q =
 
 -- how many crossings of a lie at fractions up to and including n over d
 unfoldable pub after : Course → ℕ → ℕ → Steps
-after c n d a = (c .length a * n + (c .step - c .first a) * d) / (c .step * d)
+after c n d a = (c .lower a * n + (c .step - c .first a) * d) / (c .step * d)
 
 -- at n over d of the way the line has gone length·n/d towards Q; cell t of an axis reaches from (first + step·(t - 1)) to (first + step·t)
 pub record InClosedSteps (c : Course) (n d : ℕ) (t : Steps) : Type 0 where
-  pub from : (a : Axis) → upper c a (t a) * d ≤ c .length a * n + c .step * d
-  pub upto : (a : Axis) → c .length a * n ≤ upper c a (t a) * d
+  pub from : (a : Axis) → upper c a (t a) * d ≤ c .lower a * n + c .step * d
+  pub upto : (a : Axis) → c .lower a * n ≤ upper c a (t a) * d
 
 pub record InOpenSteps (c : Course) (n d : ℕ) (t : Steps) : Type 0 where
-  pub from : (a : Axis) → upper c a (t a) * d < c .length a * n + c .step * d
-  pub upto : (a : Axis) → c .length a * n < upper c a (t a) * d
+  pub from : (a : Axis) → upper c a (t a) * d < c .lower a * n + c .step * d
+  pub upto : (a : Axis) → c .lower a * n < upper c a (t a) * d
 
 pub place-start : (c : Course) (a : Axis) → place c 0 a ≡ 0
 unfolding place
@@ -113,8 +113,8 @@ unfolding place
 place-suc c = walk-suc (next c)
 
 module _ (c : Course) (good : Good c) where
-  some-length : (a : Axis) {i : ℕ} → i < c .count a → 0 < c .length a
-  some-length a p = omega (arith, good .inside a p)
+  some-lower : (a : Axis) {i : ℕ} → i < c .count a → 0 < c .lower a
+  some-lower a p = omega (arith, good .inside a p)
 
   ranks-differ : (a b : Axis) → same a b ≡ 0 → c .rank a ≢ c .rank b
   ranks-differ a b e p =
@@ -127,17 +127,17 @@ module _ (c : Course) (good : Good c) where
   pub laws : Laws (c .count) (Before c)
   unfolding Before
   laws = record {
-    trans = λ {a} {b} {c = d} {i} {j} {k} p q r. chain (upper c a i) (upper c b j) (upper c d k) (c .length a) (c .length b) (c .length d) (c .rank a) (c .rank b) (c .rank d) (some-length a p) (some-length b q) (some-length d r);
+    trans = λ {a} {b} {c = d} {i} {j} {k} p q r. chain (upper c a i) (upper c b j) (upper c d k) (c .lower a) (c .lower b) (c .lower d) (c .rank a) (c .rank b) (c .rank d) (some-lower a p) (some-lower b q) (some-lower d r);
     asym = λ p q. omega arith;
-    either = λ a b i j e. ⊎-elim inl (λ h. inr (omega (arith, ranks-differ a b e))) (lt-or-ge (upper c a i * c .length b) (upper c b j * c .length a + ahead (c .rank a) (c .rank b)));
-    mono = λ a {i} {j} p q. omega (arith, mul-lt-mul-of-pos-right (upper-grows a p) (some-length a q));
+    either = λ a b i j e. ⊎-elim inl (λ h. inr (omega (arith, ranks-differ a b e))) (lt-or-ge (upper c a i * c .lower b) (upper c b j * c .lower a + ahead (c .rank a) (c .rank b)));
+    mono = λ a {i} {j} p q. omega (arith, mul-lt-mul-of-pos-right (upper-grows a p) (some-lower a q));
   }
 
   -- of two crossings of different axes one comes before the other
   not-before : (a b : Axis) (i j : ℕ) → same a b ≡ 0 → before c a i b j ≡ false → Before c b j a i
   unfolding Before
   not-before a b i j e w =
-      omega (arith, ltb-false (upper c a i * c .length b) (upper c b j * c .length a + ahead (c .rank a) (c .rank b)) (sym (before-test c a b i j) ∙ w), ranks-differ a b e)
+      omega (arith, ltb-false (upper c a i * c .lower b) (upper c b j * c .lower a + ahead (c .rank a) (c .rank b)) (sym (before-test c a b i j) ∙ w), ranks-differ a b e)
 
   -- the sooner of two axes leads both
   sooner-leads : (t : Steps) (a b : Axis) → Leads (c .count) (Before c) t (sooner c t a b) a × Leads (c .count) (Before c) t (sooner c t a b) b
@@ -160,9 +160,9 @@ module _ (c : Course) (good : Good c) where
   real-first : (a b : Axis) (i j : ℕ) → i < c .count a → c .count b ≤ j → Before c b j a i → ⊥
   unfolding Before
   real-first a b i j p q h =
-      let beyond : suc (c .length b) ≤ upper c b j = omega (arith, good .ends b, mul-le-mul-left (c .step) q) in
-      let real : upper c a i ≤ c .length a = omega (arith, good .inside a p) in
-      omega (arith, mul-le-mul-right (c .length a) beyond, mul-le-mul-right (c .length b) real, some-length a p)
+      let beyond : suc (c .lower b) ≤ upper c b j = omega (arith, good .ends b, mul-le-mul-left (c .step) q) in
+      let real : upper c a i ≤ c .lower a = omega (arith, good .inside a p) in
+      omega (arith, mul-le-mul-right (c .lower a) beyond, mul-le-mul-right (c .lower b) real, some-lower a p)
 
   -- so `before` alone, asked of two axes that need have no crossing left, tells which of them leads
   leads-by : (t : Steps) {a b : Axis} → Before c a (t a) b (t b) → Leads (c .count) (Before c) t a b
@@ -196,19 +196,19 @@ module _ (c : Course) (good : Good c) where
   unfolding OnLine Before
   upto-on n d t some up a b i j p q r =
       let (real, h) = up .made a i p in
-      omega (arith, chain-le-lt (upper c a i) n (upper c b j) (c .length a) d (c .length b) (some-length a real) h (up .rest b j r q))
+      omega (arith, chain-le-lt (upper c a i) n (upper c b j) (c .lower a) d (c .lower b) (some-lower a real) h (up .rest b j r q))
 
   -- a place that has made just the crossings up to n over d is on the line, whatever the order of preference
   pub upto-is-place : (n d : ℕ) (t : Steps) → 0 < d → Within (c .count) t → MadeUpto c n d t → (a : Axis) → t a ≡ place c (total t) a
   upto-is-place n d t some wi up = on-is-place t wi (upto-on n d t some up)
 
   -- the threshold law
-  pub after-iff : (n d : ℕ) (a : Axis) (i : ℕ) → 0 < d → (i < after c n d a) ↔ (upper c a i * d ≤ n * c .length a)
+  pub after-iff : (n d : ℕ) (a : Axis) (i : ℕ) → 0 < d → (i < after c n d a) ↔ (upper c a i * d ≤ n * c .lower a)
   unfolding after
   after-iff n d a i some =
       let s : ℕ = c .step - c .first a in
       let u : s * d + c .first a * d ≡ c .step * d = omega (arith, ap (λ v. v * d) (rest (good .starts a))) in
-      let e = le-div-iff-mul-le {k = c .step * d} {x = suc i} {y = c .length a * n + s * d} (one-le-mul (good .steps) some) in
+      let e = le-div-iff-mul-le {k = c .step * d} {x = suc i} {y = c .lower a * n + s * d} (one-le-mul (good .steps) some) in
       (λ p. omega (arith, e .0 p), λ q. e .1 (omega arith))
     where
       rest : {f k : ℕ} → f ≤ k → k - f + f ≡ k
@@ -217,13 +217,13 @@ module _ (c : Course) (good : Good c) where
   pub after-within : (n d : ℕ) → 0 < d → n ≤ d → Within (c .count) (after c n d)
   after-within n d some le a =
       by-contra (after c n d a) (c .count a) (λ p.
-      omega (arith, after-iff n d a (c .count a) some .0 p, mul-le-mul-right (c .length a) le, mul-le-mul-right d (good .ends a)))
+      omega (arith, after-iff n d a (c .count a) some .0 p, mul-le-mul-right (c .lower a) le, mul-le-mul-right d (good .ends a)))
 
   pub after-upto : (n d : ℕ) → 0 < d → n ≤ d → MadeUpto c n d (after c n d)
   after-upto n d some le =
       record {
         made = λ a i p. (omega (arith, after-within n d some le a), after-iff n d a i some .0 p);
-        rest = λ a i real p. by-contra (suc (n * c .length a)) (upper c a i * d) (λ k. omega (arith, after-iff n d a i some .1 (omega arith)));
+        rest = λ a i real p. by-contra (suc (n * c .lower a)) (upper c a i * d) (λ k. omega (arith, after-iff n d a i some .1 (omega arith)));
       }
 
   -- the crossings up to n over d lead to a place of the line
@@ -234,8 +234,8 @@ module _ (c : Course) (good : Good c) where
   inside-within : (n d : ℕ) (t : Steps) → n ≤ d → InOpenSteps c n d t → Within (c .count) t
   inside-within n d t le h a =
       by-contra (t a) (c .count a) (λ p.
-      let beyond : (c .length a) * d ≤ upper c a (c .count a) * d = mul-le-mul-right d (omega (arith, good .ends a)) in
-      omega (arith, h .from a, mul-le-mul-right d (mul-le-mul-left (c .step) p), mul-le-mul-left (c .length a) le))
+      let beyond : (c .lower a) * d ≤ upper c a (c .count a) * d = mul-le-mul-right d (omega (arith, good .ends a)) in
+      omega (arith, h .from a, mul-le-mul-right d (mul-le-mul-left (c .step) p), mul-le-mul-left (c .lower a) le))
 
   -- a cell whose inside has the point is past just the crossings up to it
   inside-upto : (n d : ℕ) (t : Steps) → n ≤ d → InOpenSteps c n d t → MadeUpto c n d t
@@ -257,25 +257,25 @@ module _ (c : Course) (good : Good c) where
   -- a cell that is entered is touched at the fraction of the crossing by which it is entered
   pub entered-touched :
       (t : Steps) (m : Axis) → Within (c .count) t → OnLine (c .count) (Before c) t → Next (c .count) (Before c) t m →
-      InClosedSteps c (upper c m (t m)) (c .length m) (bump t m)
+      InClosedSteps c (upper c m (t m)) (c .lower m) (bump t m)
   unfolding OnLine Next Before
   entered-touched t m wi on nx = record { from = λ a. from-axis (cmp m a); upto = λ a. upto-axis a }
     where
-      behind : (a : Axis) (v : ℕ) → t a ≡ v → upper c a v * c .length m ≤ c .length a * upper c m (t m) + c .step * c .length m
-      behind a zero e = omega (arith, mul-le-mul-right (c .length m) (good .starts a))
+      behind : (a : Axis) (v : ℕ) → t a ≡ v → upper c a v * c .lower m ≤ c .lower a * upper c m (t m) + c .step * c .lower m
+      behind a zero e = omega (arith, mul-le-mul-right (c .lower m) (good .starts a))
       behind a (suc v) e = omega (arith, on a m v (t m) (omega arith) (omega arith) (nx .0))
 
-      from-axis : {a : Axis} → Cmp m a → upper c a (bump t m a) * c .length m ≤ c .length a * upper c m (t m) + c .step * c .length m
+      from-axis : {a : Axis} → Cmp m a → upper c a (bump t m a) * c .lower m ≤ c .lower a * upper c m (t m) + c .step * c .lower m
       from-axis here = rw same-self (omega arith)
       from-axis {a} (other e f) = rw e (rw add-zero (behind a (t a) refl))
 
-      upto-axis : (a : Axis) → c .length a * upper c m (t m) ≤ upper c a (bump t m a) * c .length m
+      upto-axis : (a : Axis) → c .lower a * upper c m (t m) ≤ upper c a (bump t m a) * c .lower m
       upto-axis a =
           ⊎-elim
           (λ p. omega (arith, step-on (c .count) (Before c) laws t m on nx m a (t m) (bump t m a) (omega (arith, same-self m)) (omega arith) p))
           (λ p.
-          let beyond : c .length a ≤ upper c a (bump t m a) = omega (arith, good .ends a, mul-le-mul-left (c .step) p) in
-          let real : upper c m (t m) ≤ c .length m = omega (arith, good .inside m (nx .0)) in
+          let beyond : c .lower a ≤ upper c a (bump t m a) = omega (arith, good .ends a, mul-le-mul-left (c .step) p) in
+          let real : upper c m (t m) ≤ c .lower m = omega (arith, good .inside m (nx .0)) in
           mul-le-mul beyond real)
           (lt-or-ge (bump t m a) (c .count a))
 

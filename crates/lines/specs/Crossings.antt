@@ -3,26 +3,26 @@ use Prim.Native.Nat.{ℕ, _+_, _-_, _*_, _≤_, _<_}
 use mathlib.Core.Path.{_≡_}
 use mathlib.Core.Bool.{Bool, true, cond, not, _&&_, _||_}
 use lib.Dec.{ltb, eqb}
-use Rattle.lines.specs.Steps.{Axis, X, Y, Z, Steps, same, after-steps}
+use Rattle.lines.specs.Steps.{Axis, X, Y, Z, PerAxis, Steps, same, after-steps}
 
 -- On each axis: how many faces are crossed, and at which fractions of the way. Crossing i of an axis, i from 0 to count - 1, lies at
--- (first + step·i) / length. Of equal fractions the axis of the smaller rank goes first.
+-- (first + step·i) / lower. Of equal fractions the axis of the smaller rank goes first.
 pub record Course : Type 0 where
-  pub count : Steps
-  pub first : Steps
+  pub count : PerAxis
+  pub first : PerAxis
   pub step : ℕ
-  pub length : Steps
-  pub rank : Steps
+  pub lower : PerAxis
+  pub rank : PerAxis
 
--- the upper number of the fraction of crossing i of a; the lower one is the axis's length
+-- the upper number of the fraction of crossing i of a
 abbrev pub upper : Course → Axis → ℕ → ℕ
 upper c a i = c .first a + c .step * i
 
 -- crossing i of a comes before crossing j of b: its fraction, compared by products, is smaller, or equal and a goes first
 unfoldable pub before : Course → Axis → ℕ → Axis → ℕ → Bool
 before c a i b j =
-    let x : ℕ = upper c a i * c .length b in
-    let y : ℕ = upper c b j * c .length a in
+    let x : ℕ = upper c a i * c .lower b in
+    let y : ℕ = upper c b j * c .lower a in
     ltb x y || (eqb x y && ltb (c .rank a) (c .rank b))
 
 -- at place t the axis a has a crossing left
@@ -58,5 +58,5 @@ pub record LastMade (c : Course) (t : Steps) (n : Axis) : Type 0 where
 
 -- just the crossings at fractions up to and including n over d are made
 pub record MadeUpto (c : Course) (n d : ℕ) (t : Steps) : Type 0 where
-  pub made : (a : Axis) (i : ℕ) → i < t a → (i < c .count a) × (upper c a i * d ≤ n * c .length a)
-  pub rest : (a : Axis) (i : ℕ) → i < c .count a → t a ≤ i → n * c .length a < upper c a i * d
+  pub made : (a : Axis) (i : ℕ) → i < t a → (i < c .count a) × (upper c a i * d ≤ n * c .lower a)
+  pub rest : (a : Axis) (i : ℕ) → i < c .count a → t a ≤ i → n * c .lower a < upper c a i * d

@@ -23,7 +23,7 @@ cell-of p q t = record { x = towards (p .x) (q .x) (t X); y = towards (p .y) (q 
 
 -- "Face i of x (i from 1 to A) is crossed at the fraction (2i-1)/(2A); likewise y with B, z with C." Crossing i counts from 0: it is face i + 1.
 abbrev pub centres : Preference → Steps → Course
-centres r D = record { count = D; first = λ a. 1; step = 2; length = λ a. 2 * D a; rank = r .rank }
+centres r D = record { count = D; first = λ a. 1; step = 2; lower = λ a. 2 * D a; rank = r .rank }
 
 -- "Start at P; cross the A+B+C faces in order of their fractions, one cell each": cell number n
 unfoldable pub six-cell : Preference → Cell → Cell → ℕ → Cell

@@ -1,16 +1,16 @@
 -- The order of preference of the axes where fractions are equal. Assumes nothing.
 use Prim.Native.Nat.{ℕ, zero, suc}
 use mathlib.Core.Path.{_≡_, refl}
-use Rattle.lines.specs.Steps.{Axis, X, Y, Z, Steps}
+use Rattle.lines.specs.Steps.{Axis, X, Y, Z, PerAxis}
 
 -- the rank of each axis, 0 first; no two have the same, since the rank tells the axis
 pub record Preference : Type 0 where
-  pub rank : Steps
+  pub rank : PerAxis
   pub axis : ℕ → Axis
   pub ranked : (a : Axis) → axis (rank a) ≡ a
 
 -- "Equal fractions: y first, then z, then x"
-abbrev pub rule-1-rank : Steps
+abbrev pub rule-1-rank : PerAxis
 rule-1-rank Y = 0
 rule-1-rank Z = 1
 rule-1-rank X = 2

@@ -4,8 +4,12 @@ pub use Rattle.cells.specs.declared.Axis.the-variants.{X, Y, Z}
 use Prim.Native.Nat.{ℕ, zero, suc, _+_}
 
 -- a number for each axis
+abbrev pub PerAxis : Type 0
+PerAxis = Axis → ℕ
+
+-- how many faces were crossed on each
 abbrev pub Steps : Type 0
-Steps = Axis → ℕ
+Steps = PerAxis
 
 -- i on x, j on y, k on z
 abbrev pub at : ℕ → ℕ → ℕ → Steps
