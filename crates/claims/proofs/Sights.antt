@@ -28,7 +28,7 @@ use Rattle.sight.specs.declared.Block.{Block}
 use Rattle.sight.specs.declared.Sight.{Sight}
 use Rattle.sight.specs.declared.Sight.the-variants.{Clear, Blocked, Refused}
 use Rattle.sight.specs.Sight.{sight-of, seen, if-fine, looked, sight, told-sight}
-use Rattle.sight.proofs.Seen.{looked-is, sight-is, camera-refused, walked}
+use Rattle.sight.proofs.Seen.{looked-is, sight-is, camera-refused, both-found}
 use Rattle.claims.proofs.Story.{nothing-in-the-way}
 use Rattle.claims.specs.Sights.{SeenOnce, AsTheWalk, OpenWay, NothingInSight, CameraFirst, WrongSights}
 
@@ -70,7 +70,7 @@ module _ (n : Counts) (l : List ℕ) (at : Placement) (camera ball : Point) wher
         same = λ c b r h fine placed from to sees hit.
             sees .says ∙ sight-is n l at camera ball ∙
             ap₂ (λ v w. if-fine v (if-fine w (looked n l at camera ball))) fine placed ∙
-            walked n l at camera ball (sym from) refl (sym to) refl (hit .says);
+            both-found n l at camera ball (sym from) refl (sym to) refl (hit .says);
       }
 
   pub nothing-in-sight : NothingInSight n l at camera ball

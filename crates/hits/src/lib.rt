@@ -205,12 +205,21 @@ pub fn answer_of(cells: &[u8], k: Route, r: Stop) -> FirstHit
     })
 }
 
-// What the plain walk finds along a route: apart from the call, so that the loop has its strides in registers.
+// What the plain walk finds along a route.
 fn plain_answer(cells: &[u8], k: Route) -> FirstHit
     requires { ⌜ Planned (length (now cells)) k ⌝ }
     ensures { λ r. ⌜ r ≡ found (now (cells .entry)) k Plain ⌝ }
 {
     let stop = walk_plain(cells, k, routes::first_spot(k));
+    answer_of(cells, k, stop)
+}
+
+// What the adaptive walk finds along a route.
+fn adaptive_answer(cells: &[u8], k: Route) -> FirstHit
+    requires { ⌜ Planned (length (now cells)) k ⌝ }
+    ensures { λ r. ⌜ r ≡ found (now (cells .entry)) k Adaptive ⌝ }
+{
+    let stop = walk_adaptive(cells, k, routes::first_spot(k));
     answer_of(cells, k, stop)
 }
 
@@ -230,10 +239,6 @@ pub fn first_adaptive(n: Counts, cells: &[u8], p: Cell, q: Cell) -> FirstHit
 {
     match routes::check_walk(n, cells.len(), p, q) {
         Verdict::Refused(r) => FirstHit::Refused(r),
-        Verdict::Fine => {
-            let k = routes::route_of(n, p, q);
-            let stop = walk_adaptive(cells, k, routes::first_spot(k));
-            answer_of(cells, k, stop)
-        }
+        Verdict::Fine => adaptive_answer(cells, routes::route_of(n, p, q)),
     }
 }

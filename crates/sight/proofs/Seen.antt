@@ -38,6 +38,6 @@ module _ (n : Counts) (l : List ℕ) (at : Placement) (camera ball : Point) wher
       f ≡ look-up P n at camera → f ≡ Cell c → t ≡ look-up Q n at ball → t ≡ NoCell r → looked n l at camera ball ≡ Refused r
   ball-refused hf f-is ht t-is = from-lookups hf f-is ht t-is
 
-  pub walked : {f t : Lookup} {c b : cell.Cell} {h : FirstHit} →
+  pub both-found : {f t : Lookup} {c b : cell.Cell} {h : FirstHit} →
       f ≡ look-up P n at camera → f ≡ Cell c → t ≡ look-up Q n at ball → t ≡ Cell b → h ≡ first-hit Adaptive n l c b → looked n l at camera ball ≡ sight-of h
-  walked hf f-is ht t-is h-is = from-lookups hf f-is ht t-is ∙ ap sight-of (sym h-is)
+  both-found hf f-is ht t-is h-is = from-lookups hf f-is ht t-is ∙ ap sight-of (sym h-is)

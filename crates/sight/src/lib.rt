@@ -1,9 +1,10 @@
 // The sight answer: is anything in the way from a camera to the ball? Two lookups, then the adaptive walk.
 ghost use mathlib.Core.Path.{_≡_};
 ghost use Rattle.cells.specs.declared.Verdict.the-variants.{Fine};
-ghost use Rattle.grids.specs.Grid.{count-check};
+ghost use lib.ListN.{length};
+ghost use Rattle.grids.specs.Grid.{shape};
 ghost use Rattle.walks.specs.declared.Walker.the-variants.{Adaptive};
-ghost use Rattle.walks.specs.Answers.{Finds};
+ghost use Rattle.walks.specs.Answers.{walk-check, Finds};
 ghost use Rattle.sights.specs.Survey.{Tested, placement-check};
 ghost use Rattle.sight.specs.Sight.{sight-of, if-fine, looked, Sees};
 use cells::Cell;
@@ -51,23 +52,20 @@ fn sight_of(h: FirstHit) -> Sight
     }
 }
 
-// The adaptive first-hit call, from its pieces: were the whole call shared with the C interface, its answer would go through memory once more.
-fn first_hit(n: Counts, cells: &[u8], p: Cell, q: Cell) -> FirstHit
+// The adaptive walk between two cells that were looked up: they lie in the grid, so its tests are passed. It is made from its pieces: one function
+// shared with the adaptive call would be compiled apart, and the answer would go through memory once more.
+fn walked(n: Counts, cells: &[u8], p: Cell, q: Cell) -> FirstHit
+    requires { ⌜ walk-check n (length (now cells)) p q ≡ Fine ⌝ }
     ensures { λ r. ⌜ Finds Adaptive n (now (cells .entry)) p q r ⌝ }
 {
-    match routes::check_walk(n, cells.len(), p, q) {
-        Verdict::Refused(r) => FirstHit::Refused(r),
-        Verdict::Fine => {
-            let k = routes::route_of(n, p, q);
-            let stop = hits::walk_adaptive(cells, k, routes::first_spot(k));
-            hits::answer_of(cells, k, stop)
-        }
-    }
+    let k = routes::route_of(n, p, q);
+    let stop = hits::walk_adaptive(cells, k, routes::first_spot(k));
+    hits::answer_of(cells, k, stop)
 }
 
-// Where counts and placement passed their tests: the camera's refusal first, then the ball's.
+// Where shape and placement passed their tests: the camera's refusal first, then the ball's.
 fn look(n: Counts, cells: &[u8], at: Placement, camera: Point, ball: Point) -> Sight
-    requires { ⌜ Tested n at ⌝ }
+    requires { ⌜ (shape n (length (now cells)) ≡ Fine) × Tested n at ⌝ }
     ensures { λ r. ⌜ r ≡ looked n (now (cells .entry)) at camera ball ⌝ }
 {
     let from = sights::look_up(End::P, n, at, camera);
@@ -84,12 +82,12 @@ fn look(n: Counts, cells: &[u8], at: Placement, camera: Point, ball: Point) -> S
             Lookup::Cell(_) => Sight::Clear,
         };
     };
-    sight_of(first_hit(n, cells, p, q))
+    sight_of(walked(n, cells, p, q))
 }
 
-// Where the counts passed their test: refusal 7, then the lookups.
+// Where the shape passed its test: refusal 7, then the lookups.
 fn look_from(n: Counts, cells: &[u8], at: Placement, camera: Point, ball: Point) -> Sight
-    requires { ⌜ count-check n ≡ Fine ⌝ }
+    requires { ⌜ shape n (length (now cells)) ≡ Fine ⌝ }
     ensures { λ r. ⌜ r ≡ if-fine (placement-check at) (looked n (now (cells .entry)) at camera ball) ⌝ }
 {
     match sights::check_placement(at) {

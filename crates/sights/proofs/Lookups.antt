@@ -64,13 +64,19 @@ passed-cell : (v : Verdict) (l : Lookup) (c : cell.Cell) → passed v l ≡ Cell
 passed-cell Fine l c h = (refl, h)
 passed-cell (Fails r) l c h = absurd (let z : _≡_ {A = ℕ} 0 1 = cc in omega arith)
 
--- all tests are passed, the quotients lie inside, and the cell is where they lie
+-- the quotients lie inside, and the cell is where they lie
+pub look-given : (e : End) (n : Counts) (at : Placement) (p : Point) (c : cell.Cell) → Tested n at → look-up e n at p ≡ Cell c → AllInside n (quotients at p) × (c ≡ cell-at n (quotients at p))
+look-given e n at p c tested h =
+    let (fine, same) = passed-cell _ _ c (sym (look-up-is e n at p) ∙ h) in
+    (point-inside e n at p tested fine, cc)
+
+-- all tests are passed too
 pub cell-given : (n : Counts) (at : Placement) (p : Point) (c : cell.Cell) → cell-of n at p ≡ Cell c → Tested n at × AllInside n (quotients at p) × (c ≡ cell-at n (quotients at p))
 cell-given n at p c h =
     let (tests, looked) = passed-cell _ _ c (sym (cell-of-is n at p) ∙ h) in
     let tested : Tested n at = cell-tested n at p refl refl refl tests in
-    let (fine, same) = passed-cell _ _ c (sym (look-up-is P n at p) ∙ looked) in
-    (tested, point-inside P n at p tested fine, cc)
+    let (inside, same) = look-given P n at p c tested looked in
+    (tested, inside, same)
 
 pub cell-found : (n : Counts) (at : Placement) (p : Point) → Tested n at → point-check P n p (quotients at p) ≡ Fine → cell-of n at p ≡ Cell (cell-at n (quotients at p))
 cell-found n at p t h = cell-looked-up n at p (sym (t .counts)) (sym (t .placed)) refl refl (sym (lookup-found P n at p refl refl h refl))

@@ -99,3 +99,11 @@ accepted n bytes p q h =
       p-in = check-inside P n p (fine-first (grid-check P n p) _ ends);
       q-in = check-inside Q n q (fine-rest (grid-check P n p) _ ends);
     }
+
+-- and the other way: ends inside are not refused
+inside-fine : (e : End) (n : Counts) (c : Cell) → InGrid n c → grid-check e n c ≡ Fine
+inside-fine e n c h = rw (h .inside X, h .inside Y, h .inside Z)
+
+pub walk-fine : (n : Counts) (bytes : ℕ) (p q : Cell) → Accepted n bytes p q → walk-check n bytes p q ≡ Fine
+unfolding walk-check
+walk-fine n bytes p q a = rw (a .shaped, inside-fine P n p (a .p-in), inside-fine Q n q (a .q-in))

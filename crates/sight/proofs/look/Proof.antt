@@ -1,6 +1,7 @@
 -- `sight::look` meets its contract. Assumes nothing.
 use mathlib.Core.Path.{sym, _∙_}
-use Rattle.sight.proofs.Seen.{camera-refused, ball-refused, walked}
+use Rattle.sight.proofs.Seen.{camera-refused, ball-refused, both-found}
+use Rattle.sight.proofs.Walkable.{walkable}
 use borrow.Author.Needs.{needs}
 use Rattle.sight.proofs.look.Statement.{statement}
 use Rattle.sight.proofs.look.Tie as tie
@@ -54,8 +55,13 @@ returns-3 c =
 returns-4 : tie.Need-returns-4
 returns-4 c = search needs
 
-first-hit-requires : tie.Need-first-hit-requires
-first-hit-requires c κs = search needs
+walked-requires : tie.Need-walked-requires
+walked-requires c κs =
+    let s = c .before .before .before .before .before .before .before .before .before in
+    let a = s .args in
+    walkable (a .n) _ (a .at) (a .camera) (a .ball) _ _ (s .pre .0) (s .pre .1)
+    (sym (c .before .before .before .before .before .before .before .look-up .ensures) ∙ c .before .before .before .before .before .from .given .1)
+    (sym (c .before .before .before .look-up2 .ensures) ∙ c .before .to .given .1)
 
 sight-of-requires : tie.Need-sight-of-requires
 sight-of-requires c κs = search needs
@@ -65,10 +71,10 @@ returns-5 c =
     let a = c .before .before .before .before .before .before .before .before .before .before .before .args in
     c .sight-of .ensures ∙
     sym
-    (walked (a .n) (a .cells .now) (a .at) (a .camera) (a .ball)
+    (both-found (a .n) (a .cells .now) (a .at) (a .camera) (a .ball)
     (c .before .before .before .before .before .before .before .before .before .look-up .ensures) (c .before .before .before .before .before .before .before .from .given .1)
     (c .before .before .before .before .before .look-up2 .ensures) (c .before .before .before .to .given .1)
-    (c .before .first-hit .ensures .says))
+    (c .before .walked .ensures .says))
 
 pub look-spec : {M : Type 1} → statement M
 look-spec =
@@ -88,6 +94,6 @@ look-spec =
     enum-told-2
     returns-3
     returns-4
-    first-hit-requires
+    walked-requires
     sight-of-requires
     returns-5)

@@ -1,5 +1,6 @@
 -- `sight::look_from` meets its contract. Assumes nothing.
 use mathlib.Core.Path.{sym, _∙_}
+use Rattle.grids.proofs.Shapes.{shape-counts}
 use borrow.Author.Needs.{needs}
 use Rattle.sight.proofs.look_from.Statement.{statement}
 use Rattle.sight.proofs.look_from.Tie as tie
@@ -14,7 +15,9 @@ enum-told : tie.Need-enum-told
 enum-told c = search needs
 
 look-requires : tie.Need-look-requires
-look-requires c κs = record { counts = c .before .before .before .before .pre; placed = sym (c .before .before .check-placement .ensures) ∙ c .enum-told .given .1 }
+look-requires c κs =
+    let shaped = c .before .before .before .before .pre in
+    (shaped, record { counts = shape-counts _ _ shaped; placed = sym (c .before .before .check-placement .ensures) ∙ c .enum-told .given .1 })
 
 returns : tie.Need-returns
 returns c = rw (sym (c .before .before .before .check-placement .ensures) ∙ c .before .r .given .1)

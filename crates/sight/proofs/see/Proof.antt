@@ -1,6 +1,5 @@
 -- `sight::see` meets its contract. Assumes nothing.
 use mathlib.Core.Path.{sym, _∙_}
-use Rattle.grids.proofs.Shapes.{shape-counts}
 use Rattle.sight.proofs.Seen.{sight-is}
 use borrow.Author.Needs.{needs}
 use Rattle.sight.proofs.see.Statement.{statement}
@@ -16,7 +15,7 @@ enum-told : tie.Need-enum-told
 enum-told c = search needs
 
 look-from-requires : tie.Need-look-from-requires
-look-from-requires c κs = shape-counts _ _ (sym (c .before .before .shape .ensures) ∙ c .enum-told .given .1)
+look-from-requires c κs = sym (c .before .before .shape .ensures) ∙ c .enum-told .given .1
 
 returns : tie.Need-returns
 returns c =
