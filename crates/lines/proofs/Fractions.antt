@@ -1,4 +1,4 @@
--- Crossings at the fractions (first + step·i) / length, in the order of their fractions and, where these are equal, by rank. For every course
+-- Crossings at the fractions (first + step·i) / lower, in the order of their fractions and, where these are equal, by rank. For every course
 -- whose ends lie inside their cells, and every order of preference: the order has the laws of an order; the crossings up to n/d lead to a place
 -- on the line; no cell whose inside meets the segment is left out; each cell is touched. Assumes nothing.
 use mathlib.Core.Path.{_≡_, refl, sym, ap, _∙_}
