@@ -1,4 +1,4 @@
--- Tests in a row: where all is fine, each of them was. Assumes nothing.
+-- Tests in a row: where all is fine, each of them was, and what follows a test counts only where it was. Assumes nothing.
 use mathlib.Core.Path.{_≡_, refl}
 use mathlib.Core.Bool.{Bool, true, false}
 use Prim.Native.Nat.{ℕ}
@@ -25,3 +25,14 @@ passed false r h = refl
 
 pub each-fine : (v w : Verdict) → (v then w) ≡ Fine → (v ≡ Fine) × (w ≡ Fine)
 each-fine v w h = (fine-first v w h, fine-rest v w h)
+
+-- what follows a verdict counts only where it is fine
+pub then-same : (v : Verdict) {a b : Verdict} → (v ≡ Fine → a ≡ b) → (v then a) ≡ (v then b)
+then-same Fine h = h refl
+then-same (Refused r) h = refl
+
+-- four in a row, the last of them parted off
+pub then-four : (u v w x : Verdict) → (u then v then w then x) ≡ ((u then v then w) then x)
+then-four (Refused r) v w x = refl
+then-four Fine (Refused r) w x = refl
+then-four Fine Fine w x = refl

@@ -69,15 +69,12 @@ use Rattle.oatmarten.specs.GridCalls.{flat-verdict, flat-complete, flat-part}
 use Rattle.oatmarten.specs.WalkCalls.{flat-hit}
 use Rattle.oatmarten.specs.SightCalls.{flat-found, flat-sight}
 use Rattle.oatmarten.specs.RecordCalls.{flat-venue, flat-pair, flat-written}
+use Rattle.claims.proofs.Grids.{one}
 use Rattle.claims.specs.Exports.{ExportsOnce, RefusedUntouched, number-told, Numbered, InTable, RefusalNumbers, FlatApart, WrongExports}
 
 -- ---- one answer, one final memory
 
--- a contract `r ≡ f of the inputs` admits one answer
-one : {A : Type 0} {f : A} (r s : A) → r ≡ f → s ≡ f → r ≡ s
-one r s p q = p ∙ sym q
-
--- and a flattening of such an answer is one
+-- the flattening of an answer that is one is one
 flat-one : {A F : Type 0} (flat : A → F) {a b c : A} (r s : F) → r ≡ flat a → a ≡ c → s ≡ flat b → b ≡ c → r ≡ s
 flat-one flat r s p e q f = p ∙ ap flat (e ∙ sym f) ∙ sym q
 

@@ -21,7 +21,7 @@ use Rattle.grids.proofs.Marking.{marked-length, marked-keeps, marked-same, mark
 use Rattle.claims.specs.Grids.{OneAnswer, BytePlaces, Places, Layers, Marking, MarkedCall, Complete, ShutOut}
 
 -- a contract `r ≡ f of the inputs` admits one answer
-one : {A : Type 0} {f : A} (r s : A) → r ≡ f → s ≡ f → r ≡ s
+pub one : {A : Type 0} {f : A} (r s : A) → r ≡ f → s ≡ f → r ≡ s
 one r s p q = p ∙ sym q
 
 pub one-answer : OneAnswer

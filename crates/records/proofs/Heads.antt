@@ -13,7 +13,7 @@ use Rattle.cells.specs.declared.Verdict.{Verdict}
 use Rattle.cells.specs.declared.Verdict.the-variants.{Fine, Refused}
 use Rattle.cells.specs.Checks.{refuse-when, _then_}
 use Rattle.grids.specs.Grid.{shape}
-use Rattle.cells.proofs.Checks.{fine-first, fine-rest, each-fine, passed}
+use Rattle.cells.proofs.Checks.{fine-first, fine-rest, each-fine, passed, then-same, then-four}
 use Rattle.records.specs.declared.Venue.{Venue}
 use Rattle.records.specs.declared.VenueRead.the-variants.{Read}
 use Rattle.records.specs.Records.{length-field, announced, version-of, whole-check, venue-version, venue-head, venue-in, venue-check, venue-by, venue-read, pair-version, pair-length, pair-check}
@@ -31,19 +31,6 @@ head-most version = lit< tt
 pub pair-least : (version : ℕ) → 13 ≤ pair-length version
 unfolding pair-length
 pair-least version = lit< tt
-
--- ---- tests in a row
-
--- what follows a verdict counts only where it is fine
-pub then-same : (v : Verdict) {a b : Verdict} → (v ≡ Fine → a ≡ b) → (v then a) ≡ (v then b)
-then-same Fine h = h refl
-then-same (Refused r) h = refl
-
--- four in a row, the last of them parted off
-then-four : (u v w x : Verdict) → (u then v then w then x) ≡ ((u then v then w) then x)
-then-four (Refused r) v w x = refl
-then-four Fine (Refused r) w x = refl
-then-four Fine Fine w x = refl
 
 -- ---- what is known of a record that was not refused
 
