@@ -1,4 +1,4 @@
--- `sight::look` meets its contract. Assumes nothing.
+-- The lookups decide as the definition has it; where both give a cell, the walk between them passes its tests and tells the rest. Assumes nothing.
 use mathlib.Core.Path.{sym, _∙_}
 use Rattle.sight.proofs.Seen.{camera-refused, ball-refused, both-found}
 use Rattle.sight.proofs.Walkable.{walkable}

@@ -1,4 +1,4 @@
--- `sight::see` meets its contract. Assumes nothing.
+-- The shape's verdict decides, and where it is fine the placement and the lookups. Assumes nothing.
 use mathlib.Core.Path.{sym, _∙_}
 use Rattle.sight.proofs.Seen.{sight-is}
 use borrow.Author.Needs.{needs}

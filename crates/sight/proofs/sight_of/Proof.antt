@@ -1,4 +1,4 @@
--- `sight::told_by` meets its contract, case by case. Assumes nothing.
+-- Each case of the walk's answer is the case that the definition makes of it. Assumes nothing.
 use borrow.Author.Needs.{needs}
 use Rattle.sight.proofs.sight_of.Statement.{statement}
 use Rattle.sight.proofs.sight_of.Tie as tie
