@@ -36,23 +36,24 @@ use Rattle.walks.specs.declared.Hit.{Hit}
 use Rattle.walks.specs.declared.FirstHit.{FirstHit}
 use Rattle.walks.specs.declared.FirstHit.the-variants.{Clear, Hit as Blocked, Refused as NotWalked}
 use Rattle.walks.specs.Answers.{told-hit}
-use Rattle.sights.specs.declared.Lookup.{Lookup}
-use Rattle.sights.specs.declared.Lookup.the-variants.{Cell as At, Refused as NotFound}
-use Rattle.sights.specs.Survey.{told-lookup}
+use Rattle.survey.specs.declared.Lookup.{Lookup}
+use Rattle.survey.specs.declared.Lookup.the-variants.{Cell as At, Refused as NotFound}
+use Rattle.survey.specs.Survey.{told-lookup}
 use Rattle.sight.specs.declared.Block.{Block}
 use Rattle.sight.specs.declared.Sight.{Sight}
 use Rattle.sight.specs.declared.Sight.the-variants.{Clear as Seen, Blocked as InTheWay, Refused as NotSeen}
 use Rattle.sight.specs.Sight.{told-sight}
-use Rattle.records.specs.declared.Venue.{Venue}
-use Rattle.records.specs.declared.VenueRead.{VenueRead}
-use Rattle.records.specs.declared.VenueRead.the-variants.{Read as ReadVenue, Refused as NoVenue}
-use Rattle.records.specs.declared.Pair.{Pair}
-use Rattle.records.specs.declared.PairRead.{PairRead}
-use Rattle.records.specs.declared.PairRead.the-variants.{Read as ReadPair, Refused as NoPair}
-use Rattle.records.specs.Records.{venue-head, told-venue, told-pair}
-use Rattle.venues.specs.declared.Written.{Written}
-use Rattle.venues.specs.declared.Written.the-variants.{Wrote, Refused as NotWritten}
-use Rattle.venues.specs.Writing.{write-check, written, after-writing, told-written}
+use Rattle.records.specs.declared.venues.Venue.{Venue}
+use Rattle.records.specs.declared.venues.VenueRead.{VenueRead}
+use Rattle.records.specs.declared.venues.VenueRead.the-variants.{Read as ReadVenue, Refused as NoVenue}
+use Rattle.records.specs.declared.pairs.Pair.{Pair}
+use Rattle.records.specs.declared.pairs.PairRead.{PairRead}
+use Rattle.records.specs.declared.pairs.PairRead.the-variants.{Read as ReadPair, Refused as NoPair}
+use Rattle.records.specs.Venues.{venue-head, told-venue}
+use Rattle.records.specs.Pairs.{told-pair}
+use Rattle.records.specs.declared.writing.Written.{Written}
+use Rattle.records.specs.declared.writing.Written.the-variants.{Wrote, Refused as NotWritten}
+use Rattle.records.specs.Writing.{write-check, written, after-writing, told-written}
 use Rattle.oatmarten.specs.declared.line_calls.OatListed.{OatListed}
 use Rattle.oatmarten.specs.declared.grid_calls.OatVerdict.{OatVerdict}
 use Rattle.oatmarten.specs.declared.grid_calls.OatComplete.{OatComplete}

@@ -14,18 +14,18 @@ use Rattle.cells.specs.declared.Axis.the-variants.{X, Y, Z}
 use Rattle.cells.specs.Refusals.{Told, at-end}
 use Rattle.cells.specs.Touching.{on}
 use Rattle.lines.proofs.Cells.{same-cell}
-use Rattle.sights.specs.declared.Lookup.the-variants.{Cell}
-use Rattle.sights.specs.declared.Placement.{Placement}
-use Rattle.sights.specs.declared.Point.{Point}
-use Rattle.sights.specs.Quotient.{outside, cell-number}
-use Rattle.sights.specs.Search.{Inside}
-use Rattle.sights.specs.Survey.{Tested, quotients, cell-at, cell-of, told-lookup}
-use Rattle.sights.proofs.Whole.{whole-exact}
-use Rattle.sights.proofs.Finite.{quotient-no-nan}
-use Rattle.sights.proofs.Numbers.{one-number, number-whole-part, number-found, number-in, cell-not-outside, outside-exactly}
+use Rattle.survey.specs.declared.Lookup.the-variants.{Cell}
+use Rattle.survey.specs.declared.Placement.{Placement}
+use Rattle.survey.specs.declared.Point.{Point}
+use Rattle.survey.specs.Quotient.{outside, cell-number}
+use Rattle.survey.specs.Search.{Inside}
+use Rattle.survey.specs.Survey.{Tested, quotients, cell-at, cell-of, told-lookup}
+use Rattle.survey.proofs.Whole.{whole-exact}
+use Rattle.survey.proofs.Finite.{quotient-no-nan}
+use Rattle.survey.proofs.Numbers.{one-number, number-whole-part, number-found, number-in, cell-not-outside, outside-exactly}
 use Rattle.grids.proofs.Shapes.{Counted, counted}
-use Rattle.sights.proofs.Survey.{placed, point-fine}
-use Rattle.sights.proofs.Lookups.{cell-given, cell-found}
+use Rattle.survey.proofs.Survey.{placed, point-fine}
+use Rattle.survey.proofs.Lookups.{cell-given, cell-found}
 use Rattle.claims.specs.Points.{OneAnswer, Coordinate, InItsCell, Finite, TheCell, Outside, Exact, Shares, Refuted, Every, table, cube, placement, metres, tenths, point, cell-is, refused}
 
 pub one-answer : (n : Counts) (at : Placement) (p : Point) → OneAnswer n at p

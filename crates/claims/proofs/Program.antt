@@ -7,10 +7,12 @@ use lib.ListN.{length, take, drop, replicate, length-drop}
 use lib.Seq.{take-at}
 use borrow.Author.Tests.{eq-eqb}
 use Rattle.cells.specs.declared.Counts.{Counts}
-use Rattle.records.specs.declared.Venue.{Venue}
-use Rattle.records.specs.declared.VenueRead.{VenueRead}
-use Rattle.records.specs.declared.VenueRead.the-variants.{Read, Refused as NoVenue}
-use Rattle.records.specs.Records.{whole-check, venue-check, venue-read, venue-cells, pair-check, pair-read}
+use Rattle.records.specs.declared.venues.Venue.{Venue}
+use Rattle.records.specs.declared.venues.VenueRead.{VenueRead}
+use Rattle.records.specs.declared.venues.VenueRead.the-variants.{Read, Refused as NoVenue}
+use Rattle.records.specs.Heads.{whole-check}
+use Rattle.records.specs.Venues.{venue-check, venue-read, venue-cells}
+use Rattle.records.specs.Pairs.{pair-check, pair-read}
 use Rattle.program.specs.declared.Next.{Next}
 use Rattle.program.specs.declared.Next.the-variants.{On, Over}
 use Rattle.program.specs.declared.Step.{Step}

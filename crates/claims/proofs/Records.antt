@@ -13,17 +13,19 @@ use Rattle.cells.specs.declared.Verdict.the-variants.{Fine, Refused as Fails}
 use Rattle.cells.proofs.Signed.{up}
 use Rattle.grids.specs.Grid.{size, shape}
 use Rattle.grids.proofs.Shapes.{shaped}
-use Rattle.records.specs.declared.Pair.{Pair}
-use Rattle.records.specs.declared.Venue.{Venue}
-use Rattle.records.specs.declared.VenueRead.{VenueRead}
-use Rattle.records.specs.declared.VenueRead.the-variants.{Read}
-use Rattle.records.specs.Records.{length-field, announced, cells-from, whole-check, venue-version, venue-head, venue-check, venue-read, venue-cells, signed, pair-version, pair-length, pair-in, pair-check, pair-read, counts-at}
-use Rattle.records.proofs.Heads.{venue-accepted}
+use Rattle.records.specs.declared.pairs.Pair.{Pair}
+use Rattle.records.specs.declared.venues.Venue.{Venue}
+use Rattle.records.specs.declared.venues.VenueRead.{VenueRead}
+use Rattle.records.specs.declared.venues.VenueRead.the-variants.{Read}
+use Rattle.records.specs.Heads.{length-field, announced, whole-check}
+use Rattle.records.specs.Venues.{cells-from, venue-version, venue-head, venue-check, venue-read, venue-cells, counts-at}
+use Rattle.records.specs.Pairs.{signed, pair-version, pair-length, pair-in, pair-check, pair-read}
+use Rattle.records.proofs.HeadTests.{venue-accepted}
 use Rattle.records.proofs.Following.{venue-unread, cells-unread, pair-unread}
-use Rattle.venues.specs.declared.Written.{Written}
-use Rattle.venues.specs.declared.Written.the-variants.{Wrote, Refused as NotWritten}
-use Rattle.venues.specs.Writing.{written-version, head-bytes, write-check, written, after-writing, WritesVenue}
-use Rattle.venues.proofs.RoundTrip.{read-back, cells-back, front-written, record-fits, same-bytes}
+use Rattle.records.specs.declared.writing.Written.{Written}
+use Rattle.records.specs.declared.writing.Written.the-variants.{Wrote, Refused as NotWritten}
+use Rattle.records.specs.Writing.{written-version, head-bytes, write-check, written, after-writing, WritesVenue}
+use Rattle.records.proofs.RoundTrip.{read-back, cells-back, front-written, record-fits, same-bytes}
 use Rattle.claims.specs.Example.{example-counts, example-cells}
 use Rattle.claims.specs.Records.{ReadsVenue, GivesCells, OneAnswer, Right, Accepted, LengthTested, EmptyPart, ReadBack, WrittenBack, NotLookedAt, example-venue, example-room, minus-one-pair, Refuses, WritesNothing, ReadsUnsigned, WrongRecords}
 

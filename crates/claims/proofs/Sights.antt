@@ -19,11 +19,11 @@ use Rattle.walks.specs.declared.Walker.the-variants.{Adaptive}
 use Rattle.walks.specs.declared.FirstHit.{FirstHit}
 use Rattle.walks.specs.declared.FirstHit.the-variants.{Clear as Open, Hit, Refused as NotWalked}
 use Rattle.walks.specs.Answers.{first-hit}
-use Rattle.sights.specs.declared.Lookup.{Lookup}
-use Rattle.sights.specs.declared.Lookup.the-variants.{Cell, Refused as NoCell}
-use Rattle.sights.specs.declared.Placement.{Placement}
-use Rattle.sights.specs.declared.Point.{Point}
-use Rattle.sights.specs.Survey.{placement-check, look-up}
+use Rattle.survey.specs.declared.Lookup.{Lookup}
+use Rattle.survey.specs.declared.Lookup.the-variants.{Cell, Refused as NoCell}
+use Rattle.survey.specs.declared.Placement.{Placement}
+use Rattle.survey.specs.declared.Point.{Point}
+use Rattle.survey.specs.Survey.{placement-check, look-up}
 use Rattle.sight.specs.declared.Block.{Block}
 use Rattle.sight.specs.declared.Sight.{Sight}
 use Rattle.sight.specs.declared.Sight.the-variants.{Clear, Blocked, Refused}

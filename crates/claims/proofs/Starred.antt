@@ -4,7 +4,9 @@ use lib.Ieee.{le, lt, ofInt, ofBits, div, sub}
 use Rattle.lines.specs.Lines.{six-line, line-26}
 use Rattle.grids.specs.Grid.{shape}
 use Rattle.grids.specs.Marks.{marked}
-use Rattle.records.specs.Records.{whole-check, venue-version, venue-head, venue-check, venue-read, venue-cells, signed, pair-version, pair-length, pair-check, pair-read}
+use Rattle.records.specs.Heads.{whole-check}
+use Rattle.records.specs.Venues.{venue-version, venue-head, venue-check, venue-read, venue-cells}
+use Rattle.records.specs.Pairs.{signed, pair-version, pair-length, pair-check, pair-read}
 use Rattle.walks.specs.Answers.{first-hit}
 use Rattle.texts.specs.Text.{decimal, hit-line, clear-line}
 use Rattle.program.specs.Program.{beyond, output}

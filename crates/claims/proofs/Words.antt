@@ -6,10 +6,9 @@ use Rattle.cells.proofs.Refusals.{told-one, told-verdict-one}
 use Rattle.lists.proofs.Told.{told-listed-one}
 use Rattle.grids.proofs.Told.{told-part-one, told-completeness-one}
 use Rattle.walks.proofs.Told.{told-hit-one}
-use Rattle.sights.proofs.Told.{told-lookup-one}
+use Rattle.survey.proofs.Told.{told-lookup-one}
 use Rattle.sight.proofs.Told.{told-sight-one}
-use Rattle.records.proofs.Told.{told-venue-one, told-pair-one}
-use Rattle.venues.proofs.Told.{told-written-one}
+use Rattle.records.proofs.Told.{told-venue-one, told-pair-one, told-written-one}
 use Rattle.claims.specs.Words.{ToldApart, OneNumber, WrongNumbers}
 
 pub told-apart : ToldApart

@@ -21,15 +21,16 @@ use Rattle.grids.specs.Marks.{completeness, told-completeness}
 use Rattle.walks.specs.declared.Walker.{Walker}
 use Rattle.walks.specs.declared.FirstHit.{FirstHit}
 use Rattle.walks.specs.Answers.{first-hit, told-hit}
-use Rattle.sights.specs.declared.Lookup.{Lookup}
-use Rattle.sights.specs.Survey.{cell-of, told-lookup}
+use Rattle.survey.specs.declared.Lookup.{Lookup}
+use Rattle.survey.specs.Survey.{cell-of, told-lookup}
 use Rattle.sight.specs.declared.Sight.{Sight}
 use Rattle.sight.specs.Sight.{sight, told-sight}
-use Rattle.records.specs.declared.VenueRead.{VenueRead}
-use Rattle.records.specs.declared.PairRead.{PairRead}
-use Rattle.records.specs.Records.{venue-read, pair-read, told-venue, told-pair}
-use Rattle.venues.specs.declared.Written.{Written}
-use Rattle.venues.specs.Writing.{told-written}
+use Rattle.records.specs.declared.venues.VenueRead.{VenueRead}
+use Rattle.records.specs.declared.pairs.PairRead.{PairRead}
+use Rattle.records.specs.Venues.{venue-read, told-venue}
+use Rattle.records.specs.Pairs.{pair-read, told-pair}
+use Rattle.records.specs.declared.writing.Written.{Written}
+use Rattle.records.specs.Writing.{told-written}
 use Rattle.oatmarten.specs.declared.inputs.OatCell.{OatCell}
 use Rattle.oatmarten.specs.declared.inputs.OatCounts.{OatCounts}
 use Rattle.oatmarten.specs.declared.inputs.OatPlacement.{OatPlacement}

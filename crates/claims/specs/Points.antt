@@ -17,12 +17,12 @@ use Rattle.cells.specs.declared.Part.{Part}
 use Rattle.cells.specs.declared.Part.the-variants.{OriginX, Edge}
 use Rattle.cells.specs.declared.Axis.{Axis}
 use Rattle.cells.specs.Refusals.{Told, at-end}
-use Rattle.sights.specs.declared.Lookup.{Lookup}
-use Rattle.sights.specs.declared.Lookup.the-variants.{Cell}
-use Rattle.sights.specs.declared.Placement.{Placement}
-use Rattle.sights.specs.declared.Point.{Point}
-use Rattle.sights.specs.Quotient.{as-f64, outside, in-cell, share-of}
-use Rattle.sights.specs.Survey.{Tested, quotients, cell-of, told-lookup}
+use Rattle.survey.specs.declared.Lookup.{Lookup}
+use Rattle.survey.specs.declared.Lookup.the-variants.{Cell}
+use Rattle.survey.specs.declared.Placement.{Placement}
+use Rattle.survey.specs.declared.Point.{Point}
+use Rattle.survey.specs.Quotient.{as-f64, outside, in-cell, share-of}
+use Rattle.survey.specs.Survey.{Tested, quotients, cell-of, told-lookup}
 
 -- 1. One answer for each input.
 pub record OneAnswer (n : Counts) (at : Placement) (p : Point) : Type 0 where

@@ -4,8 +4,8 @@ use mathlib.Core.Path.{_≡_}
 use mathlib.Core.List.{List, [], _∷_, _++_}
 use lib.ListN.{take}
 use Rattle.cells.specs.declared.Counts.{Counts}
-use Rattle.records.specs.declared.Venue.{Venue}
-use Rattle.records.specs.declared.VenueRead.the-variants.{Read}
+use Rattle.records.specs.declared.venues.Venue.{Venue}
+use Rattle.records.specs.declared.venues.VenueRead.the-variants.{Read}
 use Rattle.program.specs.declared.Next.the-variants.{On, Over}
 use Rattle.program.specs.declared.Step.{Step}
 use Rattle.program.specs.Program.{venue-most, pair-most, venue-said, pair-said, output, frame, after-frame, Says}

@@ -10,16 +10,18 @@ use Rattle.cells.specs.declared.Refusal.{Refusal}
 use Rattle.cells.specs.declared.Refusal.the-variants.{Bytes}
 use Rattle.cells.specs.declared.Verdict.the-variants.{Fine}
 use Rattle.grids.specs.Grid.{size, count-check, shape}
-use Rattle.records.specs.declared.Venue.{Venue}
-use Rattle.records.specs.declared.VenueRead.{VenueRead}
-use Rattle.records.specs.declared.VenueRead.the-variants.{Read, Refused as NoVenue}
-use Rattle.records.specs.declared.Pair.{Pair}
-use Rattle.records.specs.declared.PairRead.{PairRead}
-use Rattle.records.specs.declared.PairRead.the-variants.{Read as ReadPair, Refused as NoPair}
-use Rattle.records.specs.Records.{length-field, announced, version-of, cells-from, venue-read, venue-cells, pair-read, counts-at}
-use Rattle.venues.specs.declared.Written.{Written}
-use Rattle.venues.specs.declared.Written.the-variants.{Wrote, Refused as NotWritten}
-use Rattle.venues.specs.Writing.{written-version, WritesVenue}
+use Rattle.records.specs.declared.venues.Venue.{Venue}
+use Rattle.records.specs.declared.venues.VenueRead.{VenueRead}
+use Rattle.records.specs.declared.venues.VenueRead.the-variants.{Read, Refused as NoVenue}
+use Rattle.records.specs.declared.pairs.Pair.{Pair}
+use Rattle.records.specs.declared.pairs.PairRead.{PairRead}
+use Rattle.records.specs.declared.pairs.PairRead.the-variants.{Read as ReadPair, Refused as NoPair}
+use Rattle.records.specs.Heads.{length-field, announced, version-of}
+use Rattle.records.specs.Venues.{cells-from, venue-read, venue-cells, counts-at}
+use Rattle.records.specs.Pairs.{pair-read}
+use Rattle.records.specs.declared.writing.Written.{Written}
+use Rattle.records.specs.declared.writing.Written.the-variants.{Wrote, Refused as NotWritten}
+use Rattle.records.specs.Writing.{written-version, WritesVenue}
 use Rattle.claims.specs.Example.{example-counts, example-cells}
 
 -- ---- the contracts of the reading calls

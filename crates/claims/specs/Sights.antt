@@ -15,10 +15,10 @@ use Rattle.grids.specs.Marks.{complete}
 use Rattle.walks.specs.declared.Walker.the-variants.{Adaptive}
 use Rattle.walks.specs.declared.FirstHit.{FirstHit}
 use Rattle.walks.specs.Answers.{Finds}
-use Rattle.sights.specs.declared.Lookup.the-variants.{Cell, Refused as NoCell}
-use Rattle.sights.specs.declared.Placement.{Placement}
-use Rattle.sights.specs.declared.Point.{Point}
-use Rattle.sights.specs.Survey.{placement-check, look-up}
+use Rattle.survey.specs.declared.Lookup.the-variants.{Cell, Refused as NoCell}
+use Rattle.survey.specs.declared.Placement.{Placement}
+use Rattle.survey.specs.declared.Point.{Point}
+use Rattle.survey.specs.Survey.{placement-check, look-up}
 use Rattle.sight.specs.declared.Sight.{Sight}
 use Rattle.sight.specs.declared.Sight.the-variants.{Clear, Refused}
 use Rattle.sight.specs.Sight.{sight-of, Sees}

@@ -12,15 +12,16 @@ use Rattle.cells.specs.Refusals.{Told}
 use Rattle.lines.specs.Preference.{rule-1}
 use Rattle.lines.specs.Lines.{six-line, line-26}
 use Rattle.grids.specs.Marks.{marked}
-use Rattle.records.specs.Records.{venue-read, venue-cells, told-venue, pair-read, told-pair}
+use Rattle.records.specs.Venues.{venue-read, venue-cells, told-venue}
+use Rattle.records.specs.Pairs.{pair-read, told-pair}
 use Rattle.program.specs.Program.{output}
 use Rattle.walks.specs.declared.Walker.{Walker}
 use Rattle.walks.specs.declared.Walker.the-variants.{Plain, Adaptive}
 use Rattle.walks.specs.declared.Hit.{Hit}
 use Rattle.walks.specs.Answers.{first-hit, told-hit}
-use Rattle.sights.specs.declared.Placement.{Placement}
-use Rattle.sights.specs.declared.Point.{Point}
-use Rattle.sights.specs.Quotient.{as-f64}
+use Rattle.survey.specs.declared.Placement.{Placement}
+use Rattle.survey.specs.declared.Point.{Point}
+use Rattle.survey.specs.Quotient.{as-f64}
 use Rattle.sight.specs.Sight.{sight, told-sight}
 use Rattle.claims.specs.Points.{metres, placement, point}
 use Rattle.claims.specs.Example.{counts, at, example-counts, example-cells, marked-cells}

@@ -16,15 +16,16 @@ use Rattle.grids.specs.Grid.{told-part}
 use Rattle.grids.specs.Marks.{told-completeness}
 use Rattle.walks.specs.declared.FirstHit.{FirstHit}
 use Rattle.walks.specs.Answers.{told-hit}
-use Rattle.sights.specs.declared.Lookup.{Lookup}
-use Rattle.sights.specs.Survey.{told-lookup}
+use Rattle.survey.specs.declared.Lookup.{Lookup}
+use Rattle.survey.specs.Survey.{told-lookup}
 use Rattle.sight.specs.declared.Sight.{Sight}
 use Rattle.sight.specs.Sight.{told-sight}
-use Rattle.records.specs.declared.VenueRead.{VenueRead}
-use Rattle.records.specs.declared.PairRead.{PairRead}
-use Rattle.records.specs.Records.{told-venue, told-pair}
-use Rattle.venues.specs.declared.Written.{Written}
-use Rattle.venues.specs.Writing.{told-written}
+use Rattle.records.specs.declared.venues.VenueRead.{VenueRead}
+use Rattle.records.specs.declared.pairs.PairRead.{PairRead}
+use Rattle.records.specs.Venues.{told-venue}
+use Rattle.records.specs.Pairs.{told-pair}
+use Rattle.records.specs.declared.writing.Written.{Written}
+use Rattle.records.specs.Writing.{told-written}
 
 pub record ToldApart : Type 0 where
   pub refusal : (r s : Refusal) → told r ≡ told s → r ≡ s

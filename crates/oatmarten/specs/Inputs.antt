@@ -5,8 +5,8 @@ use Rattle.oatmarten.specs.declared.inputs.OatCell.{OatCell}
 use Rattle.oatmarten.specs.declared.inputs.OatCounts.{OatCounts}
 use Rattle.oatmarten.specs.declared.inputs.OatPlacement.{OatPlacement}
 use Rattle.oatmarten.specs.declared.inputs.OatPoint.{OatPoint}
-use Rattle.sights.specs.declared.Placement.{Placement}
-use Rattle.sights.specs.declared.Point.{Point}
+use Rattle.survey.specs.declared.Placement.{Placement}
+use Rattle.survey.specs.declared.Point.{Point}
 
 -- the cell that C's struct means
 abbrev pub as-cell : OatCell → Cell

@@ -7,13 +7,13 @@ use Rattle.cells.specs.declared.Counts.{Counts}
 use Rattle.oatmarten.specs.declared.record_calls.OatVenue.{OatVenue}
 use Rattle.oatmarten.specs.declared.record_calls.OatPair.{OatPair}
 use Rattle.oatmarten.specs.declared.record_calls.OatWritten.{OatWritten}
-use Rattle.records.specs.declared.VenueRead.{VenueRead}
-use Rattle.records.specs.declared.VenueRead.the-variants.{Read as ReadVenue, Refused as NoVenue}
-use Rattle.records.specs.declared.PairRead.{PairRead}
-use Rattle.records.specs.declared.PairRead.the-variants.{Read as ReadPair, Refused as NoPair}
-use Rattle.venues.specs.declared.Written.{Written}
-use Rattle.venues.specs.declared.Written.the-variants.{Wrote, Refused as NotWritten}
-use Rattle.venues.specs.Writing.{WritesVenue}
+use Rattle.records.specs.declared.venues.VenueRead.{VenueRead}
+use Rattle.records.specs.declared.venues.VenueRead.the-variants.{Read as ReadVenue, Refused as NoVenue}
+use Rattle.records.specs.declared.pairs.PairRead.{PairRead}
+use Rattle.records.specs.declared.pairs.PairRead.the-variants.{Read as ReadPair, Refused as NoPair}
+use Rattle.records.specs.declared.writing.Written.{Written}
+use Rattle.records.specs.declared.writing.Written.the-variants.{Wrote, Refused as NotWritten}
+use Rattle.records.specs.Writing.{WritesVenue}
 use Rattle.oatmarten.specs.Refusals.{flat-refusal}
 
 abbrev pub flat-venue : VenueRead → OatVenue

@@ -2,12 +2,12 @@
 use Prim.Native.Nat.{ℕ}
 use lib.IntN.{pos}
 use Rattle.oatmarten.specs.declared.sight_calls.OatFound.{OatFound}
-use Rattle.sights.specs.declared.Lookup.{Lookup}
-use Rattle.sights.specs.declared.Lookup.the-variants.{Cell as At, Refused as NotFound}
+use Rattle.survey.specs.declared.Lookup.{Lookup}
+use Rattle.survey.specs.declared.Lookup.the-variants.{Cell as At, Refused as NotFound}
 use Rattle.sight.specs.declared.Sight.{Sight}
 use Rattle.sight.specs.declared.Sight.the-variants.{Clear as Seen, Blocked as InTheWay, Refused as NotSeen}
 use Rattle.oatmarten.specs.declared.sight_calls.OatSight.{OatSight}
-use Rattle.sights.specs.Quotient.{as-f64}
+use Rattle.survey.specs.Quotient.{as-f64}
 use Rattle.oatmarten.specs.Refusals.{flat-refusal}
 
 abbrev pub flat-found : Lookup → OatFound

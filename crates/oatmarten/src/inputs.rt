@@ -3,8 +3,8 @@ ghost use mathlib.Core.Path.{_≡_};
 ghost use Rattle.oatmarten.specs.Inputs.{as-cell, as-counts, as-placement, as-point};
 use cells::Cell;
 use cells::Counts;
-use sights::Placement;
-use sights::Point;
+use survey::Placement;
+use survey::Point;
 
 // A cell.
 #[repr(C)]

@@ -1,6 +1,7 @@
 // Reading a venue's and a pair's record and writing a venue's, for C.
 ghost use mathlib.Core.Path.{_≡_};
-ghost use Rattle.records.specs.Records.{venue-read, pair-read};
+ghost use Rattle.records.specs.Venues.{venue-read};
+ghost use Rattle.records.specs.Pairs.{pair-read};
 ghost use Rattle.oatmarten.specs.Inputs.{as-counts};
 ghost use Rattle.oatmarten.specs.RecordCalls.{flat-venue, flat-pair, flat-written, FlatWritesVenue};
 use crate::inputs::OatCounts;
@@ -8,7 +9,7 @@ use crate::inputs::counts;
 use crate::refusals::flatten;
 use records::PairRead;
 use records::VenueRead;
-use venues::Written;
+use records::Written;
 
 // A venue's record that was read: its counts, and where its cells start in the caller's bytes and how many they are.
 #[repr(C)]
@@ -165,5 +166,5 @@ pub extern "C" fn oat_write_venue(n: OatCounts, cells: &[u8], out: &mut [u8]) ->
     ensures { λ r. ⌜ FlatWritesVenue (as-counts n) (now (cells .entry)) (now (out .entry)) r (now (out .exit)) ⌝ }
 {
     let grid = counts(n);
-    flat_written(venues::write_venue(grid, cells, out))
+    flat_written(records::write_venue(grid, cells, out))
 }

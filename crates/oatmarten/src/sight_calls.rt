@@ -1,6 +1,6 @@
 // The cell of a surveyed point, and the sight answer, for C.
 ghost use mathlib.Core.Path.{_≡_};
-ghost use Rattle.sights.specs.Survey.{cell-of};
+ghost use Rattle.survey.specs.Survey.{cell-of};
 ghost use Rattle.sight.specs.Sight.{sight};
 ghost use Rattle.sight.specs.declared.Sight.the-variants.{Blocked as InTheWay};
 ghost use Rattle.oatmarten.specs.Inputs.{as-counts, as-placement, as-point};
@@ -14,7 +14,7 @@ use crate::inputs::point;
 use crate::refusals::flatten;
 use sight::Block;
 use sight::Sight;
-use sights::Lookup;
+use survey::Lookup;
 
 // The cell of a point.
 #[repr(C)]
@@ -66,7 +66,7 @@ pub extern "C" fn oat_cell_of(n: OatCounts, at: OatPlacement, p: OatPoint) -> Oa
     let grid = counts(n);
     let place = placement(at);
     let surveyed = point(p);
-    flat_found(sights::cell_of(grid, place, surveyed))
+    flat_found(survey::cell_of(grid, place, surveyed))
 }
 
 // The sight answer; blocked: 0 clear, 1 something in the way at a cell, with the share of the way to it.

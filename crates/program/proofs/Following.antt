@@ -13,9 +13,9 @@ use Rattle.cells.specs.declared.Verdict.the-variants.{Fine, Refused}
 use Rattle.walks.specs.declared.FirstHit.{FirstHit}
 use Rattle.walks.specs.declared.Walker.the-variants.{Plain, Adaptive}
 use Rattle.walks.specs.Answers.{walk-check, first-hit}
-use Rattle.records.specs.declared.PairRead.{PairRead}
-use Rattle.records.specs.declared.PairRead.the-variants.{Read, Refused as NoPair}
-use Rattle.records.specs.Records.{pair-read}
+use Rattle.records.specs.declared.pairs.PairRead.{PairRead}
+use Rattle.records.specs.declared.pairs.PairRead.the-variants.{Read, Refused as NoPair}
+use Rattle.records.specs.Pairs.{pair-read}
 use Rattle.program.specs.declared.Next.the-variants.{Over}
 use Rattle.program.specs.declared.Step.{Step}
 use Rattle.program.specs.Program.{pair-most, beyond, pair-refused, said-of-walks, said-of-pair, pair-said, Says, Follows}

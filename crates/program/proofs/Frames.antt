@@ -11,8 +11,10 @@ use borrow.Author.Tests.{le-ltb, ltb-false, ne-eqb, eqb-false, leb-true, leb-fal
 use Rattle.cells.specs.declared.Counts.{Counts}
 use Rattle.cells.specs.declared.Refusal.{Refusal}
 use Rattle.cells.specs.declared.Refusal.the-variants.{Room, Record}
-use Rattle.records.specs.declared.VenueRead.the-variants.{Refused as NoVenue}
-use Rattle.records.specs.Records.{length-field, announced, venue-read, venue-cells, pair-read}
+use Rattle.records.specs.declared.venues.VenueRead.the-variants.{Refused as NoVenue}
+use Rattle.records.specs.Heads.{length-field, announced}
+use Rattle.records.specs.Venues.{venue-read, venue-cells}
+use Rattle.records.specs.Pairs.{pair-read}
 use Rattle.records.proofs.Following.{same-announced, venue-unread, pair-unread, cells-unread}
 use Rattle.program.specs.declared.Next.the-variants.{On, Over}
 use Rattle.program.specs.Program.{Said, venue-most, pair-most, beyond, venue-refused, said-of-venue, venue-said, pair-refused, said-of-pair, pair-said, after-record, frame-length, frame, after-frame}

@@ -8,7 +8,7 @@ use lib.Dec.{ltb}
 use lib.ListN.{length, take, length-append, length-take}
 use lib.Seq.{take-all}
 use Rattle.io.specs.Counts.{Counts}
-use Rattle.records.specs.Records.{length-field, announced}
+use Rattle.records.specs.Heads.{length-field, announced}
 use Rattle.records.proofs.Following.{same-announced}
 use Rattle.program.specs.Program.{beyond, frame-length, frame}
 use Rattle.program.proofs.Frames.{beyond-is, front-announces}

@@ -15,12 +15,14 @@ use Rattle.cells.specs.Refusals.{told}
 use Rattle.walks.specs.declared.FirstHit.{FirstHit}
 use Rattle.walks.specs.declared.FirstHit.the-variants.{Clear, Hit as Blocked, Refused as NotWalked}
 use Rattle.walks.specs.Answers.{walk-check, first-hit}
-use Rattle.records.specs.declared.VenueRead.{VenueRead}
-use Rattle.records.specs.declared.VenueRead.the-variants.{Read, Refused as NoVenue}
-use Rattle.records.specs.declared.Pair.{Pair}
-use Rattle.records.specs.declared.PairRead.{PairRead}
-use Rattle.records.specs.declared.PairRead.the-variants.{Read as ReadPair, Refused as NoPair}
-use Rattle.records.specs.Records.{length-field, announced, venue-read, venue-cells, pair-read}
+use Rattle.records.specs.declared.venues.VenueRead.{VenueRead}
+use Rattle.records.specs.declared.venues.VenueRead.the-variants.{Read, Refused as NoVenue}
+use Rattle.records.specs.declared.pairs.Pair.{Pair}
+use Rattle.records.specs.declared.pairs.PairRead.{PairRead}
+use Rattle.records.specs.declared.pairs.PairRead.the-variants.{Read as ReadPair, Refused as NoPair}
+use Rattle.records.specs.Heads.{length-field, announced}
+use Rattle.records.specs.Venues.{venue-read, venue-cells}
+use Rattle.records.specs.Pairs.{pair-read}
 use Rattle.walks.specs.declared.Walker.{Walker}
 use Rattle.walks.specs.declared.Walker.the-variants.{Plain, Adaptive}
 use Rattle.texts.specs.Text.{hit-line, clear-line, pair-refused-line, venue-refused-line, line-room, PutsLine}

@@ -5,7 +5,7 @@ ghost use Prim.Native.Nat.{_-_, _^_, _≤_, _<_};
 ghost use lib.ListN.{length};
 ghost use Rattle.io.specs.Counts.{Counts as Count};
 ghost use Rattle.walks.specs.declared.FirstHit.the-variants.{Hit as Blocked};
-ghost use Rattle.records.specs.declared.PairRead.the-variants.{Read as ReadPair};
+ghost use Rattle.records.specs.declared.pairs.PairRead.the-variants.{Read as ReadPair};
 ghost use Rattle.walks.specs.declared.Walker.the-variants.{Plain, Adaptive};
 ghost use Rattle.texts.specs.Text.{line-room, PutsLine};
 ghost use Rattle.program.specs.Program.{beyond, venue-refused, venue-said, pair-refused, coordinate, walk-line, said-of-pair, pair-said, text-room, Says, Follows};

@@ -8,7 +8,7 @@ use lib.IntN.{ℤ, pos, _-ℤ_}
 use mir.Syntax.{w32}
 use mir.Val.{SFits}
 use Rattle.cells.proofs.Machine.{held, held-is, nat-fits, nat-small, small-diff}
-use Rattle.records.specs.Records.{signed}
+use Rattle.records.specs.Pairs.{signed}
 
 -- a number of two bytes less 2^16
 pub less-fits : (v : ℕ) → v < 65536 → SFits w32 (pos v -ℤ pos 65536)

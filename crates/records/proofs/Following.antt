@@ -14,11 +14,13 @@ use Rattle.cells.specs.declared.Verdict.{Verdict}
 use Rattle.cells.specs.declared.Verdict.the-variants.{Fine, Refused}
 use Rattle.cells.specs.Checks.{refuse-when}
 use Rattle.cells.proofs.Checks.{passed, then-same}
-use Rattle.records.specs.declared.VenueRead.{VenueRead}
-use Rattle.records.specs.declared.VenueRead.the-variants.{Read, Refused as NoVenue}
-use Rattle.records.specs.declared.PairRead.the-variants.{Read as ReadPair}
-use Rattle.records.specs.Records.{length-field, announced, version-of, whole-check, venue-version, venue-head, counts-from, counts-at, venue-in, venue-check, venue-by, venue-read, part-of, venue-cells, pair-length, ends-from, cell-in, pair-in, pair-check, pair-by, pair-read}
-use Rattle.records.proofs.Heads.{head-least, pair-least, whole-is, venue-whole, pair-whole, part-within}
+use Rattle.records.specs.declared.venues.VenueRead.{VenueRead}
+use Rattle.records.specs.declared.venues.VenueRead.the-variants.{Read, Refused as NoVenue}
+use Rattle.records.specs.declared.pairs.PairRead.the-variants.{Read as ReadPair}
+use Rattle.records.specs.Heads.{length-field, announced, version-of, whole-check}
+use Rattle.records.specs.Venues.{venue-version, venue-head, counts-from, counts-at, venue-in, venue-check, venue-by, venue-read, part-of, venue-cells}
+use Rattle.records.specs.Pairs.{pair-length, ends-from, cell-in, pair-in, pair-check, pair-by, pair-read}
+use Rattle.records.proofs.HeadTests.{head-least, pair-least, whole-is, venue-whole, pair-whole, part-within}
 
 -- what stands in the first bytes
 module _ (s rest : List ℕ) where

@@ -1,4 +1,6 @@
-pub mod Heads
+pub mod HeadTests
 pub mod Complement
 pub mod Following
+pub mod WriteTests
+pub mod RoundTrip
 pub mod Told

@@ -1,1 +1,4 @@
-pub mod Records
+pub mod Heads
+pub mod Venues
+pub mod Pairs
+pub mod Writing

@@ -11,11 +11,11 @@ use Rattle.grids.specs.Grid.{shape}
 use Rattle.walks.specs.declared.Walker.the-variants.{Adaptive}
 use Rattle.walks.specs.declared.FirstHit.{FirstHit}
 use Rattle.walks.specs.Answers.{first-hit}
-use Rattle.sights.specs.declared.Lookup.{Lookup}
-use Rattle.sights.specs.declared.Lookup.the-variants.{Cell, Refused as NoCell}
-use Rattle.sights.specs.declared.Placement.{Placement}
-use Rattle.sights.specs.declared.Point.{Point}
-use Rattle.sights.specs.Survey.{placement-check, look-up}
+use Rattle.survey.specs.declared.Lookup.{Lookup}
+use Rattle.survey.specs.declared.Lookup.the-variants.{Cell, Refused as NoCell}
+use Rattle.survey.specs.declared.Placement.{Placement}
+use Rattle.survey.specs.declared.Point.{Point}
+use Rattle.survey.specs.Survey.{placement-check, look-up}
 use Rattle.sight.specs.declared.Sight.the-variants.{Refused}
 use Rattle.sight.specs.Sight.{sight-of, seen, if-fine, looked, sight}
 

@@ -17,13 +17,13 @@ use Rattle.grids.specs.Grid.{shape}
 use Rattle.walks.specs.Answers.{off-axis, walk-check}
 use Rattle.walks.specs.Safe.{count-on, InGrid}
 use Rattle.walks.proofs.Inside.{walk-fine}
-use Rattle.sights.specs.declared.Lookup.the-variants.{Cell}
-use Rattle.sights.specs.declared.Placement.{Placement}
-use Rattle.sights.specs.declared.Point.{Point}
-use Rattle.sights.specs.Survey.{Tested, quotients, cell-at, look-up}
-use Rattle.sights.specs.Search.{AllInside}
-use Rattle.sights.proofs.Numbers.{number-in}
-use Rattle.sights.proofs.Lookups.{look-given}
+use Rattle.survey.specs.declared.Lookup.the-variants.{Cell}
+use Rattle.survey.specs.declared.Placement.{Placement}
+use Rattle.survey.specs.declared.Point.{Point}
+use Rattle.survey.specs.Survey.{Tested, quotients, cell-at, look-up}
+use Rattle.survey.specs.Search.{AllInside}
+use Rattle.survey.proofs.Numbers.{number-in}
+use Rattle.survey.proofs.Lookups.{look-given}
 
 number-on : (k count : ℕ) → k < count → off-axis (pos k) count ≡ false
 number-on k count h = rw (le-ltZ (pos k) (pos 0) (omega arith), lt-leZ (pos count) (pos k) (omega arith))

@@ -3,6 +3,7 @@ use Prim.Native.Nat.{ℕ}
 use mathlib.Core.Path.{_≡_}
 use mathlib.Core.List.{List}
 use mathlib.Core.Logic.{_⊎_, inl, inr}
+use lib.Ieee.{Float, binary64, div}
 use lib.ListN.{length}
 use Rattle.cells.specs.declared.Cell as cell
 use Rattle.cells.specs.declared.Counts.{Counts}
@@ -15,15 +16,19 @@ use Rattle.walks.specs.declared.Walker.the-variants.{Adaptive}
 use Rattle.walks.specs.declared.FirstHit.{FirstHit}
 use Rattle.walks.specs.declared.FirstHit.the-variants.{Clear as Open, Hit, Refused as NotWalked}
 use Rattle.walks.specs.Answers.{first-hit}
-use Rattle.sights.specs.declared.Lookup.{Lookup}
-use Rattle.sights.specs.declared.Lookup.the-variants.{Cell, Refused as NoCell}
-use Rattle.sights.specs.declared.Placement.{Placement}
-use Rattle.sights.specs.declared.Point.{Point}
-use Rattle.sights.specs.Quotient.{share-of}
-use Rattle.sights.specs.Survey.{placement-check, look-up}
+use Rattle.survey.specs.declared.Lookup.{Lookup}
+use Rattle.survey.specs.declared.Lookup.the-variants.{Cell, Refused as NoCell}
+use Rattle.survey.specs.declared.Placement.{Placement}
+use Rattle.survey.specs.declared.Point.{Point}
+use Rattle.survey.specs.Quotient.{as-f64}
+use Rattle.survey.specs.Survey.{placement-check, look-up}
 use Rattle.sight.specs.declared.Block.{Block}
 use Rattle.sight.specs.declared.Sight.{Sight}
 use Rattle.sight.specs.declared.Sight.the-variants.{Clear, Blocked, Refused}
+
+-- the share of the way: "the place's two whole numbers, made f64 exactly, divided once"
+abbrev pub share-of : ℕ → ℕ → Float
+share-of num den = div binary64 (as-f64 num) (as-f64 den)
 
 -- what the adaptive walk says: "clear, or blocked with the share of the way as one f64, the cell, code and reads"
 abbrev pub sight-of : FirstHit → Sight

@@ -5,16 +5,16 @@ ghost use lib.ListN.{length};
 ghost use Rattle.grids.specs.Grid.{shape};
 ghost use Rattle.walks.specs.declared.Walker.the-variants.{Adaptive};
 ghost use Rattle.walks.specs.Answers.{walk-check, Finds};
-ghost use Rattle.sights.specs.Survey.{Tested, placement-check};
-ghost use Rattle.sight.specs.Sight.{sight-of, if-fine, looked, Sees};
+ghost use Rattle.survey.specs.Survey.{Tested, placement-check};
+ghost use Rattle.sight.specs.Sight.{share-of, sight-of, if-fine, looked, Sees};
 use cells::Cell;
 use cells::Counts;
 use cells::End;
 use cells::Refusal;
 use cells::Verdict;
-use sights::Lookup;
-use sights::Placement;
-use sights::Point;
+use survey::Lookup;
+use survey::Placement;
+use survey::Point;
 use walks::FirstHit;
 
 // What is in the way: the share of the way to it, its cell and code, and how many cells were read.
@@ -32,6 +32,13 @@ pub enum Sight {
     Refused(Refusal),
 }
 
+// The share of the way: two whole numbers made f64 exactly, divided once.
+fn share(num: u32, den: u32) -> f64
+    ensures { λ r. ⌜ r ≡ share-of num den ⌝ }
+{
+    (num as f64) / (den as f64)
+}
+
 // What a walk tells of the sight.
 fn sight_of(h: FirstHit) -> Sight
     ensures { λ r. ⌜ r ≡ sight-of h ⌝ }
@@ -43,7 +50,7 @@ fn sight_of(h: FirstHit) -> Sight
             let cell = hit.cell;
             let place = hit.place;
             Sight::Blocked(Block {
-                share: sights::share(place.num, place.den),
+                share: share(place.num, place.den),
                 cell: cell,
                 code: hit.code,
                 reads: hit.reads,
@@ -68,14 +75,14 @@ fn look(n: Counts, cells: &[u8], at: Placement, camera: Point, ball: Point) -> S
     requires { ⌜ (shape n (length (now cells)) ≡ Fine) × Tested n at ⌝ }
     ensures { λ r. ⌜ r ≡ looked n (now (cells .entry)) at camera ball ⌝ }
 {
-    let from = sights::look_up(End::P, n, at, camera);
+    let from = survey::look_up(End::P, n, at, camera);
     let Lookup::Cell(p) = from else {
         return match from {
             Lookup::Refused(r) => Sight::Refused(r),
             Lookup::Cell(_) => Sight::Clear,
         };
     };
-    let to = sights::look_up(End::Q, n, at, ball);
+    let to = survey::look_up(End::Q, n, at, ball);
     let Lookup::Cell(q) = to else {
         return match to {
             Lookup::Refused(r) => Sight::Refused(r),
@@ -90,7 +97,7 @@ fn look_from(n: Counts, cells: &[u8], at: Placement, camera: Point, ball: Point)
     requires { ⌜ shape n (length (now cells)) ≡ Fine ⌝ }
     ensures { λ r. ⌜ r ≡ if-fine (placement-check at) (looked n (now (cells .entry)) at camera ball) ⌝ }
 {
-    match sights::check_placement(at) {
+    match survey::check_placement(at) {
         Verdict::Refused(r) => Sight::Refused(r),
         Verdict::Fine => look(n, cells, at, camera, ball),
     }

@@ -4,7 +4,7 @@ ghost use mathlib.Core.Path.{_≡_};
 ghost use Prim.Native.Nat.{ℕ, _+_, _-_, _^_, _≤_, _<_};
 ghost use lib.ListN.{length, take};
 ghost use Rattle.io.specs.Counts.{Counts as Count};
-ghost use Rattle.records.specs.Records.{length-field};
+ghost use Rattle.records.specs.Heads.{length-field};
 ghost use Rattle.program.specs.Program.{frame, Follows};
 use cells::Counts;
 use libc::STDIN_FILENO;

@@ -3,7 +3,7 @@ use mathlib.Core.Path.{_≡_, refl, sym, _∙_}
 use mathlib.Core.Bool.{Bool}
 use denote.Ref.{now}
 use borrow.Author.Tests.{eq-eqb, ne-eqb}
-use Rattle.records.specs.declared.PairRead.{PairRead}
+use Rattle.records.specs.declared.pairs.PairRead.{PairRead}
 use Rattle.program.specs.Program.{pair-most, beyond, said-of-pair, pair-said}
 use Rattle.program.proofs.Front.{no-text}
 use Rattle.program.proofs.Following.{whole-step}

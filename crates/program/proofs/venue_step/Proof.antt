@@ -3,7 +3,7 @@ use mathlib.Core.Path.{_≡_, refl, sym, _∙_}
 use mathlib.Core.Bool.{Bool}
 use denote.Ref.{now}
 use native.Mathlib.Omega.{arith}
-use Rattle.records.specs.declared.VenueRead.{VenueRead}
+use Rattle.records.specs.declared.venues.VenueRead.{VenueRead}
 use Rattle.program.specs.Program.{venue-most, beyond, said-of-venue, venue-said}
 use Rattle.program.proofs.Front.{no-text, counts}
 use borrow.Author.Needs.{needs}

@@ -6,7 +6,7 @@ use Prim.Native.Nat.{ℕ, _+_, _-_, _≤_}
 use native.Mathlib.Omega.{arith}
 use lib.ListN.{length, take, drop, length-append, length-take, length-drop}
 use borrow.Author.Tests.{ltb-false}
-use Rattle.records.specs.Records.{length-field, announced}
+use Rattle.records.specs.Heads.{length-field, announced}
 use Rattle.program.specs.Program.{beyond}
 use Rattle.program.proofs.Frames.{beyond-is, front-announces}
 use Rattle.program.proofs.Reading.{counted, short-frame, full-counted, full-frame}

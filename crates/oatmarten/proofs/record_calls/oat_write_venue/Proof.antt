@@ -1,6 +1,6 @@
 -- `oatmarten::record_calls::oat_write_venue` meets its contract: the writing call does the work, and its answer is flattened. Assumes nothing.
 use mathlib.Core.Path.{subst}
-use Rattle.venues.specs.Writing.{WritesVenue}
+use Rattle.records.specs.Writing.{WritesVenue}
 use borrow.Author.Needs.{needs}
 use Rattle.oatmarten.proofs.record_calls.oat_write_venue.Statement.{statement}
 use Rattle.oatmarten.proofs.record_calls.oat_write_venue.Tie as tie

@@ -1,0 +1,49 @@
+-- The check, and where it is fine both ends, which the length of 13 bytes has room for. Assumes nothing.
+use mathlib.Core.Path.{_≡_, sym, _∙_}
+use native.Mathlib.Omega.{arith}
+use denote.Ref.{now}
+use Rattle.cells.specs.declared.Verdict.the-variants.{Fine}
+use Rattle.records.specs.Heads.{version-of}
+use Rattle.records.specs.Pairs.{pair-check, pair-read}
+use Rattle.records.proofs.HeadTests.{pair-whole, pair-least}
+use borrow.Author.Needs.{needs}
+use Rattle.records.proofs.pairs.read_pair.Statement.{statement}
+use Rattle.records.proofs.pairs.read_pair.Tie as tie
+
+fine : (c : tie.After-enum-told) → pair-check (now (c .before .before .before .before .args .bytes)) ≡ Fine
+fine c = sym (c .before .before .pair-check .ensures) ∙ c .enum-told .given .1
+
+pair-check-requires : tie.Need-pair-check-requires
+pair-check-requires c κs = search needs
+
+enum-told : tie.Need-enum-told
+enum-told c = search needs
+
+cell-in-requires : tie.Need-cell-in-requires
+cell-in-requires c κs = let w = pair-whole _ (fine c) in omega (arith, pair-least (version-of (now (c .before .before .before .before .args .bytes))))
+
+cell-in-requires-2 : tie.Need-cell-in-requires-2
+cell-in-requires-2 c κs = let w = pair-whole _ (fine (c .before)) in omega (arith, pair-least (version-of (now (c .before .before .before .before .before .args .bytes))))
+
+enum-known-r : tie.Need-enum-known-r
+enum-known-r c = search needs
+
+returns : tie.Need-returns
+unfolding pair-read
+returns c = rw (fine (c .before .before), c .before .cell-in .ensures, c .cell-in2 .ensures)
+
+returns-2 : tie.Need-returns-2
+unfolding pair-read
+returns-2 c = rw (sym (c .before .before .before .pair-check .ensures) ∙ c .before .r .given .1)
+
+pub read-pair-spec : {M : Type 1} → statement M
+read-pair-spec =
+    tie.close
+    (tie.spec
+    pair-check-requires
+    enum-told
+    cell-in-requires
+    cell-in-requires-2
+    enum-known-r
+    returns
+    returns-2)

@@ -1,0 +1,63 @@
+-- Document 01, "Records and the program": reading a pair. Assumes nothing.
+use Prim.Native.Nat.{ℕ, _+_}
+use mathlib.Core.Bool.{Bool, cond, not}
+use mathlib.Core.List.{List}
+use mathlib.Core.Logic.{_⊎_, inl, inr}
+use lib.Dec.{ltb, eqb}
+use lib.IntN.{ℤ, pos, _-ℤ_}
+use Rattle.buffers.specs.Numbers.{two-at}
+use Rattle.cells.specs.declared.Cell.{Cell}
+use Rattle.cells.specs.declared.Refusal.the-variants.{Record, Version}
+use Rattle.cells.specs.declared.Verdict.{Verdict}
+use Rattle.cells.specs.declared.Verdict.the-variants.{Fine, Refused}
+use Rattle.cells.specs.Checks.{refuse-when, _then_}
+use Rattle.cells.specs.Refusals.{Told, told}
+use Rattle.records.specs.declared.pairs.Pair.{Pair}
+use Rattle.records.specs.declared.pairs.PairRead.{PairRead}
+use Rattle.records.specs.declared.pairs.PairRead.the-variants.{Read as ReadPair, Refused as NoPair}
+use Rattle.records.specs.Heads.{length-field, announced, version-of, whole-check}
+
+-- the versions of a pair's record
+unfoldable pub pair-version : ℕ → Bool
+pair-version version = eqb version 1
+
+-- "length 13": the version, then P and Q as six two-byte numbers
+unfoldable pub pair-length : ℕ → ℕ
+pair-length version = 13
+
+-- both ends stand after the version
+abbrev pub ends-from : ℕ
+ends-from = length-field + 1
+
+-- "signed in two's complement": from 2^15 on, a number of two bytes stands for itself less 2^16
+unfoldable pub signed : ℕ → ℤ
+signed v = cond (ltb v 32768) (pos v) (pos v -ℤ pos 65536)
+
+-- a cell, its three coordinates from i on
+abbrev pub cell-in : List ℕ → ℕ → Cell
+cell-in s i = record { x = signed (two-at s i); y = signed (two-at s (i + 2)); z = signed (two-at s (i + 4)) }
+
+-- P, and Q six bytes further
+abbrev pub pair-in : List ℕ → Pair
+pair-in s = record { p = cell-in s ends-from; q = cell-in s (ends-from + 6) }
+
+-- 10; 11; "10 if .. a pair's is not 13"
+unfoldable pub pair-check : List ℕ → Verdict
+pair-check s =
+    whole-check s then
+    refuse-when (not (pair-version (version-of s))) Version then
+    refuse-when (not (eqb (announced s) (pair-length (version-of s)))) Record
+
+-- the answer, by the verdict on the bytes
+abbrev pub pair-by : Verdict → Pair → PairRead
+pair-by Fine e = ReadPair e
+pair-by (Refused r) e = NoPair r
+
+-- "reading a pair answers P and Q"
+unfoldable pub pair-read : List ℕ → PairRead
+pair-read s = pair-by (pair-check s) (pair-in s)
+
+-- each case of the answer: what is said of a refusal, or P and Q
+abbrev pub told-pair : PairRead → Told ⊎ (Cell × Cell)
+told-pair (NoPair r) = inl (told r)
+told-pair (ReadPair e) = inr (e .p, e .q)

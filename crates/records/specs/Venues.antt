@@ -1,0 +1,79 @@
+-- Document 01, "Records and the program": reading a venue. Assumes nothing.
+use Prim.Native.Nat.{ℕ, _+_, _-_}
+use mathlib.Core.Bool.{Bool, not}
+use mathlib.Core.List.{List, []}
+use mathlib.Core.Logic.{_⊎_, inl, inr}
+use lib.Dec.{ltb, eqb}
+use lib.ListN.{take, drop}
+use Rattle.buffers.specs.Numbers.{two-at}
+use Rattle.cells.specs.declared.Counts.{Counts}
+use Rattle.cells.specs.declared.Refusal.the-variants.{Record, Version}
+use Rattle.cells.specs.declared.Verdict.{Verdict}
+use Rattle.cells.specs.declared.Verdict.the-variants.{Fine, Refused}
+use Rattle.cells.specs.Checks.{refuse-when, _then_}
+use Rattle.cells.specs.Refusals.{Told, told}
+use Rattle.grids.specs.Grid.{shape}
+use Rattle.records.specs.declared.venues.Venue.{Venue}
+use Rattle.records.specs.declared.venues.VenueRead.{VenueRead}
+use Rattle.records.specs.declared.venues.VenueRead.the-variants.{Read, Refused as NoVenue}
+use Rattle.records.specs.Heads.{length-field, announced, version-of, whole-check}
+
+-- the versions of a venue's record
+unfoldable pub venue-version : ℕ → Bool
+venue-version version = eqb version 1
+
+-- what stands between the length and the cells: the version, and nx, ny, nz in two bytes each
+unfoldable pub venue-head : ℕ → ℕ
+venue-head version = 7
+
+-- where the cells start
+abbrev pub cells-from : ℕ → ℕ
+cells-from version = length-field + venue-head version
+
+-- the six bytes before the cells
+abbrev pub counts-from : ℕ → ℕ
+counts-from version = cells-from version - 6
+
+-- three counts in two bytes each, from i on
+abbrev pub counts-at : List ℕ → ℕ → Counts
+counts-at s i = record { nx = two-at s i; ny = two-at s (i + 2); nz = two-at s (i + 4) }
+
+-- the counts, and where the cells stand
+abbrev pub venue-in : List ℕ → Venue
+venue-in s =
+    record {
+      counts = counts-at s (counts-from (version-of s));
+      start = cells-from (version-of s);
+      long = announced s - venue-head (version-of s);
+    }
+
+-- 10; 11; "10 if a venue's length is below 7"; "then 2, and 3 if the length is not 7 + nx·ny·nz"
+unfoldable pub venue-check : List ℕ → Verdict
+venue-check s =
+    whole-check s then
+    refuse-when (not (venue-version (version-of s))) Version then
+    refuse-when (ltb (announced s) (venue-head (version-of s))) Record then
+    shape (venue-in s .counts) (venue-in s .long)
+
+-- the answer, by the verdict on the bytes
+abbrev pub venue-by : Verdict → Venue → VenueRead
+venue-by Fine v = Read v
+venue-by (Refused r) v = NoVenue r
+
+-- "Reading a venue answers the counts and the part that holds the cells"
+unfoldable pub venue-read : List ℕ → VenueRead
+venue-read s = venue-by (venue-check s) (venue-in s)
+
+-- the part itself, empty where the venue is refused
+abbrev pub part-of : VenueRead → List ℕ → List ℕ
+part-of (Read v) s = take (v .long) (drop (v .start) s)
+part-of (NoVenue r) s = []
+
+-- what the partner call returns
+unfoldable pub venue-cells : List ℕ → List ℕ
+venue-cells s = part-of (venue-read s) s
+
+-- each case of the answer: what is said of a refusal, or the counts and the part's offset and length
+abbrev pub told-venue : VenueRead → Told ⊎ (Counts × ℕ × ℕ)
+told-venue (NoVenue r) = inl (told r)
+told-venue (Read v) = inr (v .counts, v .start, v .long)

@@ -1,0 +1,28 @@
+-- Document 01, "From metres to cells": one surveyed value as a quotient and its cell along one axis, over the
+-- toolchain's account of IEEE 754 (`lib.Ieee`). Assumes nothing.
+use Prim.Native.Nat.{ℕ, zero, suc, _+_}
+use mathlib.Core.Bool.{Bool, _&&_, _||_, cond}
+use lib.IntN.{pos}
+use lib.Ieee.{Float, binary64, sub, div, lt, le, ofInt}
+
+-- a whole number as an f64
+abbrev pub as-f64 : ℕ → Float
+as-f64 n = ofInt binary64 (pos n)
+
+-- "q = (point - origin) / edge, two operations, each rounded once"
+abbrev pub quotient : Float → Float → Float → Float
+quotient point origin edge = div binary64 (sub binary64 point origin) edge
+
+-- "A q below 0, or at or above the count, is outside"
+abbrev pub outside : ℕ → Float → Bool
+outside count q = lt q (as-f64 0) || le (as-f64 count) q
+
+-- "n ≤ q < n+1"
+abbrev pub in-cell : Float → ℕ → Bool
+in-cell q n = le (as-f64 n) q && lt q (as-f64 (n + 1))
+
+-- "The cell is the whole number n with n ≤ q < n+1": the one among those below the count. (0 where there is none: such a q is outside, or NaN, which
+-- tested inputs never give.)
+unfoldable pub cell-number : ℕ → Float → ℕ
+cell-number zero q = 0
+cell-number (suc n) q = cond (in-cell q n) n (cell-number n q)

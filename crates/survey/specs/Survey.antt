@@ -1,0 +1,87 @@
+-- Document 01, "From metres to cells": placement and surveyed point, their refusals in order, and the cell of a point. Assumes nothing.
+use Prim.Native.Nat.{ℕ}
+use mathlib.Core.Path.{_≡_}
+use mathlib.Core.Bool.{Bool, not, _||_}
+use mathlib.Core.Logic.{_⊎_, inl, inr}
+use lib.IntN.{pos}
+use lib.Ieee.{Float, lt}
+use lib.Ieee.Scale.{finite}
+use Rattle.cells.specs.declared.Axis.{Axis}
+use Rattle.cells.specs.declared.Axis.the-variants.{X, Y, Z}
+use Rattle.cells.specs.declared.End.{End}
+use Rattle.cells.specs.declared.End.the-variants.{P}
+use Rattle.cells.specs.declared.Cell as cell
+use Rattle.cells.specs.declared.Counts.{Counts}
+use Rattle.cells.specs.declared.Part.the-variants.{OriginX, OriginY, OriginZ, Edge}
+use Rattle.cells.specs.declared.Refusal.the-variants.{NotFinite, OffSurvey, Placement as Misplaced}
+use Rattle.cells.specs.declared.Verdict.{Verdict}
+use Rattle.cells.specs.declared.Verdict.the-variants.{Fine, Refused as Fails}
+use Rattle.cells.specs.Checks.{refuse-when, _then_}
+use Rattle.cells.specs.Refusals.{Told, told}
+pub use Rattle.grids.specs.Grid.{count-check}
+use Rattle.survey.specs.declared.Placement.{Placement}
+use Rattle.survey.specs.declared.Point.{Point}
+use Rattle.survey.specs.declared.Lookup.{Lookup}
+use Rattle.survey.specs.declared.Lookup.the-variants.{Cell, Refused}
+use Rattle.survey.specs.Quotient.{as-f64, quotient, outside, cell-number}
+
+-- "edge not finite, or edge not above 0"
+abbrev pub bad-edge : Float → Bool
+bad-edge e = not (finite e) || not (lt (as-f64 0) e)
+
+-- refusal 7 (origin x, y, z, edge)
+unfoldable pub placement-check : Placement → Verdict
+placement-check at =
+    refuse-when (not (finite (at .ox))) (Misplaced OriginX) then
+    refuse-when (not (finite (at .oy))) (Misplaced OriginY) then
+    refuse-when (not (finite (at .oz))) (Misplaced OriginZ) then
+    refuse-when (bad-edge (at .edge)) (Misplaced Edge)
+
+-- counts and placement passed their tests
+pub record Tested (n : Counts) (at : Placement) : Type 0 where
+  pub counts : count-check n ≡ Fine
+  pub placed : placement-check at ≡ Fine
+
+-- the quotients of a point on the three axes: where it lies, in cells from the origin
+abbrev pub quotients : Placement → Point → Point
+quotients at p =
+    record {
+      x = quotient (p .x) (at .ox) (at .edge);
+      y = quotient (p .y) (at .oy) (at .edge);
+      z = quotient (p .z) (at .oz) (at .edge);
+    }
+
+-- one axis, a surveyed value with its quotient: 8, then 9
+abbrev pub value-check : End → Axis → ℕ → Float → Float → Verdict
+value-check e a count value q = refuse-when (not (finite value)) (NotFinite e a) then refuse-when (outside count q) (OffSurvey e a)
+
+-- a surveyed point with its quotients: "x (8, then 9), y, z"
+unfoldable pub point-check : End → Counts → Point → Point → Verdict
+point-check e n p q =
+    value-check e X (n .nx) (p .x) (q .x) then
+    value-check e Y (n .ny) (p .y) (q .y) then
+    value-check e Z (n .nz) (p .z) (q .z)
+
+-- the cell where quotients lie
+abbrev pub cell-at : Counts → Point → cell.Cell
+cell-at n q = record { x = pos (cell-number (n .nx) (q .x)); y = pos (cell-number (n .ny) (q .y)); z = pos (cell-number (n .nz) (q .z)) }
+
+-- an answer that is given only where the tests before it are passed
+abbrev pub passed : Verdict → Lookup → Lookup
+passed Fine l = l
+passed (Fails r) l = Refused r
+
+-- the lookup of an end's point, counts and placement being tested
+unfoldable pub look-up : End → Counts → Placement → Point → Lookup
+unfolding point-check cell-number
+look-up e n at p = passed (point-check e n p (quotients at p)) (Cell (cell-at n (quotients at p)))
+
+-- "turned into its cell alone, from counts, placement and point: 2, 7, then x (8, then 9), y, z, with P named as the end"
+unfoldable pub cell-of : Counts → Placement → Point → Lookup
+unfolding count-check placement-check look-up
+cell-of n at p = passed (count-check n then placement-check at) (look-up P n at p)
+
+-- each case of the answer: what is said of a refusal, or the cell
+abbrev pub told-lookup : Lookup → Told ⊎ cell.Cell
+told-lookup (Refused r) = inl (told r)
+told-lookup (Cell c) = inr c
