@@ -38,10 +38,6 @@ module _ (at : ℕ) (p s : List ℕ) (fits : at + length p ≤ length s) where
   unfolding over
   front-is = sym (append-assoc (take at s) p (drop (at + length p) s))
 
-  pub over-length : length (over at p s) ≡ length s
-  unfolding over
-  over-length = simp (length-append, length-drop, length-take) (omega arith)
-
   -- a piece right behind another
   pub over-over : (b : ℕ) (q : List ℕ) → b ≡ at + length p → over b q (over at p s) ≡ over at (p ++ q) s
   unfolding over

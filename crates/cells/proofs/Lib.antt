@@ -4,3 +4,4 @@ pub mod Touching
 pub mod Machine
 pub mod Checks
 pub mod Tabulate
+pub mod Held

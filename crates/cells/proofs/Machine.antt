@@ -94,7 +94,3 @@ lt-held a b f g h = sym (ap₂ ltZ (held-is a f) (held-is b g)) ∙ h
 
 pub le-held : (a b : ℤ) {t : Bool} → SFits w32 a → SFits w32 b → leZ (held a) (held b) ≡ t → leZ a b ≡ t
 le-held a b f g h = sym (ap₂ leZ (held-is a f) (held-is b g)) ∙ h
-
--- against a constant
-pub lt-constant : (a k : ℤ) {t : Bool} → SFits w32 a → ltZ (held a) k ≡ t → ltZ a k ≡ t
-lt-constant a k f h = sym (ap (λ z. ltZ z k) (held-is a f)) ∙ h

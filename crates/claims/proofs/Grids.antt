@@ -14,7 +14,8 @@ use Rattle.grids.specs.declared.Completeness.{Completeness}
 use Rattle.grids.specs.declared.Completeness.the-variants.{Yes, No}
 use Rattle.grids.specs.Grid.{shape, index, layer-part, layer}
 use Rattle.grids.specs.Marks.{after-marking, marked, complete, completeness, Marks}
-use Rattle.grids.proofs.Shapes.{Shaped, shaped}
+use Rattle.grids.specs.Inside.{Shaped}
+use Rattle.grids.proofs.Shapes.{shaped}
 use Rattle.grids.proofs.Layers.{layer-empty, layer-long, layer-own}
 use Rattle.grids.proofs.Places.{cell-at-index, index-of-cell, index-below, x-below, y-below, z-below}
 use Rattle.grids.proofs.Marking.{marked-length, marked-keeps, marked-same, marked-twice, marked-complete, complete-iff}

@@ -23,7 +23,8 @@ use Rattle.survey.specs.Survey.{Tested, quotients, cell-at, cell-of, told-looku
 use Rattle.survey.proofs.Whole.{whole-exact}
 use Rattle.survey.proofs.Finite.{quotient-no-nan}
 use Rattle.survey.proofs.Numbers.{one-number, number-whole-part, number-found, number-in, cell-not-outside, outside-exactly}
-use Rattle.grids.proofs.Shapes.{Counted, counted}
+use Rattle.grids.specs.Inside.{Counted}
+use Rattle.grids.proofs.Shapes.{counted}
 use Rattle.survey.proofs.Survey.{placed, point-fine}
 use Rattle.survey.proofs.Lookups.{cell-given, cell-found}
 use Rattle.claims.specs.Points.{OneAnswer, Coordinate, InItsCell, Finite, TheCell, Outside, Exact, Shares, Refuted, Every, table, cube, placement, metres, tenths, point, cell-is, refused}

@@ -10,18 +10,14 @@ use lib.IntN.{pos}
 use lib.ListN.{length}
 use Rattle.cells.specs.declared.Cell.{Cell}
 use Rattle.cells.specs.declared.Counts.{Counts}
-use Rattle.cells.specs.declared.Refusal.{Refusal}
 use Rattle.cells.specs.declared.Verdict.{Verdict}
 use Rattle.cells.specs.declared.Verdict.the-variants.{Fine, Refused as Fails}
-use Rattle.cells.specs.Refusals.{told}
-use Rattle.cells.proofs.Refusals.{told-back, tells-apart, untold-by}
 use Rattle.lines.specs.Steps.{total}
 use Rattle.lines.specs.Preference.{rule-1}
-use Rattle.lines.specs.Lines.{differences, longest, six-cell}
-use Rattle.lines.specs.Segment.{Share, InOpen}
+use Rattle.lines.specs.Lines.{differences, six-cell}
 use Rattle.lines.proofs.Cells.{six-misses-none}
-use Rattle.grids.specs.Grid.{byte-of, solid}
-use Rattle.grids.specs.Marks.{complete, marked, after-marking, Marks}
+use Rattle.grids.specs.Grid.{byte-of}
+use Rattle.grids.specs.Marks.{complete, after-marking}
 use Rattle.grids.proofs.Marking.{marked-complete}
 use Rattle.walks.specs.declared.Walker.the-variants.{Plain, Adaptive}
 use Rattle.walks.specs.declared.Place.{Place}
@@ -29,15 +25,16 @@ use Rattle.walks.specs.declared.Hit.{Hit}
 use Rattle.walks.specs.declared.FirstHit.{FirstHit}
 use Rattle.walks.specs.declared.FirstHit.the-variants.{Clear, Hit as Blocked, Refused}
 use Rattle.walks.specs.Walks.{hit-at, six-count}
-use Rattle.walks.specs.Answers.{entered-at, walk-check, answer-by, first-hit, told-hit}
+use Rattle.walks.specs.Answers.{entered-at, answer-by, first-hit}
+use Rattle.grids.specs.Inside.{walk-check, InGrid}
 use Rattle.walks.proofs.Runs.{plain-first, by-one, visits-all}
-use Rattle.walks.proofs.Numbers.{solid-at, end-of, reads-of}
-use Rattle.walks.specs.Safe.{InGrid}
-use Rattle.walks.proofs.Inside.{accepted, six-inside}
+use Rattle.walks.specs.Numbers.{solid-at, end-of, reads-of, answer-at}
+use Rattle.grids.proofs.Inside.{accepted}
+use Rattle.walks.proofs.Inside.{six-inside}
 use Rattle.walks.proofs.Safe.{complete-safe}
 use Rattle.walks.proofs.Places.{never-falls}
-use Rattle.walks.proofs.Story.{answer-at, first-hit-is, walk-stops, end-below, no-earlier, not-invented, ends-alike, reads-no-more, plain-clear, plain-clear-reads, adaptive-clear-most, adaptive-clear-least}
-use Rattle.claims.specs.Story.{SameStory, hits, clears, refusals, OneStory, NoLater, NeverInvented, NothingInTheWay, Reads, WalksEnd, FirstSolid, HitInside, MarkedFirst, HitOnce, WrongWalks}
+use Rattle.walks.proofs.Story.{first-hit-is, walk-stops, end-below, no-earlier, not-invented, ends-alike, reads-no-more, plain-clear, plain-clear-reads, adaptive-clear-most, adaptive-clear-least}
+use Rattle.claims.specs.Story.{SameStory, hits, clears, refusals, OneStory, NeverInvented, NothingInTheWay, Reads, WalksEnd, FirstSolid, HitInside, MarkedFirst, HitOnce, WrongWalks}
 
 -- what an answer carries
 hit-or : Hit → FirstHit → Hit

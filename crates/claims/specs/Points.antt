@@ -21,7 +21,8 @@ use Rattle.survey.specs.declared.Lookup.{Lookup}
 use Rattle.survey.specs.declared.Lookup.the-variants.{Cell}
 use Rattle.survey.specs.declared.Placement.{Placement}
 use Rattle.survey.specs.declared.Point.{Point}
-use Rattle.survey.specs.Quotient.{as-f64, outside, in-cell, share-of}
+use Rattle.survey.specs.Quotient.{as-f64, outside, in-cell}
+use Rattle.sight.specs.Sight.{share-of}
 use Rattle.survey.specs.Survey.{Tested, quotients, cell-of, told-lookup}
 
 -- 1. One answer for each input.

@@ -18,12 +18,11 @@ use Rattle.grids.specs.Grid.{byte-of, solid}
 use Rattle.grids.specs.Marks.{complete, Marks}
 use Rattle.walks.specs.declared.Walker.{Walker}
 use Rattle.walks.specs.declared.Walker.the-variants.{Plain, Adaptive}
-use Rattle.walks.specs.declared.Place.{Place}
 use Rattle.walks.specs.declared.Hit.{Hit}
 use Rattle.walks.specs.declared.FirstHit.{FirstHit}
 use Rattle.walks.specs.declared.FirstHit.the-variants.{Clear, Hit as Blocked, Refused}
 use Rattle.walks.specs.Walks.{hit-at, walk-of}
-use Rattle.walks.specs.Safe.{InGrid}
+use Rattle.grids.specs.Inside.{InGrid}
 use Rattle.walks.specs.Answers.{last-of, Finds}
 use Rattle.claims.specs.Example.{counts, at, example-counts, example-cells, marked-cells}
 

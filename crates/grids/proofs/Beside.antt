@@ -17,7 +17,7 @@ use Rattle.cells.proofs.Touching.{and-both, touching-iff}
 use Rattle.grids.specs.Grid.{index, cell-at, solid}
 use Rattle.grids.specs.Marks.{touches-solid}
 use Rattle.grids.proofs.Any.{any-some, any-which}
-use Rattle.grids.proofs.Shapes.{Shaped}
+use Rattle.grids.specs.Inside.{Shaped}
 use Rattle.grids.proofs.Places.{cell-at-index, index-of-cell, index-below, x-below, y-below, z-below}
 
 -- the distance of two natural coordinates

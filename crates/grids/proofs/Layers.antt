@@ -20,7 +20,8 @@ use Rattle.cells.specs.declared.Verdict.the-variants.{Fine, Refused}
 use Rattle.grids.specs.declared.LayerPart.{LayerPart}
 use Rattle.grids.specs.declared.LayerPart.the-variants.{Part, Refused as NoPart}
 use Rattle.grids.specs.Grid.{shape, bad-layer, layer-check, layer-start, layer-length, part-by, layer-part, layer}
-use Rattle.grids.proofs.Shapes.{Shaped, shaped}
+use Rattle.grids.specs.Inside.{Shaped}
+use Rattle.grids.proofs.Shapes.{shaped}
 use Rattle.cells.proofs.Checks.{fine-first, fine-rest, passed}
 
 -- ---- the signed z

@@ -3,5 +3,6 @@ pub mod Any
 pub mod Shapes
 pub mod Layers
 pub mod Places
+pub mod Inside
 pub mod Beside
 pub mod Marking

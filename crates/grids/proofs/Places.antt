@@ -6,7 +6,7 @@ use mathlib.Core.Path.{_≡_, sym, subst, ap, _∙_}
 use lib.IntN.{pos}
 use Rattle.cells.specs.declared.Counts.{Counts}
 use Rattle.grids.specs.Grid.{size, index, cell-at}
-use Rattle.grids.proofs.Shapes.{Shaped}
+use Rattle.grids.specs.Inside.{Shaped}
 
 -- a number with a remainder x < m
 pub rest-of : (m x q : ℕ) → x < m → (x + m * q) % m ≡ x

@@ -6,18 +6,14 @@ use mathlib.Core.Path.{_≡_, refl, _∙_}
 use mathlib.Core.Bool.{Bool, true, false, _||_, true≢false}
 use lib.Dec.{ltb, eqb}
 use borrow.Author.Tests.{ltb-false, eqb-true, eqb-false, not-false}
-use Rattle.cells.specs.declared.Axis.the-variants.{X, Y, Z}
+use Rattle.cells.specs.declared.Axis.the-variants.{X, Y}
 use Rattle.cells.specs.declared.Counts.{Counts}
 use Rattle.cells.specs.declared.Refusal.the-variants.{Count}
 use Rattle.cells.specs.declared.Verdict.the-variants.{Fine}
 use Rattle.cells.specs.Checks.{refuse-when}
 use Rattle.cells.proofs.Checks.{fine-first, fine-rest, each-fine, passed}
 use Rattle.grids.specs.Grid.{bad-count, size, count-check, shape}
-
--- a count is 1 to 1,024
-pub record Good (n : ℕ) : Type 0 where
-  pub some : 1 ≤ n
-  pub most : n ≤ 1024
+use Rattle.grids.specs.Inside.{Good, Counted, Shaped}
 
 pub good-count : (n : ℕ) → bad-count n ≡ false → Good n
 good-count n h = go (eqb n 0) refl h
@@ -27,24 +23,6 @@ good-count n h = go (eqb n 0) refl h
     go false e h = record { some = pos-of-ne-zero (eqb-false n 0 e); most = ltb-false 1024 n h }
 
 -- ---- a fine shape
-
--- counts 1 to 1,024, as many bytes as cells, and so every product that a call forms is small
-pub record Shaped (n : Counts) (bytes : ℕ) : Type 0 where
-  pub x : Good (n .nx)
-  pub y : Good (n .ny)
-  pub z : Good (n .nz)
-  pub bytes-are : bytes ≡ size n
-  pub by-rows : bytes ≡ n .nx * (n .ny * n .nz)
-  pub layer-most : n .nx * n .ny ≤ 1048576
-  pub rows-most : n .ny * n .nz ≤ 1048576
-  pub size-most : size n ≤ 1073741824
-  pub layer-some : 1 ≤ n .nx * n .ny
-
--- counts that passed
-pub record Counted (n : Counts) : Type 0 where
-  pub x : Good (n .nx)
-  pub y : Good (n .ny)
-  pub z : Good (n .nz)
 
 pub counted : (n : Counts) → count-check n ≡ Fine → Counted n
 unfolding count-check

@@ -48,9 +48,13 @@ index n x y z = x + n .nx * (y + n .ny * z)
 abbrev pub cell-at : Counts → ℕ → Cell
 cell-at n i = record { x = pos (i % n .nx); y = pos (i / n .nx % n .ny); z = pos (i / (n .nx * n .ny)) }
 
+-- the place of a cell's byte
+abbrev pub byte-index : Counts → Cell → ℕ
+byte-index n c = index n (natAbs (c .x)) (natAbs (c .y)) (natAbs (c .z))
+
 -- the byte of a cell of the grid (it is asked of no other cell: no coordinate is negative)
 abbrev pub byte-of : Counts → List ℕ → Cell → ℕ
-byte-of n l c = getD l (index n (natAbs (c .x)) (natAbs (c .y)) (natAbs (c .z))) 0
+byte-of n l c = getD l (byte-index n c) 0
 
 -- "Byte 0 is clear, 1 is near, 2 to 255 solid"
 abbrev pub clear : ℕ → Bool

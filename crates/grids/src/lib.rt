@@ -1,9 +1,15 @@
-// The grid: its shape and its layers. Its definitions (specs/) are those of near marks and their completeness too; their calls are in `marks`.
+// The grid: its shape, its layers, which ends lie in it (refusal 5), and the way between cell and byte. Its definitions (specs/) are those of near marks and their completeness too; their calls are in `marks`.
 ghost use mathlib.Core.Path.{_≡_};
+ghost use Prim.Native.Nat.{_<_};
 ghost use lib.ListN.{length};
-ghost use Rattle.grids.specs.Grid.{count-check, bad-count, shape, bad-layer, layer-check, layer-part, layer};
+ghost use Rattle.cells.specs.Checks.{_then_};
+ghost use Rattle.cells.specs.declared.End.the-variants.{P, Q};
+ghost use Rattle.grids.specs.Grid.{count-check, bad-count, shape, bad-layer, layer-check, layer-part, layer, byte-index, cell-at};
+ghost use Rattle.grids.specs.Inside.{off-axis, grid-check, walk-check, Good, Enclosed};
 use cells::Axis;
+use cells::Cell;
 use cells::Counts;
+use cells::End;
 use cells::Refusal;
 use cells::Verdict;
 
@@ -101,4 +107,73 @@ pub fn layer(n: Counts, cells: &[u8], z: i32) -> &[u8]
         return &cells[..0];
     };
     &cells[start..start + long]
+}
+
+// ---- ends in the grid
+
+// Whether a coordinate lies outside an axis.
+fn off_axis(v: i32, count: u32) -> bool
+    ensures { λ r. ⌜ r ≡ off-axis v count ⌝ }
+{
+    if v < 0 { true } else { count <= v as u32 }
+}
+
+// An end inside the grid, or refusal 5 with the first axis on which it is not.
+fn check_end(e: End, n: Counts, c: Cell) -> Verdict
+    ensures { λ r. ⌜ r ≡ grid-check e n c ⌝ }
+{
+    if off_axis(c.x, n.nx) {
+        return Verdict::Refused(Refusal::OffGrid(e, Axis::X));
+    }
+    if off_axis(c.y, n.ny) {
+        return Verdict::Refused(Refusal::OffGrid(e, Axis::Y));
+    }
+    if off_axis(c.z, n.nz) {
+        return Verdict::Refused(Refusal::OffGrid(e, Axis::Z));
+    }
+    Verdict::Fine
+}
+
+// Both ends, P before Q.
+fn check_ends(n: Counts, p: Cell, q: Cell) -> Verdict
+    ensures { λ r. ⌜ r ≡ (grid-check P n p then grid-check Q n q) ⌝ }
+{
+    match check_end(End::P, n, p) {
+        Verdict::Refused(r) => Verdict::Refused(r),
+        Verdict::Fine => check_end(End::Q, n, q),
+    }
+}
+
+// Refusals 2, 3, then 5.
+pub fn check_walk(n: Counts, bytes: usize, p: Cell, q: Cell) -> Verdict
+    ensures { λ r. ⌜ r ≡ walk-check n bytes p q ⌝ }
+{
+    match shape(n, bytes) {
+        Verdict::Refused(r) => Verdict::Refused(r),
+        Verdict::Fine => check_ends(n, p, q),
+    }
+}
+
+// ---- cells and bytes
+
+// The place of a cell's byte.
+pub fn index_of(n: Counts, c: Cell) -> u32
+    requires { ⌜ Enclosed n c ⌝ }
+    ensures { λ r. ⌜ r ≡ byte-index n c ⌝ }
+{
+    let x = c.x as u32;
+    let y = c.y as u32;
+    let z = c.z as u32;
+    x + n.nx * (y + n.ny * z)
+}
+
+// The cell of the byte at i.
+pub fn cell_at(n: Counts, i: u32) -> Cell
+    requires { ⌜ Good (n .nx) × Good (n .ny) × (i < 1073741824) ⌝ }
+    ensures { λ r. ⌜ r ≡ cell-at n i ⌝ }
+{
+    let x = (i % n.nx) as i32;
+    let y = (i / n.nx % n.ny) as i32;
+    let z = (i / (n.nx * n.ny)) as i32;
+    Cell { x: x, y: y, z: z }
 }

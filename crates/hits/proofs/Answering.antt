@@ -11,9 +11,10 @@ use Rattle.cells.specs.declared.Verdict.the-variants.{Fine, Refused}
 use Rattle.walks.specs.declared.Walker.{Walker}
 use Rattle.walks.specs.declared.FirstHit.{FirstHit}
 use Rattle.walks.specs.declared.FirstHit.the-variants.{Refused as NotWalked}
-use Rattle.walks.specs.Answers.{walk-check, Finds}
-use Rattle.walks.proofs.Numbers.{end-of, reads-of}
-use Rattle.walks.proofs.Story.{answer-at, end-below, first-hit-is}
+use Rattle.grids.specs.Inside.{walk-check}
+use Rattle.walks.specs.Answers.{Finds}
+use Rattle.walks.specs.Numbers.{end-of, reads-of, answer-at}
+use Rattle.walks.proofs.Story.{end-below, first-hit-is}
 use Rattle.routes.specs.declared.Route.{Route}
 use Rattle.routes.specs.Route.{RouteOf, Planned, HasByte}
 use Rattle.routes.proofs.Spots.{spot-byte, place-within}

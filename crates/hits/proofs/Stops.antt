@@ -6,38 +6,29 @@ use Prim.Native.Nat.{ℕ, _+_, _-_, _≤_}
 use native.Mathlib.Omega.{arith}
 use lib.IntN.{pos, natAbs}
 use Rattle.cells.specs.declared.Cell.{Cell}
-use Rattle.cells.specs.declared.Counts.{Counts}
 use Rattle.cells.specs.Touching.{on, apart}
-use Rattle.lines.specs.Steps.{X, Y, Z, Steps, total}
+use Rattle.lines.specs.Steps.{Steps, total}
 use Rattle.lines.specs.Preference.{rule-1}
 use Rattle.lines.specs.Crossings.{place}
 use Rattle.lines.specs.Lines.{differences, cell-of, six-cell}
 use Rattle.lines.proofs.Cells.{six-is, cell-on}
 use Rattle.lines.proofs.Towards.{towards-start, towards-apart}
 use Rattle.tripod.specs.Tripod.{steps}
-use Rattle.grids.specs.Grid.{cell-at, byte-of, solid, index}
-use Rattle.grids.proofs.Places.{cell-at-index}
+use Rattle.grids.specs.Grid.{cell-at, byte-of, solid, index, byte-index}
 use Rattle.walks.specs.declared.FirstHit.the-variants.{Clear, Hit as Blocked}
 use Rattle.walks.specs.Answers.{entered-at}
-use Rattle.walks.specs.Safe.{InGrid}
 use Rattle.walks.proofs.Inside.{six-inside}
-use Rattle.walks.proofs.Story.{answer-at}
+use Rattle.walks.specs.Numbers.{answer-at}
 use Rattle.routes.specs.declared.Route.{Route}
 use Rattle.hits.specs.declared.Stop.{Stop}
 use Rattle.hits.specs.Found.{Stopped}
-use Rattle.routes.specs.Route.{byte-index, Planned, course, byte-of-spot}
+use Rattle.routes.specs.Route.{Planned, course, byte-of-spot}
 use Rattle.places.specs.Entered.{entered}
 use Rattle.hits.specs.Answer.{answer-from}
-use Rattle.routes.proofs.Held.{inside-nat}
-use Rattle.routes.proofs.Spots.{inside-below, byte-is}
+use Rattle.grids.proofs.Inside.{indexed}
+use Rattle.routes.proofs.Spots.{byte-is}
 use Rattle.places.proofs.Entering.{entered-is}
 use mathlib.Core.Path.{fun-ext}
-
--- the cell of a cell's byte is the cell
-cell-back : (n : Counts) (c : Cell) → InGrid n c → n .nx ≤ 1024 → n .ny ≤ 1024 → n .nz ≤ 1024 → cell-at n (byte-index n c) ≡ c
-cell-back n c h mx my mz =
-    cell-at-index n (natAbs (c .x)) (natAbs (c .y)) (natAbs (c .z)) (inside-below (c .x) (n .nx) (h .inside X)) (inside-below (c .y) (n .ny) (h .inside Y))
-    ∙ (λ i. record { x = sym (inside-nat (c .x) (n .nx) mx (h .inside X)) i; y = sym (inside-nat (c .y) (n .ny) my (h .inside Y)) i; z = sym (inside-nat (c .z) (n .nz) mz (h .inside Z)) i })
 
 -- the steps from P to a place of the line
 pub steps-back : (p q : Cell) (t : Steps) → differences p (cell-of p q t) ≡ t
@@ -66,7 +57,7 @@ module _ (bytes : ℕ) (k : Route) (plan : Planned bytes k) (l : List ℕ) where
       cell : cell-at (k .n) (natAbs (r .spot .at)) ≡ f
       cell =
           ap (λ z. cell-at (k .n) (natAbs z)) (h .spot .index ∙ ap (λ c. pos (byte-index (k .n) c)) (sym f-is))
-          ∙ cell-back (k .n) f (six-inside (k .n) (k .p) (k .q) (plan .p-in) (plan .q-in) e le) (plan .shaped .x .most) (plan .shaped .y .most) (plan .shaped .z .most)
+          ∙ indexed (k .n) bytes f (plan .shaped) (six-inside (k .n) (k .p) (k .q) (plan .p-in) (plan .q-in) e le) .is
 
       byte : byte-of-spot l (r .spot) ≡ byte-of (k .n) l f
       byte = byte-is bytes k plan l (place (course k) e) (r .spot) (h .spot) ∙ ap (byte-of (k .n) l) (sym f-is)

@@ -11,15 +11,15 @@ use lib.ListN.{length}
 use borrow.Author.Tests.{ne-eqb}
 use Rattle.lines.specs.Steps.{Axis, X, Y, Z, Steps, at, total}
 use Rattle.lines.specs.Preference.{rule-1}
-use Rattle.lines.specs.Lines.{differences, longest, place-26, six-cell}
+use Rattle.lines.specs.Lines.{differences, longest, place-26, six-cell, number-26}
 use Rattle.lines.proofs.Centres.{within-26, grows-26, moved-start, moved-end, longest-most}
 use Rattle.lines.proofs.Cells.{six-at-26}
 use Rattle.tripod.specs.declared.Moves.{Moves}
 use Rattle.tripod.specs.Tripod.{steps, SmallTripod, LongMoves, moves-on}
 use Rattle.grids.specs.Grid.{byte-of, solid, clear}
 use Rattle.walks.proofs.Runs.{by-one}
-use Rattle.walks.proofs.Progress.{OnWay}
-use Rattle.walks.proofs.Numbers.{number-26, go-rises}
+use Rattle.walks.specs.Numbers.{OnWay}
+use Rattle.walks.proofs.Numbers.{go-rises}
 use Rattle.walks.proofs.Long.{go-long, go-face, go-between}
 use Rattle.routes.specs.declared.Route.{Route}
 use Rattle.routes.specs.declared.Spot.{Spot}

@@ -15,8 +15,8 @@ use Rattle.lines.proofs.Cells.{six-is}
 use Rattle.lines.proofs.Fractions.{place-start}
 use Rattle.tripod.specs.Tripod.{NextFace}
 use Rattle.grids.specs.Grid.{byte-of, solid}
-use Rattle.walks.proofs.Runs.{Rises}
-use Rattle.walks.proofs.Progress.{OnWay, on-start, on-stop, on-turn}
+use Rattle.walks.specs.Numbers.{Rises, OnWay}
+use Rattle.walks.proofs.Progress.{on-start, on-stop, on-turn}
 use Rattle.routes.specs.declared.Route.{Route}
 use Rattle.routes.specs.declared.Spot.{Spot}
 use Rattle.routes.specs.Route.{Planned, course, SpotAt, byte-of-spot, crossed-spot}

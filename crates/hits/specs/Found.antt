@@ -7,15 +7,12 @@ use mathlib.Core.List.{List}
 use lib.ListN.{length}
 use Rattle.lines.specs.Steps.{Axis}
 use Rattle.lines.specs.Crossings.{place}
-use Rattle.lines.specs.Lines.{differences, longest}
+use Rattle.lines.specs.Lines.{differences, longest, number-26}
 use Rattle.tripod.specs.Tripod.{steps}
 use Rattle.walks.specs.declared.Walker.{Walker}
 use Rattle.walks.specs.declared.Walker.the-variants.{Adaptive}
 use Rattle.walks.specs.declared.FirstHit.{FirstHit}
-use Rattle.walks.proofs.Runs.{ends, visits, Rises}
-use Rattle.walks.proofs.Progress.{OnWay}
-use Rattle.walks.proofs.Numbers.{last-number, number-26, solid-at, step, end-of, reads-of}
-use Rattle.walks.proofs.Story.{answer-at}
+use Rattle.walks.specs.Numbers.{ends, visits, Rises, OnWay, last-number, solid-at, step, end-of, reads-of, answer-at}
 use Rattle.routes.specs.declared.Route.{Route}
 use Rattle.routes.specs.declared.Spot.{Spot}
 use Rattle.hits.specs.declared.Turn.{Turn}

@@ -194,7 +194,7 @@ pub fn answer_of(cells: &[u8], k: Route, r: Stop) -> FirstHit
     if !is_solid(code) {
         return FirstHit::Clear(r.reads);
     }
-    let cell = places::cell_at(k.n, spot.at as u32);
+    let cell = grids::cell_at(k.n, spot.at as u32);
     let made = tripod::measured(k.p, cell);
     let place = places::place_after(k.d, made);
     FirstHit::Hit(Hit {
@@ -227,7 +227,7 @@ fn adaptive_answer(cells: &[u8], k: Route) -> FirstHit
 pub fn first_plain(n: Counts, cells: &[u8], p: Cell, q: Cell) -> FirstHit
     ensures { λ r. ⌜ Finds Plain n (now (cells .entry)) p q r ⌝ }
 {
-    match routes::check_walk(n, cells.len(), p, q) {
+    match grids::check_walk(n, cells.len(), p, q) {
         Verdict::Refused(r) => FirstHit::Refused(r),
         Verdict::Fine => plain_answer(cells, routes::route_of(n, p, q)),
     }
@@ -237,7 +237,7 @@ pub fn first_plain(n: Counts, cells: &[u8], p: Cell, q: Cell) -> FirstHit
 pub fn first_adaptive(n: Counts, cells: &[u8], p: Cell, q: Cell) -> FirstHit
     ensures { λ r. ⌜ Finds Adaptive n (now (cells .entry)) p q r ⌝ }
 {
-    match routes::check_walk(n, cells.len(), p, q) {
+    match grids::check_walk(n, cells.len(), p, q) {
         Verdict::Refused(r) => FirstHit::Refused(r),
         Verdict::Fine => adaptive_answer(cells, routes::route_of(n, p, q)),
     }

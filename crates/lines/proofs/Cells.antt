@@ -12,20 +12,20 @@ use lib.ListN.{length, getD, length-append, List·getD-append}
 use lib.Seq.{getD-append-add}
 use Rattle.cells.specs.declared.Cell.{Cell}
 use Rattle.cells.specs.Tabulate.{tabulate}
-use Rattle.cells.specs.Touching.{on, apart, differ, axes-apart, Touches}
+use Rattle.cells.specs.Touching.{on, apart, differ, Touches}
 use Rattle.cells.proofs.Tabulate.{tabulate-length, tabulate-at}
 use Rattle.cells.proofs.Touching.{and-both}
 use Rattle.cells.proofs.Signed.{up, dn, one-sided, diff-is, abs-is, leZ-true}
-use Rattle.lines.specs.Steps.{Axis, X, Y, Z, Steps, total, same}
-use Rattle.lines.specs.Crossings.{Course, upper, before, next, place}
+use Rattle.lines.specs.Steps.{Axis, X, Y, Z, Steps, total}
+use Rattle.lines.specs.Crossings.{Course, upper, next, place}
 use Rattle.lines.specs.Preference.{Preference, rule-1}
 use Rattle.lines.specs.Towards.{towards}
-use Rattle.lines.specs.Lines.{differences, cell-of, centres, six-cell, six-line, longest, place-26, cell-26, line-26, in-limit, InLimit}
+use Rattle.lines.specs.Lines.{differences, cell-of, centres, six-cell, six-line, longest, place-26, cell-26, line-26, in-limit, InLimit, number-26}
 use Rattle.lines.specs.Segment.{Share, InClosed, InOpen}
-use Rattle.lines.proofs.Steps.{lt-or-ge, bump, total-bump, same-self, Cmp, here, other, cmp}
-use Rattle.lines.proofs.Merge.{Within, OnLine, Next, Rule, walk-end}
-use Rattle.lines.proofs.Fractions.{Before, Good, InClosedSteps, InOpenSteps, laws, next-rule, place-start, place-total, place-suc, place-on, on-is-place, place-end, start-touched, entered-touched, none-left-out}
-use Rattle.lines.proofs.Centres.{centres-good, longest-most, longest-axis, within-26, is-place-26, skipped-26, grows-26, moved-start, moved-end, moved-longest, moved-grows, moved-by-one}
+use Rattle.lines.proofs.Steps.{bump, total-bump, same-self, Cmp, here, other, cmp}
+use Rattle.lines.proofs.Merge.{Next, Rule}
+use Rattle.lines.proofs.Fractions.{Before, Good, InClosedSteps, InOpenSteps, laws, next-rule, place-start, place-total, place-suc, place-on, place-end, start-touched, entered-touched, none-left-out}
+use Rattle.lines.proofs.Centres.{centres-good, longest-most, is-place-26, skipped-26, moved-start, moved-end, moved-longest, moved-grows, moved-by-one}
 use Rattle.lines.proofs.Towards.{towards-start, towards-end, towards-apart, Passed, open-passed, passed-closed}
 
 -- ---- cells by axis
@@ -162,18 +162,14 @@ module _ (r : Preference) (p q : Cell) where
 
   -- ---- laws 4 and 5
 
-  -- the number of 26-line cell m among the cells of the 6-line
-  abbrev pub number-26 : ℕ → ℕ
-  number-26 m = total (place-26 D m)
-
   pub is-26 : (m : ℕ) → cell-26 p q m ≡ cell-of p q (place-26 D m)
   unfolding cell-26
   is-26 m = refl
 
-  pub six-at-26 : (m : ℕ) → m ≤ longest D → cell-26 p q m ≡ six-cell r p q (number-26 m)
-  six-at-26 m le = is-26 m ∙ ap (cell-of p q) (fun-ext (is-place-26 D r m le)) ∙ sym (six-is (number-26 m))
+  pub six-at-26 : (m : ℕ) → m ≤ longest D → cell-26 p q m ≡ six-cell r p q (number-26 p q m)
+  six-at-26 m le = is-26 m ∙ ap (cell-of p q) (fun-ext (is-place-26 D r m le)) ∙ sym (six-is (number-26 p q m))
 
-  pub skipped-touches : (m n : ℕ) → m < longest D → number-26 m < n → n < number-26 (m + 1) → Touches 2 (cell-26 p q m) (six-cell r p q n)
+  pub skipped-touches : (m n : ℕ) → m < longest D → number-26 p q m < n → n < number-26 p q (m + 1) → Touches 2 (cell-26 p q m) (six-cell r p q n)
   skipped-touches m n lt lo hi =
       let s = skipped-26 D r m n lt lo hi in
       rw (is-26 m, six-is n) (further-touches p q (place-26 D m) (place C n) 2 (s .0) (s .1) (s .2))

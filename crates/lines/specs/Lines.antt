@@ -49,6 +49,10 @@ moved-26 (suc n) D m =
 abbrev pub place-26 : Steps → ℕ → Steps
 place-26 D m a = moved-26 (longest D) (D a) m
 
+-- its number in the 6-line, as a law says (`claims`, TwentySixLine)
+abbrev pub number-26 : Cell → Cell → ℕ → ℕ
+number-26 p q m = total (place-26 (differences p q) m)
+
 unfoldable pub cell-26 : Cell → Cell → ℕ → Cell
 unfolding moved-26
 cell-26 p q m = cell-of p q (place-26 (differences p q) m)

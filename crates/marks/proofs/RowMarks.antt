@@ -13,7 +13,7 @@ use Rattle.grids.specs.Grid.{cell-at, clear, solid}
 use Rattle.grids.specs.Marks.{any, touches-solid, marked-byte, complete}
 use Rattle.marks.specs.Rows.{in-column, Filled, Shows, Framed, beside, mark-for, put-byte, gap-by, gap}
 use Rattle.grids.proofs.Any.{same-test, any-same, any-some, any-which, any-false}
-use Rattle.grids.proofs.Shapes.{Shaped}
+use Rattle.grids.specs.Inside.{Shaped}
 use Rattle.grids.proofs.Beside.{touches-beside, beside-touches}
 use Rattle.grids.proofs.Marking.{SameSolid, marked-byte-is, marked-byte-solid}
 use Rattle.marks.proofs.Windows.{window-beside, beside-window}

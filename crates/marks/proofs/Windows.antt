@@ -16,7 +16,7 @@ use Rattle.grids.specs.Grid.{index, clear, solid}
 use Rattle.marks.specs.declared.Three.{Three}
 use Rattle.marks.specs.Rows.{of-three, lowest, highest, nearby, starts, Within, in-rows, in-column, Shows, Framed, beside, gap-by}
 use Rattle.grids.proofs.Any.{same-test, or-true, or-either, any-zero, any-more}
-use Rattle.grids.proofs.Shapes.{Shaped}
+use Rattle.grids.specs.Inside.{Shaped}
 use Rattle.grids.proofs.Beside.{Next, SolidBeside}
 
 -- ---- one of three

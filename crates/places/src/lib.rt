@@ -1,27 +1,12 @@
-// The cell and the place of a hit, worked out once, where a walk stopped.
+// The place of a hit, worked out once, where a walk stopped.
 ghost use mathlib.Core.Path.{_≡_};
 ghost use mathlib.Core.Bool.{_&&_};
-ghost use Prim.Native.Nat.{_≤_, _<_};
+ghost use Prim.Native.Nat.{_≤_};
 ghost use Rattle.tripod.specs.Tripod.{steps, Short};
-ghost use Rattle.grids.specs.Grid.{cell-at};
-ghost use Rattle.grids.proofs.Shapes.{Good};
 ghost use Rattle.places.specs.Entered.{numerator, behind, last-axis, entered};
 use cells::Axis;
-use cells::Cell;
-use cells::Counts;
 use tripod::Diffs;
 use walks::Place;
-
-// The cell of the byte at i.
-pub fn cell_at(n: Counts, i: u32) -> Cell
-    requires { ⌜ Good (n .nx) × Good (n .ny) × (i < 1073741824) ⌝ }
-    ensures { λ r. ⌜ r ≡ cell-at n i ⌝ }
-{
-    let x = (i % n.nx) as i32;
-    let y = (i / n.nx % n.ny) as i32;
-    let z = (i / (n.nx * n.ny)) as i32;
-    Cell { x: x, y: y, z: z }
-}
 
 // The upper number of the crossing last made, 0 where there is none.
 fn numerator_of(i: u32) -> u32

@@ -12,7 +12,8 @@ use Rattle.cells.specs.declared.Verdict.{Verdict}
 use Rattle.cells.specs.declared.Verdict.the-variants.{Fine, Refused}
 use Rattle.walks.specs.declared.FirstHit.{FirstHit}
 use Rattle.walks.specs.declared.Walker.the-variants.{Plain, Adaptive}
-use Rattle.walks.specs.Answers.{walk-check, first-hit}
+use Rattle.grids.specs.Inside.{walk-check}
+use Rattle.walks.specs.Answers.{first-hit}
 use Rattle.records.specs.declared.pairs.PairRead.{PairRead}
 use Rattle.records.specs.declared.pairs.PairRead.the-variants.{Read, Refused as NoPair}
 use Rattle.records.specs.Pairs.{pair-read}

@@ -147,7 +147,7 @@ fn pair_said(n: Counts, cells: &[u8], k: u64, e: Pair, text: &mut [u8]) -> Step
     let p = e.p;
     let q = e.q;
     let next = Next::On(k + 1);
-    match routes::check_walk(n, cells.len(), p, q) {
+    match grids::check_walk(n, cells.len(), p, q) {
         Verdict::Refused(r) => pair_refused(k, r, next, text),
         Verdict::Fine => {
             let plain = hits::first_plain(n, cells, p, q);

@@ -9,14 +9,14 @@ use Rattle.cells.specs.declared.Verdict.the-variants.{Fine, Refused}
 use Rattle.lines.specs.Lines.{differences}
 use Rattle.lines.specs.Decisions.{doubled}
 use Rattle.tripod.specs.Tripod.{steps, Short}
-use Rattle.grids.proofs.Shapes.{Shaped, shaped}
+use Rattle.grids.specs.Inside.{Shaped, walk-check, InGrid, Enclosed}
+use Rattle.grids.proofs.Shapes.{shaped}
 use Rattle.walks.specs.declared.FirstHit.{FirstHit}
 use Rattle.walks.specs.declared.FirstHit.the-variants.{Refused as NotWalked}
-use Rattle.walks.specs.Answers.{walk-check, answer-by}
-use Rattle.walks.specs.Safe.{InGrid}
-use Rattle.walks.proofs.Inside.{accepted}
+use Rattle.walks.specs.Answers.{answer-by}
+use Rattle.grids.proofs.Inside.{accepted}
 use Rattle.routes.specs.declared.Route.{Route}
-use Rattle.routes.specs.Route.{strides, Enclosed, RouteOf, Planned}
+use Rattle.routes.specs.Route.{strides, RouteOf, Planned}
 
 module _ (n : Counts) (bytes : ℕ) (p q : Cell) (fine : walk-check n bytes p q ≡ Fine) where
   has-shape : Shaped n bytes

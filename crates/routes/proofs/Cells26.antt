@@ -5,11 +5,10 @@ use native.Mathlib.Omega.{arith}
 use Rattle.lines.specs.Steps.{X, Y, Z, Steps, total}
 use Rattle.lines.specs.Preference.{rule-1}
 use Rattle.lines.specs.Crossings.{place}
-use Rattle.lines.specs.Lines.{differences, longest, place-26}
+use Rattle.lines.specs.Lines.{differences, longest, place-26, number-26}
 use Rattle.lines.proofs.Centres.{is-place-26}
 use Rattle.tripod.specs.declared.Moves.{Moves}
 use Rattle.tripod.specs.Tripod.{LongMoves, moves-on}
-use Rattle.walks.proofs.Numbers.{number-26}
 use Rattle.routes.specs.declared.Route.{Route}
 use Rattle.routes.specs.declared.Spot.{Spot}
 use Rattle.routes.specs.Route.{course, SpotAt}

@@ -1,4 +1,3 @@
-pub mod Held
 pub mod Spots
 pub mod Cells26
 pub mod Accepting

@@ -28,26 +28,16 @@ use Rattle.lines.proofs.Cells.{limited-difference, cell-on}
 use Rattle.lines.proofs.Signs.{step-moves}
 use Rattle.tripod.specs.Tripod.{NextFace}
 use Rattle.tripod.proofs.Laws.{place-small, doubled-small}
-use Rattle.grids.specs.Grid.{index, cell-at, byte-of}
-use Rattle.grids.proofs.Shapes.{Shaped}
-use Rattle.grids.proofs.Places.{index-below, x-below, y-below, z-below}
-use Rattle.walks.specs.Safe.{count-on, InGrid}
-use Rattle.walks.specs.Answers.{off-axis}
-use Rattle.walks.proofs.Inside.{inside-parts, cell-inside}
+use Rattle.grids.specs.Grid.{index, cell-at, byte-of, byte-index}
+use Rattle.grids.specs.Inside.{Shaped, count-on, InGrid, off-axis}
+use Rattle.grids.proofs.Places.{x-below, y-below, z-below}
+use Rattle.grids.proofs.Inside.{inside-parts, counts-most, byte-below}
+use Rattle.walks.proofs.Inside.{cell-inside}
 use Rattle.routes.specs.declared.Route.{Route}
 use Rattle.routes.specs.declared.Spot.{Spot}
-use Rattle.routes.specs.Route.{byte-index, stride, strides, stride-on, Planned, course, SpotAt, HasByte, byte-of-spot, crossed-spot, CanCross}
+use Rattle.routes.specs.Route.{stride, strides, stride-on, Planned, course, SpotAt, HasByte, byte-of-spot, crossed-spot, CanCross}
 
 -- ---- cells of the grid
-
--- a coordinate inside an axis, as a natural number
-pub inside-below : (z : ℤ) (count : ℕ) → off-axis z count ≡ false → natAbs z < count
-inside-below z count h = let (d, u) = inside-parts z count h in omega (arith, abs-is z)
-
-pub counts-most : (n : Counts) {bytes : ℕ} → Shaped n bytes → (a : Axis) → count-on n a ≤ 1024
-counts-most n s X = s .x .most
-counts-most n s Y = s .y .most
-counts-most n s Z = s .z .most
 
 -- a coordinate inside an axis lies within the limit
 near-limit : (z : ℤ) (count : ℕ) → count ≤ 1024 → off-axis z count ≡ false → in-limit z ≡ true
@@ -57,12 +47,6 @@ near-limit z count most h =
 
 pub grid-limit : (n : Counts) {bytes : ℕ} → Shaped n bytes → (c : Cell) → InGrid n c → InLimit c
 grid-limit n s c h = record { limit = λ a. near-limit (on c a) (count-on n a) (counts-most n s a) (h .inside a) }
-
--- its byte is one of the grid's
-pub byte-below : (n : Counts) (bytes : ℕ) → Shaped n bytes → (c : Cell) → InGrid n c → byte-index n c < bytes
-byte-below n bytes s c h =
-    subst (λ b. byte-index n c < b) (sym (s .bytes-are))
-    (index-below n (natAbs (c .x)) (natAbs (c .y)) (natAbs (c .z)) (inside-below (c .x) (n .nx) (h .inside X)) (inside-below (c .y) (n .ny) (h .inside Y)) (inside-below (c .z) (n .nz) (h .inside Z)))
 
 -- the cell of a byte lies within the limit
 pub byte-limit : (n : Counts) (bytes : ℕ) → Shaped n bytes → (i : ℕ) → i < bytes → InLimit (cell-at n i)

@@ -15,16 +15,11 @@ use Rattle.lines.specs.Crossings.{Course}
 use Rattle.lines.specs.Lines.{differences, centres, cell-of}
 use Rattle.lines.specs.Decisions.{values, doubled, moved-values}
 use Rattle.tripod.specs.Tripod.{steps, Short, SmallTripod, SmallDoubled}
-use Rattle.grids.specs.Grid.{index}
-use Rattle.grids.proofs.Shapes.{Shaped}
-use Rattle.walks.specs.Safe.{InGrid}
+use Rattle.grids.specs.Grid.{index, byte-index}
+use Rattle.grids.specs.Inside.{Shaped, InGrid}
 use Rattle.routes.specs.declared.Strides.{Strides}
 use Rattle.routes.specs.declared.Route.{Route}
 use Rattle.routes.specs.declared.Spot.{Spot}
-
--- the place of a cell's byte
-abbrev pub byte-index : Counts → Cell → ℕ
-byte-index n c = index n (natAbs (c .x)) (natAbs (c .y)) (natAbs (c .z))
 
 -- how far that place moves with a cell towards q, on an axis where a cell further on is `width` bytes further on
 abbrev pub stride : ℤ → ℤ → ℕ → ℤ
@@ -39,12 +34,6 @@ abbrev pub stride-on : Strides → Axis → ℤ
 stride-on h X = h .x
 stride-on h Y = h .y
 stride-on h Z = h .z
-
--- a cell of a grid
-pub record Enclosed (n : Counts) (c : Cell) : Type 0 where
-  pub bytes : ℕ
-  pub shaped : Shaped n bytes
-  pub inside : InGrid n c
 
 -- the route from p to q
 pub record RouteOf (n : Counts) (p q : Cell) (k : Route) : Type 0 where

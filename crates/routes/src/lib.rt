@@ -3,19 +3,14 @@
 ghost use mathlib.Core.Path.{_≡_};
 ghost use Prim.Native.Nat.{_≤_};
 ghost use lib.ListN.{length};
-ghost use Rattle.cells.specs.Checks.{_then_};
-ghost use Rattle.cells.specs.declared.End.the-variants.{P, Q};
 ghost use Rattle.lines.specs.Steps.{at};
 ghost use Rattle.lines.specs.Lines.{differences};
 ghost use Rattle.tripod.specs.Tripod.{steps, Short};
-ghost use Rattle.walks.specs.Answers.{off-axis, grid-check, walk-check};
-ghost use Rattle.routes.specs.Route.{byte-index, stride, strides, Enclosed, RouteOf, SpotAt, HasByte, byte-of-spot, crossed-spot, CanCross};
+ghost use Rattle.grids.specs.Inside.{Enclosed};
+ghost use Rattle.routes.specs.Route.{stride, strides, RouteOf, SpotAt, HasByte, byte-of-spot, crossed-spot, CanCross};
 use cells::Axis;
 use cells::Cell;
 use cells::Counts;
-use cells::End;
-use cells::Refusal;
-use cells::Verdict;
 use lines::Doubled;
 use lines::Tripod;
 use tripod::Diffs;
@@ -41,49 +36,6 @@ pub struct Route {
 pub struct Spot {
     pub at: i32,
     pub e: Tripod,
-}
-
-// Whether a coordinate lies outside an axis.
-fn off_axis(v: i32, count: u32) -> bool
-    ensures { λ r. ⌜ r ≡ off-axis v count ⌝ }
-{
-    if v < 0 { true } else { count <= v as u32 }
-}
-
-// An end inside the grid, or refusal 5 with the first axis on which it is not.
-fn check_end(e: End, n: Counts, c: Cell) -> Verdict
-    ensures { λ r. ⌜ r ≡ grid-check e n c ⌝ }
-{
-    if off_axis(c.x, n.nx) {
-        return Verdict::Refused(Refusal::OffGrid(e, Axis::X));
-    }
-    if off_axis(c.y, n.ny) {
-        return Verdict::Refused(Refusal::OffGrid(e, Axis::Y));
-    }
-    if off_axis(c.z, n.nz) {
-        return Verdict::Refused(Refusal::OffGrid(e, Axis::Z));
-    }
-    Verdict::Fine
-}
-
-// Both ends, P before Q.
-fn check_ends(n: Counts, p: Cell, q: Cell) -> Verdict
-    ensures { λ r. ⌜ r ≡ (grid-check P n p then grid-check Q n q) ⌝ }
-{
-    match check_end(End::P, n, p) {
-        Verdict::Refused(r) => Verdict::Refused(r),
-        Verdict::Fine => check_end(End::Q, n, q),
-    }
-}
-
-// Refusals 2, 3, then 5.
-pub fn check_walk(n: Counts, bytes: usize, p: Cell, q: Cell) -> Verdict
-    ensures { λ r. ⌜ r ≡ walk-check n bytes p q ⌝ }
-{
-    match grids::shape(n, bytes) {
-        Verdict::Refused(r) => Verdict::Refused(r),
-        Verdict::Fine => check_ends(n, p, q),
-    }
 }
 
 // The stride from p towards q on an axis where a cell further on is `width` bytes further on.
@@ -124,24 +76,13 @@ pub fn route_of(n: Counts, p: Cell, q: Cell) -> Route
     }
 }
 
-// The place of a cell's byte.
-fn index_of(n: Counts, c: Cell) -> u32
-    requires { ⌜ Enclosed n c ⌝ }
-    ensures { λ r. ⌜ r ≡ byte-index n c ⌝ }
-{
-    let x = c.x as u32;
-    let y = c.y as u32;
-    let z = c.z as u32;
-    x + n.nx * (y + n.ny * z)
-}
-
 // The spot of P.
 pub fn first_spot(k: Route) -> Spot
     requires { ⌜ Enclosed (k .n) (k .p) × Short (k .d) × (steps (k .d) ≡ differences (k .p) (k .q)) ⌝ }
     ensures { λ r. ⌜ SpotAt k (at 0 0 0) r ⌝ }
 {
     let e = tripod::first_values(k.d);
-    let index = index_of(k.n, k.p) as i32;
+    let index = grids::index_of(k.n, k.p) as i32;
     Spot { at: index, e: e }
 }
 

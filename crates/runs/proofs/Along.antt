@@ -18,10 +18,10 @@ use Rattle.lines.specs.Decisions.{values, doubled}
 use Rattle.lines.proofs.Centres.{within-26}
 use Rattle.lines.proofs.Cells.{is-26}
 use Rattle.tripod.proofs.Leap.{where-to, where-at}
-use Rattle.grids.specs.Grid.{byte-of}
+use Rattle.grids.specs.Grid.{byte-of, byte-index}
 use Rattle.routes.specs.declared.Route.{Route}
 use Rattle.routes.specs.declared.Spot.{Spot}
-use Rattle.routes.specs.Route.{byte-index, stride, strides, stride-on, Planned, SpotAt, HasByte, byte-there}
+use Rattle.routes.specs.Route.{stride, strides, stride-on, Planned, SpotAt, HasByte, byte-there}
 use Rattle.routes.proofs.Spots.{short-at, index-next, spot-byte, byte-is, can-cross}
 use Rattle.runs.specs.declared.Slope.{Slope}
 use Rattle.runs.specs.declared.Lean.{Lean}

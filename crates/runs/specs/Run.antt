@@ -13,10 +13,10 @@ use Rattle.lines.specs.Steps.{Axis, X, Y, Z, Steps}
 use Rattle.lines.specs.Lines.{differences, cell-of, longest, place-26, cell-26}
 use Rattle.lines.specs.Decisions.{decision, values}
 use Rattle.tripod.specs.Tripod.{steps}
-use Rattle.grids.specs.Grid.{byte-of}
+use Rattle.grids.specs.Grid.{byte-of, byte-index}
 use Rattle.routes.specs.declared.Route.{Route}
 use Rattle.routes.specs.declared.Spot.{Spot}
-use Rattle.routes.specs.Route.{byte-index, stride-on, byte-there, Planned}
+use Rattle.routes.specs.Route.{stride-on, byte-there, Planned}
 use Rattle.runs.specs.declared.Slope.{Slope}
 use Rattle.runs.specs.declared.Lean.{Lean}
 use Rattle.runs.specs.declared.Run.{Run}

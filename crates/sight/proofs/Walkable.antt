@@ -14,9 +14,8 @@ use Rattle.cells.specs.declared.Verdict.the-variants.{Fine}
 use Rattle.cells.specs.Touching.{on}
 use Rattle.cells.proofs.Signed.{le-ltZ, lt-leZ}
 use Rattle.grids.specs.Grid.{shape}
-use Rattle.walks.specs.Answers.{off-axis, walk-check}
-use Rattle.walks.specs.Safe.{count-on, InGrid}
-use Rattle.walks.proofs.Inside.{walk-fine}
+use Rattle.grids.specs.Inside.{off-axis, walk-check, count-on, InGrid}
+use Rattle.grids.proofs.Inside.{walk-fine}
 use Rattle.survey.specs.declared.Lookup.the-variants.{Cell}
 use Rattle.survey.specs.declared.Placement.{Placement}
 use Rattle.survey.specs.declared.Point.{Point}

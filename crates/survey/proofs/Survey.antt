@@ -13,17 +13,16 @@ use Rattle.cells.specs.declared.End.{End}
 use Rattle.cells.specs.declared.Counts.{Counts}
 use Rattle.cells.specs.declared.Axis.the-variants.{X, Y, Z}
 use Rattle.cells.specs.declared.Refusal.{Refusal}
-use Rattle.cells.specs.declared.Refusal.the-variants.{Count, Bytes}
-use Rattle.cells.specs.declared.Verdict.{Verdict}
-use Rattle.cells.specs.declared.Verdict.the-variants.{Fine, Refused as Fails}
-use Rattle.cells.specs.Checks.{refuse-when, _then_}
+use Rattle.cells.specs.declared.Verdict.the-variants.{Fine}
+use Rattle.cells.specs.Checks.{refuse-when}
 use Rattle.cells.proofs.Checks.{each-fine, passed}
-use Rattle.grids.proofs.Shapes.{Good, counted}
+use Rattle.grids.specs.Inside.{Good}
+use Rattle.grids.proofs.Shapes.{counted}
 use Rattle.survey.specs.declared.Placement.{Placement}
 use Rattle.survey.specs.declared.Point.{Point}
 use Rattle.survey.specs.Quotient.{as-f64, quotient, outside}
 use Rattle.survey.specs.Search.{Inside, AllInside}
-use Rattle.survey.specs.Survey.{count-check, placement-check, Tested, quotients, value-check, point-check}
+use Rattle.survey.specs.Survey.{placement-check, Tested, quotients, value-check, point-check}
 use Rattle.survey.proofs.Tests.{neither}
 use Rattle.survey.proofs.Finite.{quotient-no-nan}
 use Rattle.survey.proofs.Whole.{at-least}

@@ -10,7 +10,7 @@ use lib.IntN.{ℤ}
 use lib.Signed.{leZ}
 use Rattle.cells.specs.declared.Cell.{Cell}
 use Rattle.cells.proofs.Touching.{and-both}
-use Rattle.cells.proofs.Signed.{up, dn, same-number, leZ-true, le-leZ}
+use Rattle.cells.proofs.Signed.{same-number, leZ-true, le-leZ}
 use Rattle.walks.specs.Walks.{is-same, is-cell, number-of}
 
 -- ---- the test
@@ -72,8 +72,3 @@ found f (suc n) s w different lt e =
     rw (other-is-not w (f n) (λ g. omega (arith, different s n lt (omega arith) (sym e ∙ g))))
     (found f n s w (λ i j a b. different i j (omega arith) (omega arith)) k e))
     (eq-or-lt-of-le {n = s} {m = n} (omega arith))
-
-pub not-found : (f : ℕ → Cell) (n : ℕ) (w : Cell) → ((s : ℕ) → s < n → w ≡ f s → ⊥) → number-of f n w ≡ none
-unfolding number-of
-not-found f zero w h = refl
-not-found f (suc n) w h = rw (other-is-not w (f n) (h n (omega arith))) (not-found f n w (λ s lt. h s (omega arith)))

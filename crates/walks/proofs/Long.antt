@@ -12,14 +12,15 @@ use native.Mathlib.Numerals.{add-one}
 use Rattle.cells.specs.declared.Cell.{Cell}
 use Rattle.cells.specs.declared.Counts.{Counts}
 use Rattle.lines.specs.Preference.{rule-1}
-use Rattle.lines.specs.Lines.{differences, longest, six-cell, cell-26}
+use Rattle.lines.specs.Lines.{differences, longest, six-cell, cell-26, number-26}
 use Rattle.lines.proofs.Steps.{lt-or-ge}
 use Rattle.lines.proofs.Centres.{grows-26}
 use Rattle.lines.proofs.Cells.{six-different, six-at-26}
 use Rattle.grids.specs.Grid.{byte-of, clear}
 use Rattle.walks.specs.Walks.{number-of, count-26}
 use Rattle.walks.proofs.Find.{found}
-use Rattle.walks.proofs.Numbers.{last-number, number-26, go-by, go, Way, face, long, way}
+use Rattle.walks.specs.Numbers.{last-number, go-by, go}
+use Rattle.walks.proofs.Numbers.{Way, face, long, way}
 
 module _ (p q : Cell) where
   -- a later cell of the 26-line has a greater number

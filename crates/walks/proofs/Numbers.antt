@@ -14,9 +14,9 @@ use borrow.Author.Tests.{eq-eqb, ne-eqb}
 use Rattle.cells.specs.declared.Cell.{Cell}
 use Rattle.cells.specs.declared.Counts.{Counts}
 use Rattle.cells.specs.Touching.{Touches}
-use Rattle.lines.specs.Steps.{Axis, X, Y, Z, Steps, total}
+use Rattle.lines.specs.Steps.{X, Y, Z}
 use Rattle.lines.specs.Preference.{rule-1}
-use Rattle.lines.specs.Lines.{differences, longest, six-cell, cell-26, place-26}
+use Rattle.lines.specs.Lines.{differences, longest, six-cell, cell-26, number-26}
 use Rattle.lines.proofs.Centres.{within-26, grows-26}
 use Rattle.lines.proofs.Cells.{six-start, six-end, six-different, six-at-26, end-26, skipped-touches}
 use Rattle.grids.specs.Grid.{byte-of, clear}
@@ -25,14 +25,8 @@ use Rattle.walks.specs.declared.Walker.the-variants.{Plain, Adaptive}
 use Rattle.walks.specs.Walks.{is-cell, number-of, six-count, count-26, after, long-or-plain, next-plain, next-adaptive, hit-at, walk, next-cell, walk-of}
 use Rattle.walks.specs.Answers.{last-of}
 use Rattle.walks.proofs.Find.{found, found-is, same-is-cell, other-is-not}
-use Rattle.walks.proofs.Runs.{stop, ends, visits, Rises, not-stopped, by-one}
-
--- the last number, and the number of 26-line cell m
-abbrev pub last-number : Cell → Cell → ℕ
-last-number p q = total (differences p q)
-
-abbrev pub number-26 : Cell → Cell → ℕ → ℕ
-number-26 p q m = total (place-26 (differences p q) m)
+use Rattle.walks.specs.Numbers.{stop, ends, visits, Rises, last-number, go-by, go, solid-at, step, end-of, reads-of}
+use Rattle.walks.proofs.Runs.{not-stopped, by-one}
 
 module _ (p q : Cell) where
   abbrev f : ℕ → Cell
@@ -77,33 +71,22 @@ module _ (p q : Cell) where
       record { below = omega arith; number = e; cell = is }
 
 module _ (n : Counts) (l : List ℕ) (p q : Cell) where
-  -- the number after s: by a long step where the byte is 0 and the cell is of the 26-line
-  abbrev pub go-by : ℕ → Option ℕ → ℕ
-  go-by s none = suc s
-  go-by s (some m) = number-26 p q (m + 1)
-
-  abbrev pub go : ℕ → ℕ
-  go s = cond (clear (byte-of n l (six-cell rule-1 p q s))) (go-by s (number-of (cell-26 p q) (count-26 p q) (six-cell rule-1 p q s))) (suc s)
-
-  abbrev pub solid-at : ℕ → Bool
-  solid-at s = hit-at n l (six-cell rule-1 p q s)
-
   -- the ways of a step: to the next number, or a long step
   pub data Way (s : ℕ) : ℕ → Type 0 where
     face : Way s (suc s)
     long : (m : ℕ) → clear (byte-of n l (six-cell rule-1 p q s)) ≡ true → Found26 p q s m → Way s (number-26 p q (m + 1))
 
-  pub way : (s : ℕ) → s < last-number p q → Way s (go s)
+  pub way : (s : ℕ) → s < last-number p q → Way s (go n l p q s)
   way s lt = by (clear (byte-of n l (six-cell rule-1 p q s))) refl (number-of (cell-26 p q) (count-26 p q) (six-cell rule-1 p q s)) refl
     where
       by :
           (t : Bool) → clear (byte-of n l (six-cell rule-1 p q s)) ≡ t → (o : Option ℕ) → number-of (cell-26 p q) (count-26 p q) (six-cell rule-1 p q s) ≡ o →
-          Way s (cond t (go-by s o) (suc s))
+          Way s (cond t (go-by n l p q s o) (suc s))
       by false e o h = face
       by true e none h = face
       by true e (some m) h = long m e (found-26 p q s m lt h)
 
-  pub go-rises : Rises (last-number p q) go
+  pub go-rises : Rises (last-number p q) (go n l p q)
   go-rises = record { up = λ s lt. up lt (way s lt); most = λ s lt. most lt (way s lt) }
     where
       up : {s t : ℕ} → s < last-number p q → Way s t → s < t
@@ -117,20 +100,20 @@ module _ (n : Counts) (l : List ℕ) (p q : Cell) where
           omega (arith, w X, w Y, w Z)
 
   -- what a step passes over shares a face or an edge with a clear cell that it left
-  pub skipped : (s t : ℕ) → s < last-number p q → s < t → t < go s → (clear (byte-of n l (six-cell rule-1 p q s)) ≡ true) × Touches 2 (six-cell rule-1 p q s) (six-cell rule-1 p q t)
+  pub skipped : (s t : ℕ) → s < last-number p q → s < t → t < go n l p q s → (clear (byte-of n l (six-cell rule-1 p q s)) ≡ true) × Touches 2 (six-cell rule-1 p q s) (six-cell rule-1 p q t)
   skipped s t lt lo hi = over (way s lt) lo hi
     where
       over : {u : ℕ} → Way s u → s < t → t < u → (clear (byte-of n l (six-cell rule-1 p q s)) ≡ true) × Touches 2 (six-cell rule-1 p q s) (six-cell rule-1 p q t)
       over face lo hi = absurd (omega arith)
       over (long m e h) lo hi = (e, rw (h .cell) (skipped-touches rule-1 p q m t (h .below) (omega (arith, h .number)) hi))
 
-  pub adaptive-next : (s : ℕ) → s < last-number p q → next-adaptive n l p q (six-cell rule-1 p q s) ≡ six-cell rule-1 p q (go s)
+  pub adaptive-next : (s : ℕ) → s < last-number p q → next-adaptive n l p q (six-cell rule-1 p q s) ≡ six-cell rule-1 p q (go n l p q s)
   unfolding next-adaptive
   adaptive-next s lt = by (clear (byte-of n l (six-cell rule-1 p q s))) (number-of (cell-26 p q) (count-26 p q) (six-cell rule-1 p q s)) refl
     where
       by :
           (t : Bool) (o : Option ℕ) → number-of (cell-26 p q) (count-26 p q) (six-cell rule-1 p q s) ≡ o →
-          cond t (long-or-plain p q (six-cell rule-1 p q s) o) (next-plain p q (six-cell rule-1 p q s)) ≡ six-cell rule-1 p q (cond t (go-by s o) (suc s))
+          cond t (long-or-plain p q (six-cell rule-1 p q s) o) (next-plain p q (six-cell rule-1 p q s)) ≡ six-cell rule-1 p q (cond t (go-by n l p q s o) (suc s))
       by false o h = plain-next p q s lt
       by true none h = plain-next p q s lt
       by true (some m) h = six-at-26 rule-1 p q (m + 1) (omega (arith, found-26 p q s m lt h .below))
@@ -185,28 +168,18 @@ module _ (n : Counts) (l : List ℕ) (p q : Cell) (next : Cell → Cell) (g : �
 
 -- each walk goes by its own step from number to number: the number where it ends, and its reads
 module _ (n : Counts) (l : List ℕ) (p q : Cell) where
-  abbrev pub step : Walker → ℕ → ℕ
-  step Plain = suc
-  step Adaptive = go n l p q
-
-  pub step-rises : (k : Walker) → Rises (last-number p q) (step k)
+  pub step-rises : (k : Walker) → Rises (last-number p q) (step n l p q k)
   step-rises Plain = by-one (last-number p q)
   step-rises Adaptive = go-rises n l p q
 
-  step-next : (k : Walker) (s : ℕ) → s < last-number p q → next-cell k n l p q (six-cell rule-1 p q s) ≡ six-cell rule-1 p q (step k s)
+  step-next : (k : Walker) (s : ℕ) → s < last-number p q → next-cell k n l p q (six-cell rule-1 p q s) ≡ six-cell rule-1 p q (step n l p q k s)
   step-next Plain = plain-next p q
   step-next Adaptive = adaptive-next n l p q
 
-  abbrev pub end-of : Walker → ℕ
-  end-of k = ends (solid-at n l p q) (last-number p q) (step k) (six-count p q) 0
-
-  abbrev pub reads-of : Walker → ℕ
-  reads-of k = visits (solid-at n l p q) (last-number p q) (step k) (six-count p q) 0
-
-  pub walk-length : (k : Walker) → length (walk-of k n l p q) ≡ reads-of k
+  pub walk-length : (k : Walker) → length (walk-of k n l p q) ≡ reads-of n l p q k
   unfolding walk-of
-  walk-length k = whole-long n l p q (next-cell k n l p q) (step k) (step-rises k) (step-next k)
+  walk-length k = whole-long n l p q (next-cell k n l p q) (step n l p q k) (step-rises k) (step-next k)
 
-  pub walk-last : (k : Walker) (c : Cell) → last-of c (walk-of k n l p q) ≡ six-cell rule-1 p q (end-of k)
+  pub walk-last : (k : Walker) (c : Cell) → last-of c (walk-of k n l p q) ≡ six-cell rule-1 p q (end-of n l p q k)
   unfolding walk-of
-  walk-last k = whole-last n l p q (next-cell k n l p q) (step k) (step-rises k) (step-next k)
+  walk-last k = whole-last n l p q (next-cell k n l p q) (step n l p q k) (step-rises k) (step-next k)

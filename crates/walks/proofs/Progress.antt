@@ -5,16 +5,8 @@ use mathlib.Core.Logic.{_≢_}
 use mathlib.Core.Bool.{Bool, true, false, cond}
 use Prim.Native.Nat.{ℕ, zero, suc, _+_, _≤_, _<_}
 use native.Mathlib.Omega.{arith}
-use Rattle.walks.proofs.Runs.{stop, ends, visits, Rises, not-stopped}
-
--- r numbers were visited, s comes next
-pub record OnWay (solid : ℕ → Bool) (N : ℕ) (go : ℕ → ℕ) (s r : ℕ) : Type 0 where
-  pub fuel : ℕ
-  pub most : s ≤ N
-  pub few : r ≤ s
-  pub enough : N < s + fuel
-  pub end : ends solid N go fuel s ≡ ends solid N go (N + 1) 0
-  pub reads : r + visits solid N go fuel s ≡ visits solid N go (N + 1) 0
+use Rattle.walks.specs.Numbers.{stop, ends, visits, Rises, OnWay}
+use Rattle.walks.proofs.Runs.{not-stopped}
 
 module _ (solid : ℕ → Bool) (N : ℕ) (go : ℕ → ℕ) where
   -- one turn of the definitions

@@ -8,25 +8,7 @@ use native.Mathlib.Omega.{arith, by-contra, both-ways}
 use native.Mathlib.Decide.{decLt}
 use lib.Dec.{eqb}
 use borrow.Author.Tests.{eqb-true, eqb-false, eq-eqb, ne-eqb}
-
--- a walk stops at a solid number and at the last
-abbrev pub stop : (ℕ → Bool) → ℕ → ℕ → Bool
-stop solid N s = solid s || eqb s N
-
--- where it ends
-unfoldable pub ends : (ℕ → Bool) → ℕ → (ℕ → ℕ) → ℕ → ℕ → ℕ
-ends solid N go zero s = s
-ends solid N go (suc fuel) s = cond (stop solid N s) s (ends solid N go fuel (go s))
-
--- how many it visits
-unfoldable pub visits : (ℕ → Bool) → ℕ → (ℕ → ℕ) → ℕ → ℕ → ℕ
-visits solid N go zero s = 0
-visits solid N go (suc fuel) s = suc (cond (stop solid N s) 0 (visits solid N go fuel (go s)))
-
--- it rises, and does not pass the last
-pub record Rises (N : ℕ) (go : ℕ → ℕ) : Type 0 where
-  pub up : (s : ℕ) → s < N → s < go s
-  pub most : (s : ℕ) → s < N → go s ≤ N
+use Rattle.walks.specs.Numbers.{stop, ends, visits, Rises}
 
 -- not stopped: not solid and not the last
 pub not-stopped : (t : Bool) (s N : ℕ) → (t || eqb s N) ≡ false → (t ≡ false) × (s ≡ N → ⊥)

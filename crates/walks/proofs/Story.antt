@@ -9,29 +9,27 @@ use native.Mathlib.Decide.{decLt}
 use lib.ListN.{length}
 use Rattle.cells.specs.declared.Cell.{Cell}
 use Rattle.cells.specs.declared.Counts.{Counts}
-use Rattle.cells.specs.declared.Verdict.the-variants.{Fine}
 use Rattle.cells.specs.Touching.{Touches}
-use Rattle.lines.specs.Steps.{Axis, Steps, total, same}
-use Rattle.lines.specs.Crossings.{Course, next, place}
+use Rattle.lines.specs.Steps.{Axis, same}
+use Rattle.lines.specs.Crossings.{next, place}
 use Rattle.lines.specs.Preference.{rule-1}
-use Rattle.lines.specs.Lines.{differences, centres, longest, six-cell, place-26}
-use Rattle.lines.proofs.Steps.{Cmp, here, other, cmp, same-self, bump}
+use Rattle.lines.specs.Lines.{differences, centres, longest, six-cell, number-26}
+use Rattle.lines.proofs.Steps.{Cmp, here, other, cmp, same-self}
 use Rattle.lines.proofs.Fractions.{place-start, place-suc, place-end}
 use Rattle.lines.proofs.Cells.{six-end}
 use Rattle.lines.proofs.Centres.{centres-good, longest-axis, is-place-26, moved-longest}
 use Rattle.grids.specs.Grid.{byte-of, solid}
 use Rattle.walks.specs.declared.Walker.{Walker}
 use Rattle.walks.specs.declared.Walker.the-variants.{Plain, Adaptive}
-use Rattle.walks.specs.declared.Place.{Place}
-use Rattle.walks.specs.declared.Hit.{Hit}
-use Rattle.walks.specs.declared.FirstHit.{FirstHit}
 use Rattle.walks.specs.declared.FirstHit.the-variants.{Clear, Hit as Blocked}
-use Rattle.walks.specs.Walks.{hit-at, number-of, six-count, walk-of}
-use Rattle.walks.specs.Answers.{entered-at, place-by, place-of, last-of, answer-of, answer-by, walk-check, first-hit}
-use Rattle.walks.specs.Safe.{InGrid, NoClearTouches}
-use Rattle.walks.proofs.Runs.{stop, stopped, ended, Ended, by-one, ends, visits, visits-all, at-least, plain-first, never-earlier, never-invented, same-end, no-more-visits}
-use Rattle.walks.proofs.Numbers.{last-number, number-26, six-found, go, go-rises, solid-at, skipped, way, Way, face, long, step, step-rises, end-of, reads-of, walk-length, walk-last}
-use Rattle.walks.proofs.Inside.{Accepted, six-inside}
+use Rattle.walks.specs.Walks.{hit-at, six-count, walk-of}
+use Rattle.walks.specs.Answers.{place-by, place-of, last-of, answer-of, answer-by, first-hit}
+use Rattle.grids.specs.Inside.{walk-check, InGrid}
+use Rattle.walks.specs.Safe.{NoClearTouches}
+use Rattle.walks.specs.Numbers.{stop, ends, last-number, go, solid-at, step, end-of, reads-of, answer-at}
+use Rattle.walks.proofs.Runs.{stopped, ended, Ended, by-one, visits-all, at-least, plain-first, never-earlier, never-invented, same-end, no-more-visits}
+use Rattle.walks.proofs.Numbers.{six-found, go-rises, skipped, way, Way, face, long, step-rises, walk-length, walk-last}
+use Rattle.walks.proofs.Inside.{six-inside}
 
 module _ (n : Counts) (l : List ℕ) (p q : Cell) where
   abbrev f : ℕ → Cell
@@ -40,14 +38,7 @@ module _ (n : Counts) (l : List ℕ) (p q : Cell) where
   abbrev N : ℕ
   N = last-number p q
 
-  -- the answer of a walk that ends at number e after r reads
-  abbrev pub answer-at : ℕ → ℕ → FirstHit
-  answer-at e r =
-      cond (hit-at n l (f e))
-      (Blocked (record { cell = f e; code = byte-of n l (f e); place = entered-at p q e; reads = r }))
-      (Clear r)
-
-  answer-is : (cells : List Cell) (e r : ℕ) → e ≤ N → last-of p cells ≡ f e → length cells ≡ r → answer-of n l p q cells ≡ answer-at e r
+  answer-is : (cells : List Cell) (e r : ℕ) → e ≤ N → last-of p cells ≡ f e → length cells ≡ r → answer-of n l p q cells ≡ answer-at n l p q e r
   unfolding answer-of place-of
   answer-is cells e r le last many =
       ap₂ (λ w k. cond (hit-at n l w) (Blocked (record { cell = w; code = byte-of n l w; place = place-of p q w; reads = k })) (Clear k)) last many
@@ -59,7 +50,7 @@ module _ (n : Counts) (l : List ℕ) (p q : Cell) where
   pub end-below : (k : Walker) → end-of n l p q k ≤ N
   end-below k = walk-ended k .most
 
-  pub first-hit-is : (k : Walker) → first-hit k n l p q ≡ answer-by (walk-check n (length l) p q) (answer-at (end-of n l p q k) (reads-of n l p q k))
+  pub first-hit-is : (k : Walker) → first-hit k n l p q ≡ answer-by (walk-check n (length l) p q) (answer-at n l p q (end-of n l p q k) (reads-of n l p q k))
   unfolding first-hit
   first-hit-is k = ap (answer-by (walk-check n (length l) p q)) (answer-is (walk-of k n l p q) _ _ (end-below k) (walk-last n l p q k p) (walk-length n l p q k))
 

@@ -10,26 +10,24 @@ use lib.IntN.{ℤ, pos}
 use lib.Signed.{ltZ, leZ}
 use lib.ListN.{length}
 use Rattle.cells.specs.declared.Axis.{Axis}
-use Rattle.cells.specs.declared.Axis.the-variants.{X, Y, Z}
-use Rattle.cells.specs.declared.End.{End}
 use Rattle.cells.specs.declared.End.the-variants.{P, Q}
 use Rattle.cells.specs.declared.Cell.{Cell}
 use Rattle.cells.specs.declared.Counts.{Counts}
-use Rattle.cells.specs.declared.Refusal.the-variants.{OffGrid}
 use Rattle.cells.specs.declared.Verdict.{Verdict}
 use Rattle.cells.specs.declared.Verdict.the-variants.{Fine, Refused}
-use Rattle.cells.specs.Checks.{refuse-when, _then_}
+use Rattle.cells.specs.Checks.{_then_}
 use Rattle.cells.specs.Refusals.{Told, told}
 use Rattle.lines.specs.Crossings.{Course, next, place}
 use Rattle.lines.specs.Preference.{rule-1}
 use Rattle.lines.specs.Lines.{differences, centres, six-cell}
-use Rattle.grids.specs.Grid.{shape, byte-of}
+use Rattle.grids.specs.Grid.{byte-of}
 use Rattle.walks.specs.declared.Walker.{Walker}
 use Rattle.walks.specs.declared.Place.{Place}
 use Rattle.walks.specs.declared.Hit.{Hit}
 use Rattle.walks.specs.declared.FirstHit.{FirstHit}
 use Rattle.walks.specs.declared.FirstHit.the-variants.{Clear, Hit as Blocked, Refused as NotWalked}
 use Rattle.walks.specs.Walks.{hit-at, number-of, six-count, walk-of}
+use Rattle.grids.specs.Inside.{walk-check}
 
 -- ---- the place of a hit
 
@@ -67,23 +65,7 @@ answer-of n l p q cells =
     (Blocked (record { cell = w; code = byte-of n l w; place = place-of p q w; reads = length cells }))
     (Clear (length cells))
 
--- ---- refusals
-
--- "an end outside the grid"
-abbrev pub off-axis : ℤ → ℕ → Bool
-off-axis v count = ltZ v (pos 0) || leZ (pos count) v
-
--- refusal 5 (x, y, z), for one end
-abbrev pub grid-check : End → Counts → Cell → Verdict
-grid-check e n c =
-    refuse-when (off-axis (c .x) (n .nx)) (OffGrid e X) then
-    refuse-when (off-axis (c .y) (n .ny)) (OffGrid e Y) then
-    refuse-when (off-axis (c .z) (n .nz)) (OffGrid e Z)
-
--- 2, 3, then 5 (P before Q)
-unfoldable pub walk-check : Counts → ℕ → Cell → Cell → Verdict
-unfolding shape
-walk-check n bytes p q = shape n bytes then grid-check P n p then grid-check Q n q
+-- ---- refused, or answered
 
 abbrev pub answer-by : Verdict → FirstHit → FirstHit
 answer-by Fine a = a

@@ -8,7 +8,7 @@ use Rattle.cells.specs.declared.Refusal.the-variants.{Bytes}
 use Rattle.cells.specs.declared.Verdict.the-variants.{Fine}
 use Rattle.cells.specs.Checks.{refuse-when, _then_}
 use Rattle.grids.specs.Grid.{size, count-check, shape}
-use Rattle.grids.proofs.Shapes.{Counted, counted}
+use Rattle.grids.proofs.Shapes.{counted}
 use borrow.Author.Needs.{needs}
 use Rattle.grids.proofs.shape.Statement.{statement}
 use Rattle.grids.proofs.shape.Tie as tie

@@ -15,7 +15,7 @@ use Rattle.walks.specs.declared.FirstHit.the-variants.{Hit as Blocked}
 use Rattle.routes.specs.Route.{byte-of-spot}
 use Rattle.places.specs.Entered.{entered}
 use Rattle.hits.specs.Answer.{answer-from}
-use Rattle.routes.proofs.Held.{abs-nat, cast-32}
+use Rattle.cells.proofs.Held.{abs-nat, cast-32}
 use Rattle.routes.proofs.Spots.{p-limit, byte-limit}
 use Rattle.hits.proofs.answer_of.Statement.{statement}
 use Rattle.hits.proofs.answer_of.Tie as tie

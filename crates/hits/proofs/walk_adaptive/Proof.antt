@@ -5,8 +5,7 @@ use Prim.Native.Nat.{_-_, _≤_}
 use native.Mathlib.Omega.{arith, both-ways}
 use borrow.Author.Needs.{needs}
 use Rattle.lines.specs.Steps.{X, Y, Z}
-use Rattle.lines.specs.Lines.{differences, longest}
-use Rattle.walks.proofs.Numbers.{number-26}
+use Rattle.lines.specs.Lines.{differences, longest, number-26}
 use Rattle.walks.specs.declared.Walker.the-variants.{Adaptive}
 use Rattle.hits.specs.Found.{going, Walking, CanGo}
 use Rattle.routes.proofs.Spots.{short-at}

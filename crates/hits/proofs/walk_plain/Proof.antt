@@ -4,7 +4,7 @@ use Prim.Native.Nat.{suc, _+_}
 use native.Mathlib.Omega.{arith}
 use borrow.Author.Needs.{needs}
 use Rattle.lines.specs.Steps.{X, Y, Z, total}
-use Rattle.walks.proofs.Numbers.{last-number}
+use Rattle.walks.specs.Numbers.{last-number}
 use Rattle.hits.specs.Found.{Outcome, Walking}
 use Rattle.routes.proofs.Spots.{short-at}
 use Rattle.hits.proofs.Walking.{at-end}

@@ -9,7 +9,8 @@ use denote.Ref.{now}
 use borrow.Author.Needs.{needs}
 use Rattle.marks.specs.declared.Three.{Three}
 use Rattle.marks.specs.Rows.{starts, Within}
-use Rattle.grids.proofs.Shapes.{Shaped, shaped}
+use Rattle.grids.specs.Inside.{Shaped}
+use Rattle.grids.proofs.Shapes.{shaped}
 use Rattle.marks.proofs.Windows.{row-y, row-z, layers-within, rows-within, column-is, shows-then, shows-as}
 use Rattle.marks.proofs.look.Statement.{statement}
 use Rattle.marks.proofs.look.Tie as tie

@@ -2,7 +2,7 @@
 use mathlib.Core.Path.{ap}
 use native.Mathlib.Omega.{arith}
 use lib.ListN.{getD}
-use Rattle.routes.proofs.Held.{abs-nat, cast-64}
+use Rattle.cells.proofs.Held.{abs-nat, cast-64}
 use Rattle.routes.proofs.byte_at.Statement.{statement}
 use Rattle.routes.proofs.byte_at.Tie as tie
 

@@ -8,8 +8,8 @@ use Rattle.cells.proofs.Machine.{nat-fits, nat-held}
 use Rattle.lines.specs.Steps.{Axis, X, Y, Z, at}
 use Rattle.lines.specs.Decisions.{values}
 use Rattle.lines.proofs.Cells.{cell-start}
-use Rattle.routes.specs.Route.{byte-index}
-use Rattle.routes.proofs.Spots.{byte-below}
+use Rattle.grids.specs.Grid.{byte-index}
+use Rattle.grids.proofs.Inside.{byte-below}
 use Rattle.routes.proofs.first_spot.Statement.{statement}
 use Rattle.routes.proofs.first_spot.Tie as tie
 

@@ -9,9 +9,10 @@ use Rattle.cells.specs.declared.Counts.{Counts}
 use Rattle.cells.specs.Touching.{on}
 use Rattle.cells.proofs.Machine.{held, small-held}
 use Rattle.lines.specs.Steps.{Axis, X, Y, Z}
-use Rattle.routes.specs.Route.{stride, Enclosed}
-use Rattle.routes.proofs.Held.{inside-held}
-use Rattle.routes.proofs.Spots.{counts-most, stride-small}
+use Rattle.routes.specs.Route.{stride}
+use Rattle.grids.specs.Inside.{Enclosed}
+use Rattle.grids.proofs.Inside.{inside-held, counts-most}
+use Rattle.routes.proofs.Spots.{stride-small}
 use Rattle.routes.proofs.strides_of.Statement.{statement}
 use Rattle.routes.proofs.strides_of.Tie as tie
 

@@ -1,11 +1,11 @@
--- `routes::check_ends` meets its contract: P's refusal is the answer, else Q's verdict. Assumes nothing.
+-- `grids::check_ends` meets its contract: P's refusal is the answer, else Q's verdict. Assumes nothing.
 use mathlib.Core.Path.{sym, ap, _∙_}
 use borrow.Author.Needs.{needs}
 use Rattle.cells.specs.declared.End.the-variants.{Q}
 use Rattle.cells.specs.Checks.{_then_}
-use Rattle.walks.specs.Answers.{grid-check}
-use Rattle.routes.proofs.check_ends.Statement.{statement}
-use Rattle.routes.proofs.check_ends.Tie as tie
+use Rattle.grids.specs.Inside.{grid-check}
+use Rattle.grids.proofs.check_ends.Statement.{statement}
+use Rattle.grids.proofs.check_ends.Tie as tie
 
 check-end-requires : tie.Need-check-end-requires
 check-end-requires c κs = search needs

@@ -1,11 +1,11 @@
--- `places::cell_at` meets its contract: a place below 2^30 has small quotients and rests. Assumes nothing.
+-- `grids::cell_at` meets its contract: a place below 2^30 has small quotients and rests. Assumes nothing.
 use Prim.Native.Nat.{_*_, _/_, _%_, _^_, _≤_, _<_}
 use native.Mathlib.Nat.{mul-le-mul, mod-lt, div-le-self}
 use native.Mathlib.Omega.{arith}
 use borrow.Author.Needs.{needs}
 use Rattle.cells.proofs.Machine.{nat-fits, nat-held}
-use Rattle.places.proofs.cell_at.Statement.{statement}
-use Rattle.places.proofs.cell_at.Tie as tie
+use Rattle.grids.proofs.cell_at.Statement.{statement}
+use Rattle.grids.proofs.cell_at.Tie as tie
 
 -- the three numbers are small
 small-x : (c : tie.Start) → c .args .i % c .args .n .nx < 2 ^ 31

@@ -1,4 +1,4 @@
--- `routes::check_end` meets its contract: each way out has the tests that led there. Assumes nothing.
+-- `grids::check_end` meets its contract: each way out has the tests that led there. Assumes nothing.
 use mathlib.Core.Path.{_≡_, sym, ap, _∙_}
 use mathlib.Core.Bool.{Bool}
 use Prim.Native.Nat.{ℕ}
@@ -7,9 +7,9 @@ use mir.Syntax.{w32}
 use mir.Val.{SFits}
 use borrow.Author.Needs.{needs}
 use Rattle.cells.proofs.Machine.{held, held-is}
-use Rattle.walks.specs.Answers.{off-axis}
-use Rattle.routes.proofs.check_end.Statement.{statement}
-use Rattle.routes.proofs.check_end.Tie as tie
+use Rattle.grids.specs.Inside.{off-axis}
+use Rattle.grids.proofs.check_end.Statement.{statement}
+use Rattle.grids.proofs.check_end.Tie as tie
 
 -- what the test of a coordinate answered, of the coordinate itself
 off-of : (z : ℤ) (count : ℕ) {r t : Bool} → SFits w32 z → r ≡ off-axis (held z) count → r ≡ t → off-axis z count ≡ t

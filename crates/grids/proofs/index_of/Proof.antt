@@ -1,4 +1,4 @@
--- `routes::index_of` meets its contract: the coordinates are natural numbers, and every sum and product is at most the place, which is below the
+-- `grids::index_of` meets its contract: the coordinates are natural numbers, and every sum and product is at most the place, which is below the
 -- number of bytes. Assumes nothing.
 use mathlib.Core.Path.{_≡_, ap}
 use Prim.Native.Nat.{_+_, _*_, _^_, _<_}
@@ -7,13 +7,12 @@ use native.Mathlib.Omega.{arith}
 use lib.IntN.{natAbs}
 use Rattle.cells.specs.Touching.{on}
 use Rattle.cells.proofs.Machine.{held}
-use Rattle.lines.specs.Steps.{Axis, X, Y, Z}
-use Rattle.grids.specs.Grid.{index}
-use Rattle.routes.specs.Route.{byte-index}
-use Rattle.routes.proofs.Held.{inside-held, inside-cast}
-use Rattle.routes.proofs.Spots.{counts-most, byte-below}
-use Rattle.routes.proofs.index_of.Statement.{statement}
-use Rattle.routes.proofs.index_of.Tie as tie
+use Rattle.cells.specs.declared.Axis.{Axis}
+use Rattle.cells.specs.declared.Axis.the-variants.{X, Y, Z}
+use Rattle.grids.specs.Grid.{index, byte-index}
+use Rattle.grids.proofs.Inside.{inside-held, inside-cast, counts-most, byte-below}
+use Rattle.grids.proofs.index_of.Statement.{statement}
+use Rattle.grids.proofs.index_of.Tie as tie
 
 -- a coordinate as a natural number
 number : (c : tie.Start) (a : Axis) → natAbs (held (on (c .args .c) a)) ≡ natAbs (on (c .args .c) a)

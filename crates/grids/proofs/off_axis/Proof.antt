@@ -1,12 +1,12 @@
--- `routes::off_axis` meets its contract: a coordinate below 0 is outside, any other is compared as a natural number. Assumes nothing.
+-- `grids::off_axis` meets its contract: a coordinate below 0 is outside, any other is compared as a natural number. Assumes nothing.
 use mir.Syntax.{w32}
 use mir.ValLaws.{toZ-ofZ}
 use lib.Dec.{lit<}
 use lib.Signed.{natAbs-le}
 use native.Mathlib.Nat.{lt-of-le-of-lt}
 use Rattle.grids.proofs.Layers.{not-below, past-count}
-use Rattle.routes.proofs.off_axis.Statement.{statement}
-use Rattle.routes.proofs.off_axis.Tie as tie
+use Rattle.grids.proofs.off_axis.Statement.{statement}
+use Rattle.grids.proofs.off_axis.Tie as tie
 
 cast-result : tie.Need-cast-result
 cast-result c =

@@ -1,11 +1,11 @@
--- `routes::check_walk` meets its contract: the shape's refusal is the answer, else the verdict on the ends. Assumes nothing.
+-- `grids::check_walk` meets its contract: the shape's refusal is the answer, else the verdict on the ends. Assumes nothing.
 use mathlib.Core.Path.{sym, ap, _∙_}
 use borrow.Author.Needs.{needs}
 use Rattle.cells.specs.declared.End.the-variants.{P, Q}
 use Rattle.cells.specs.Checks.{_then_}
-use Rattle.walks.specs.Answers.{grid-check, walk-check}
-use Rattle.routes.proofs.check_walk.Statement.{statement}
-use Rattle.routes.proofs.check_walk.Tie as tie
+use Rattle.grids.specs.Inside.{grid-check, walk-check}
+use Rattle.grids.proofs.check_walk.Statement.{statement}
+use Rattle.grids.proofs.check_walk.Tie as tie
 
 shape-requires : tie.Need-shape-requires
 shape-requires c κs = search needs
