@@ -1,6 +1,7 @@
 /* Oatmarten: exact sight lines through a voxel grid. The C interface, revision 1 (OAT_REVISION).
 
-   Link with liboatmarten.a (x86-64 Linux). docs/C.md has a whole program, docs/TRUST.md says what is proved and what is not.
+   Link with liboatmarten.a (x86-64 Linux). docs/C.md has a whole program, docs/SCOPE.md the exact rules, docs/TRUST.md says what is proved
+   and what is not.
 
    Every call
    - takes any numbers and any lent memory, ends, and does its job or refuses by a number; there is no other error;
@@ -52,7 +53,8 @@ enum oat_end { OAT_END_NONE = 0, OAT_END_P = 1, OAT_END_Q = 2 };
 /* The field `axis`; OAT_AXIS_EDGE only with OAT_REFUSED_PLACEMENT. */
 enum oat_axis { OAT_AXIS_NONE = 0, OAT_AXIS_X = 1, OAT_AXIS_Y = 2, OAT_AXIS_Z = 3, OAT_AXIS_EDGE = 4 };
 
-/* The byte of a cell: clear, near (it touches a solid cell by face, edge or corner), or solid: OAT_SOLID_LEAST to 255, its material code. */
+/* The byte of a cell: clear; near, which is not solid, but no long step of the adaptive walk starts there; or solid, OAT_SOLID_LEAST to
+   255, which is its material code. Two cells touch where they share a face, an edge or a corner. */
 enum oat_byte { OAT_CLEAR = 0, OAT_NEAR = 1, OAT_SOLID_LEAST = 2 };
 
 #define OAT_COUNT_MOST 1024          /* cells along an axis of a grid */
@@ -80,7 +82,7 @@ typedef struct {
     uint32_t nz;
 } oat_counts;
 
-/* Where a grid lies, in metres: the outer corner of cell (0, 0, 0), and the edge of a cell. */
+/* Where a grid lies, in metres: the corner of cell (0, 0, 0) with the least x, y and z, and the edge of a cell. */
 typedef struct {
     double ox;
     double oy;
@@ -201,19 +203,24 @@ typedef struct {
     uint32_t reads;   /* cells of the walk, its last included */
 } oat_sight_answer;
 
-/* ---- lines: refusals 1, then 6 */
+/* ---- lines: refusals 1, then 6. A, B, C are the differences of p and q in x, y, z, without sign; M is the largest. The line from q to p
+   need not be the mirror of the one from p to q: ties go y, z, x both ways, and halves go towards the end of the line */
 
 /* Writes the cells of the 6-line from p to q, in order, three numbers a cell (x, y, z), at the front of `out`; the rest of `out` stays.
-   `room` is the number of numbers that `out` holds; refused 6 exactly when it is below three times the cells. Neighbouring cells share a
-   face; the line has every cell whose inside the segment between the two centres enters. */
+   It has A + B + C + 1 cells. `room` is the number of numbers that `out` holds; refused 6 exactly when it is below three times the cells.
+   Neighbouring cells share a face; the line has every cell whose inside the segment between the two centres enters. Where the segment
+   crosses faces of two or three axes at one point (a tie), the one on y is crossed first, then z, then x. */
 oat_listed oat_line6(oat_cell p, oat_cell q, int32_t *out, size_t room);
 
-/* The same for the 26-line: one cell for each step along the longest axis; neighbouring cells share a face, an edge or a corner. */
+/* The same for the 26-line: M + 1 cells, one for each step along the longest axis; neighbouring cells share a face, an edge or a corner.
+   On an axis with difference D, cell number m (from 0) has moved m*D/M cells towards q, rounded to the nearest; a half is rounded up, so
+   towards q. */
 oat_listed oat_line26(oat_cell p, oat_cell q, int32_t *out, size_t room);
 
 /* ---- grids: refusals 2, 3, then 4 or 5. `bytes` is the number of bytes at `cells` */
 
-/* Marks the near cells in place: each solid byte stays; any other becomes OAT_NEAR where its cell touches a solid one, else OAT_CLEAR. */
+/* Marks the near cells in place: each solid byte stays; any other becomes OAT_NEAR where its cell touches a solid one, else OAT_CLEAR,
+   whatever it was. */
 oat_verdict oat_mark(oat_counts n, uint8_t *cells, size_t bytes);
 
 /* Whether the marks are complete: no clear cell touches a solid one. It holds after oat_mark. */
@@ -222,11 +229,13 @@ oat_complete_answer oat_complete(oat_counts n, const uint8_t *cells, size_t byte
 /* Where layer z lies: nx*ny bytes. Nothing is copied. */
 oat_part oat_layer(oat_counts n, const uint8_t *cells, size_t bytes, int32_t z);
 
-/* The first solid cell along the 6-line from p to q, both ends included. Asks for no marks. */
+/* The first solid cell along the 6-line from p to q. Both ends are tested, p first: where p is solid it is the hit, at 0/1. Asks for no
+   marks. */
 oat_hit oat_plain(oat_counts n, const uint8_t *cells, size_t bytes, oat_cell p, oat_cell q);
 
-/* The same with long steps over clear cells. Where the marks are complete it gives the answer of oat_plain, with no more reads; where they
-   are not, it may miss a solid cell, and never makes one up. */
+/* The same with long steps over clear cells: from a clear cell of the 26-line to the next cell of the 26-line; from every other cell to
+   the next of the 6-line. Where the marks are complete it gives the answer of oat_plain, with no more reads; where they are not, it may
+   miss a solid cell, and never makes one up. */
 oat_hit oat_adaptive(oat_counts n, const uint8_t *cells, size_t bytes, oat_cell p, oat_cell q);
 
 /* ---- surveyed points */
@@ -236,16 +245,20 @@ oat_hit oat_adaptive(oat_counts n, const uint8_t *cells, size_t bytes, oat_cell 
 oat_found oat_cell_of(oat_counts n, oat_placement at, oat_point point);
 
 /* Whether anything solid is in the way from the camera's cell to the ball's, by the adaptive walk: refusals 2, 3, 7, then the camera (P) by
-   axis 8, 9, then the ball (Q). Takes the marks as they are: mark first. */
+   axis 8, 9, then the ball (Q). Both cells are tested too. Takes the marks as they are: mark first. */
 oat_sight_answer oat_sight(oat_counts n, const uint8_t *cells, size_t bytes, oat_placement at, oat_point camera, oat_point ball);
 
 /* ---- records: numbers are big-endian; bytes after a record are not looked at */
 
-/* Reads a venue record: four bytes, the length of what follows; version 1; nx, ny, nz in two bytes each; the cells. Refusals 10, 11, 10,
-   2, 3. The cells stay where they are. */
+/* Reads a venue record: four bytes, the length of what follows; version 1; nx, ny, nz in two bytes each; the cells. Refusals, in this
+   order: 10 where there are fewer than four bytes, where the length is 0, or where fewer bytes follow than it announces; 11; 10 where the
+   length is below 7; 2; 3 where the length is not 7 + nx*ny*nz. The cells stay where they are, `offset` bytes into the record. They can
+   be marked there, by oat_mark at record + offset: its first OAT_VENUE_HEAD + nx*ny*nz bytes are then the marked venue's record, ready to
+   be saved. */
 oat_venue oat_read_venue(const uint8_t *record, size_t bytes);
 
-/* Reads a pair record: length 13; version 1; P and Q, six signed numbers of two bytes. Refusals 10, 11, 10. */
+/* Reads a pair record: length 13; version 1; P and Q, six signed numbers of two bytes. Refusals, in this order: 10 as of a venue; 11; 10
+   where the length is not 13. */
 oat_pair oat_read_pair(const uint8_t *record, size_t bytes);
 
 /* Writes a venue record at the front of `out`; the rest of `out` stays. Refusals 2, 3, then 6, exactly when `room` is below
