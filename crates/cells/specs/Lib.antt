@@ -3,3 +3,4 @@ pub mod Checks
 pub mod Touching
 pub mod Small
 pub mod Tabulate
+pub mod Parts

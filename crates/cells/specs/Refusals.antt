@@ -2,6 +2,7 @@
 -- placement; and each case of a verdict. Assumes nothing.
 use Prim.Native.Nat.{ℕ}
 use mathlib.Core.Logic.{_⊎_, inl, inr}
+use mathlib.Core.Path.{_≡_}
 use mathlib.Core.Option.{Option, none, some}
 use Rattle.cells.specs.declared.Axis.{Axis}
 use Rattle.cells.specs.declared.End.{End}
@@ -39,6 +40,10 @@ told (NotFinite e a) = at-end 8 e a
 told (OffSurvey e a) = at-end 9 e a
 told Record = alone 10
 told Version = alone 11
+
+-- the contract of the call that gives a refusal's number
+pub record NumberOf (r : Refusal) (n : ℕ) : Type 0 where
+  pub says : n ≡ told r .number
 
 -- each case of a verdict: what is said of a refusal, or nothing but that it is fine
 abbrev pub told-verdict : Verdict → Told ⊎ Unit {0}

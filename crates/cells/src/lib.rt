@@ -1,6 +1,5 @@
 // The shared words: axes, ends, cells, counts, the four parts of a placement, and the refusals.
-ghost use mathlib.Core.Path.{_≡_};
-ghost use Rattle.cells.specs.Refusals.{told};
+ghost use Rattle.cells.specs.Refusals.{NumberOf};
 
 // The three axes.
 pub enum Axis {
@@ -71,7 +70,7 @@ pub enum Verdict {
 
 // The number of a refusal.
 pub fn number(r: Refusal) -> u32
-    ensures { λ n. ⌜ n ≡ told r .number ⌝ }
+    ensures { λ n. ⌜ NumberOf r n ⌝ }
 {
     match r {
         Refusal::Limit(_, _) => 1,

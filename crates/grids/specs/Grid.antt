@@ -1,5 +1,6 @@
 -- Document 01, "The grid": counts, one byte a cell, x fastest, then y, then z; and a layer of it. Assumes nothing.
 use Prim.Native.Nat.{ℕ, _+_, _*_, _/_, _%_}
+use mathlib.Core.Path.{_≡_}
 use mathlib.Core.Bool.{Bool, not, _||_}
 use mathlib.Core.List.{List, []}
 use mathlib.Core.Logic.{_⊎_, inl, inr}
@@ -14,6 +15,8 @@ use Rattle.cells.specs.declared.Refusal.the-variants.{Count, Bytes, Layer}
 use Rattle.cells.specs.declared.Verdict.{Verdict}
 use Rattle.cells.specs.declared.Verdict.the-variants.{Fine, Refused}
 use Rattle.cells.specs.Checks.{refuse-when, _then_}
+use denote.Ref.{RefT}
+use Rattle.cells.specs.Parts.{StartsAt}
 use Rattle.cells.specs.Refusals.{Told, told}
 use Rattle.grids.specs.declared.LayerPart.{LayerPart}
 use Rattle.grids.specs.declared.LayerPart.the-variants.{Part, Refused as NoPart}
@@ -37,6 +40,10 @@ count-check n =
 unfoldable pub shape : Counts → ℕ → Verdict
 unfolding count-check
 shape n bytes = count-check n then refuse-when (not (eqb bytes (size n))) Bytes
+
+-- the contract of the shape call
+pub record Shapes (n : Counts) (bytes : ℕ) (r : Verdict) : Type 0 where
+  pub says : r ≡ shape n bytes
 
 -- ---- cells and bytes
 
@@ -102,3 +109,16 @@ bytes-of (NoPart r) l = []
 unfoldable pub layer : Counts → List ℕ → ℤ → List ℕ
 unfolding layer-part
 layer n l z = bytes-of (layer-part n (length l) z) l
+
+-- where it starts in the slice; the empty part stands at the slice's start
+abbrev pub start-of : LayerPart → ℕ
+start-of (Part start long) = start
+start-of (NoPart r) = 0
+
+-- the contracts of the two calls: the partner's answer; the bytes, and where they lie
+pub record GivesLayerPart (n : Counts) (bytes : ℕ) (z : ℤ) (r : LayerPart) : Type 0 where
+  pub says : r ≡ layer-part n bytes z
+
+pub record GivesLayer (n : Counts) (cells : RefT (List ℕ)) (z : ℤ) (r : RefT (List ℕ)) : Type 0 where
+  pub says : r .now ≡ layer n (cells .now) z
+  pub there : StartsAt (start-of (layer-part n (length (cells .now)) z)) cells r

@@ -65,8 +65,11 @@ told-completeness (NotAsked r) = inl (told r)
 told-completeness Yes = inr true
 told-completeness No = inr false
 
--- ---- the contract of the marking call: one answer, one final memory
+-- ---- the contracts of the calls: of marking, one answer and one final memory
 
 pub record Marks (n : Counts) (entry : List ℕ) (r : Verdict) (exit : List ℕ) : Type 0 where
   pub says : r ≡ shape n (length entry)
   pub holds : exit ≡ after-marking (shape n (length entry)) n entry
+
+pub record Completes (n : Counts) (l : List ℕ) (r : Completeness) : Type 0 where
+  pub says : r ≡ completeness n l

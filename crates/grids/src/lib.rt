@@ -4,7 +4,7 @@ ghost use Prim.Native.Nat.{_<_};
 ghost use lib.ListN.{length};
 ghost use Rattle.cells.specs.Checks.{_then_};
 ghost use Rattle.cells.specs.declared.End.the-variants.{P, Q};
-ghost use Rattle.grids.specs.Grid.{count-check, bad-count, shape, bad-layer, layer-check, layer-part, layer, byte-index, cell-at};
+ghost use Rattle.grids.specs.Grid.{count-check, bad-count, Shapes, bad-layer, layer-check, GivesLayerPart, GivesLayer, byte-index, cell-at};
 ghost use Rattle.grids.specs.Inside.{off-axis, grid-check, walk-check, Good, Enclosed};
 use cells::Axis;
 use cells::Cell;
@@ -50,7 +50,7 @@ pub fn check_counts(n: Counts) -> Verdict
 
 // Counts and bytes that make a grid: refusal 2, then 3.
 pub fn shape(n: Counts, bytes: usize) -> Verdict
-    ensures { λ r. ⌜ r ≡ shape n bytes ⌝ }
+    ensures { λ r. ⌜ Shapes n bytes r ⌝ }
 {
     match check_counts(n) {
         Verdict::Refused(r) => Verdict::Refused(r),
@@ -86,7 +86,7 @@ fn layer_check(n: Counts, bytes: usize, z: i32) -> Verdict
 
 // Where the layer z lies in the slice, or why there is none: the partner of `layer`.
 pub fn layer_part(n: Counts, cells: &[u8], z: i32) -> LayerPart
-    ensures { λ r. ⌜ r ≡ layer-part n (length (now (cells .entry))) z ⌝ }
+    ensures { λ r. ⌜ GivesLayerPart n (length (now (cells .entry))) z r ⌝ }
 {
     match layer_check(n, cells.len(), z) {
         Verdict::Fine => {
@@ -101,7 +101,7 @@ pub fn layer_part(n: Counts, cells: &[u8], z: i32) -> LayerPart
 
 // The layer z: the caller's own nx·ny bytes, or the empty part where it is refused.
 pub fn layer(n: Counts, cells: &[u8], z: i32) -> &[u8]
-    ensures { λ r. ⌜ now r ≡ layer n (now (cells .entry)) z ⌝ }
+    ensures { λ r. ⌜ GivesLayer n (cells .entry) z r ⌝ }
 {
     let LayerPart::Part(start, long) = layer_part(n, cells, z) else {
         return &cells[..0];

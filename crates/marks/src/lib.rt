@@ -5,7 +5,7 @@ ghost use mathlib.Core.Path.{_≡_};
 ghost use mathlib.Core.Bool.{_&&_, _||_};
 ghost use lib.ListN.{length, getD};
 ghost use Rattle.grids.specs.Grid.{shape, clear, solid};
-ghost use Rattle.grids.specs.Marks.{any, marked-byte, marked, Marks, completeness};
+ghost use Rattle.grids.specs.Marks.{any, marked-byte, marked, Marks, Completes};
 ghost use Rattle.marks.specs.Rows.{lowest, highest, starts, in-rows, Within, in-column, Filled, Shows, Framed, beside, mark-for, put-byte, gap-by, gap};
 use cells::Counts;
 use cells::Verdict;
@@ -226,7 +226,7 @@ pub fn mark(n: Counts, cells: &mut [u8]) -> Verdict
 
 // Whether the marks are complete: no clear cell touches a solid one.
 pub fn complete(n: Counts, cells: &[u8]) -> Completeness
-    ensures { λ r. ⌜ r ≡ completeness n (now (cells .entry)) ⌝ }
+    ensures { λ r. ⌜ Completes n (now (cells .entry)) r ⌝ }
 {
     match grids::shape(n, cells.len()) {
         Verdict::Fine => {

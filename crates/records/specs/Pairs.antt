@@ -1,5 +1,6 @@
 -- Document 01, "Records and the program": reading a pair. Assumes nothing.
 use Prim.Native.Nat.{ℕ, _+_}
+use mathlib.Core.Path.{_≡_}
 use mathlib.Core.Bool.{Bool, cond, not}
 use mathlib.Core.List.{List}
 use mathlib.Core.Logic.{_⊎_, inl, inr}
@@ -56,6 +57,10 @@ pair-by (Refused r) e = NoPair r
 -- "reading a pair answers P and Q"
 unfoldable pub pair-read : List ℕ → PairRead
 pair-read s = pair-by (pair-check s) (pair-in s)
+
+-- the contract of the call
+pub record ReadsPair (s : List ℕ) (r : PairRead) : Type 0 where
+  pub says : r ≡ pair-read s
 
 -- each case of the answer: what is said of a refusal, or P and Q
 abbrev pub told-pair : PairRead → Told ⊎ (Cell × Cell)

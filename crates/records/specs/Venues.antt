@@ -1,16 +1,19 @@
 -- Document 01, "Records and the program": reading a venue. Assumes nothing.
 use Prim.Native.Nat.{ℕ, _+_, _-_}
+use mathlib.Core.Path.{_≡_}
 use mathlib.Core.Bool.{Bool, not}
 use mathlib.Core.List.{List, []}
 use mathlib.Core.Logic.{_⊎_, inl, inr}
 use lib.Dec.{ltb, eqb}
 use lib.ListN.{take, drop}
+use denote.Ref.{RefT}
 use Rattle.buffers.specs.Numbers.{two-at}
 use Rattle.cells.specs.declared.Counts.{Counts}
 use Rattle.cells.specs.declared.Refusal.the-variants.{Record, Version}
 use Rattle.cells.specs.declared.Verdict.{Verdict}
 use Rattle.cells.specs.declared.Verdict.the-variants.{Fine, Refused}
 use Rattle.cells.specs.Checks.{refuse-when, _then_}
+use Rattle.cells.specs.Parts.{StartsAt}
 use Rattle.cells.specs.Refusals.{Told, told}
 use Rattle.grids.specs.Grid.{shape}
 use Rattle.records.specs.declared.venues.Venue.{Venue}
@@ -72,6 +75,19 @@ part-of (NoVenue r) s = []
 -- what the partner call returns
 unfoldable pub venue-cells : List ℕ → List ℕ
 venue-cells s = part-of (venue-read s) s
+
+-- where it starts among the bytes; the empty part stands at their start
+abbrev pub start-of : VenueRead → ℕ
+start-of (Read v) = v .start
+start-of (NoVenue r) = 0
+
+-- the contracts of the two calls: the answer; the cells, and where they lie
+pub record ReadsVenue (s : List ℕ) (r : VenueRead) : Type 0 where
+  pub says : r ≡ venue-read s
+
+pub record GivesCells (bytes r : RefT (List ℕ)) : Type 0 where
+  pub says : r .now ≡ venue-cells (bytes .now)
+  pub there : StartsAt (start-of (venue-read (bytes .now))) bytes r
 
 -- each case of the answer: what is said of a refusal, or the counts and the part's offset and length
 abbrev pub told-venue : VenueRead → Told ⊎ (Counts × ℕ × ℕ)

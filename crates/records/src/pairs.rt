@@ -2,7 +2,7 @@
 ghost use mathlib.Core.Path.{_≡_};
 ghost use Prim.Native.Nat.{_+_, _≤_, _<_};
 ghost use lib.ListN.{length};
-ghost use Rattle.records.specs.Pairs.{signed, pair-version, pair-length, cell-in, pair-check, pair-read};
+ghost use Rattle.records.specs.Pairs.{signed, pair-version, pair-length, cell-in, pair-check, ReadsPair};
 use crate::heads::announced;
 use crate::heads::head_check;
 use crate::heads::version_of;
@@ -70,7 +70,7 @@ fn pair_check(s: &[u8]) -> Verdict
 
 // Reads a pair's record: P and Q. Bytes after the record are not looked at.
 pub fn read_pair(bytes: &[u8]) -> PairRead
-    ensures { λ r. ⌜ r ≡ pair-read (now (bytes .entry)) ⌝ }
+    ensures { λ r. ⌜ ReadsPair (now (bytes .entry)) r ⌝ }
 {
     match pair_check(bytes) {
         Verdict::Fine => {

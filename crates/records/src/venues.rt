@@ -3,7 +3,7 @@ ghost use mathlib.Core.Path.{_≡_};
 ghost use Prim.Native.Nat.{_+_, _≤_};
 ghost use lib.ListN.{length};
 ghost use Rattle.records.specs.Heads.{length-field, announced, version-of};
-ghost use Rattle.records.specs.Venues.{venue-version, venue-head, counts-at, venue-in, venue-check, venue-read, venue-cells};
+ghost use Rattle.records.specs.Venues.{venue-version, venue-head, counts-at, venue-in, venue-check, ReadsVenue, GivesCells};
 use crate::heads::announced;
 use crate::heads::head_check;
 use crate::heads::version_of;
@@ -82,7 +82,7 @@ fn venue_check(s: &[u8]) -> Verdict
 
 // Reads a venue's record: its counts and where its cells stand. Bytes after the record are not looked at.
 pub fn read_venue(bytes: &[u8]) -> VenueRead
-    ensures { λ r. ⌜ r ≡ venue-read (now (bytes .entry)) ⌝ }
+    ensures { λ r. ⌜ ReadsVenue (now (bytes .entry)) r ⌝ }
 {
     match venue_check(bytes) {
         Verdict::Fine => VenueRead::Read(venue_in(bytes)),
@@ -92,7 +92,7 @@ pub fn read_venue(bytes: &[u8]) -> VenueRead
 
 // The part that holds the cells, empty where the venue is refused: the partner of `read_venue`.
 pub fn venue_cells(bytes: &[u8]) -> &[u8]
-    ensures { λ r. ⌜ now r ≡ venue-cells (now (bytes .entry)) ⌝ }
+    ensures { λ r. ⌜ GivesCells (bytes .entry) r ⌝ }
 {
     let VenueRead::Read(venue) = read_venue(bytes) else {
         return &bytes[..0];

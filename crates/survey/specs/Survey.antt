@@ -81,6 +81,10 @@ unfoldable pub cell-of : Counts → Placement → Point → Lookup
 unfolding count-check placement-check look-up
 cell-of n at p = passed (count-check n then placement-check at) (look-up P n at p)
 
+-- the contract of the call
+pub record LooksUp (n : Counts) (at : Placement) (p : Point) (r : Lookup) : Type 0 where
+  pub says : r ≡ cell-of n at p
+
 -- each case of the answer: what is said of a refusal, or the cell
 abbrev pub told-lookup : Lookup → Told ⊎ cell.Cell
 told-lookup (Refused r) = inl (told r)

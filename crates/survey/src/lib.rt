@@ -7,7 +7,7 @@ ghost use lib.Ieee.Scale.{finite};
 ghost use Rattle.cells.specs.Checks.{refuse-when, _then_};
 ghost use Rattle.survey.specs.Quotient.{as-f64, quotient, outside, cell-number};
 ghost use Rattle.survey.specs.Search.{Inside, AllInside, Closer};
-ghost use Rattle.survey.specs.Survey.{bad-edge, placement-check, Tested, quotients, value-check, point-check, cell-at, look-up, cell-of};
+ghost use Rattle.survey.specs.Survey.{bad-edge, placement-check, Tested, quotients, value-check, point-check, cell-at, look-up, LooksUp};
 use cells::Axis;
 use cells::Cell;
 use cells::Counts;
@@ -195,7 +195,7 @@ pub fn look_up(end: End, n: Counts, at: Placement, point: Point) -> Lookup
 
 // The cell of a surveyed point: refusals 2, 7, then 8 and 9 with P named as the end.
 pub fn cell_of(n: Counts, at: Placement, point: Point) -> Lookup
-    ensures { λ r. ⌜ r ≡ cell-of n at point ⌝ }
+    ensures { λ r. ⌜ LooksUp n at point r ⌝ }
 {
     match first_of(grids::check_counts(n), check_placement(at)) {
         Verdict::Refused(r) => Lookup::Refused(r),

@@ -37,37 +37,37 @@ enum-told-11 : tie.Need-enum-told-11
 enum-told-11 c = search needs
 
 returns : tie.Need-returns
-returns c = rw (c .enum-told .given .1)
+returns c = record { says = rw (c .enum-told .given .1) }
 
 returns-2 : tie.Need-returns-2
-returns-2 c = rw (c .enum-told2 .given .1)
+returns-2 c = record { says = rw (c .enum-told2 .given .1) }
 
 returns-3 : tie.Need-returns-3
-returns-3 c = rw (c .enum-told3 .given .1)
+returns-3 c = record { says = rw (c .enum-told3 .given .1) }
 
 returns-4 : tie.Need-returns-4
-returns-4 c = rw (c .enum-told4 .given .1)
+returns-4 c = record { says = rw (c .enum-told4 .given .1) }
 
 returns-5 : tie.Need-returns-5
-returns-5 c = rw (c .enum-told5 .given .1)
+returns-5 c = record { says = rw (c .enum-told5 .given .1) }
 
 returns-6 : tie.Need-returns-6
-returns-6 c = rw (c .enum-told6 .given .1)
+returns-6 c = record { says = rw (c .enum-told6 .given .1) }
 
 returns-7 : tie.Need-returns-7
-returns-7 c = rw (c .enum-told7 .given .1)
+returns-7 c = record { says = rw (c .enum-told7 .given .1) }
 
 returns-8 : tie.Need-returns-8
-returns-8 c = rw (c .enum-told8 .given .1)
+returns-8 c = record { says = rw (c .enum-told8 .given .1) }
 
 returns-9 : tie.Need-returns-9
-returns-9 c = rw (c .enum-told9 .given .1)
+returns-9 c = record { says = rw (c .enum-told9 .given .1) }
 
 returns-10 : tie.Need-returns-10
-returns-10 c = rw (c .enum-told10 .given .1)
+returns-10 c = record { says = rw (c .enum-told10 .given .1) }
 
 returns-11 : tie.Need-returns-11
-returns-11 c = rw (c .enum-told11 .given .1)
+returns-11 c = record { says = rw (c .enum-told11 .given .1) }
 
 pub number-spec : {M : Type 1} → statement M
 number-spec =

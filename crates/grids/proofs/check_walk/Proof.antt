@@ -23,13 +23,13 @@ returns : tie.Need-returns
 unfolding walk-check
 returns c =
     let a = c .before .before .before .before .args in
-    ap (λ v. v then grid-check P (a .n) (a .p) then grid-check Q (a .n) (a .q)) (sym (c .before .r .given .1) ∙ c .before .before .before .shape .ensures)
+    ap (λ v. v then grid-check P (a .n) (a .p) then grid-check Q (a .n) (a .q)) (sym (c .before .r .given .1) ∙ c .before .before .before .shape .ensures .says)
 
 returns-2 : tie.Need-returns-2
 unfolding walk-check
 returns-2 c =
     let a = c .before .before .before .before .args in
-    c .check-ends .ensures ∙ ap (λ v. v then grid-check P (a .n) (a .p) then grid-check Q (a .n) (a .q)) (sym (c .before .enum-told .given .1) ∙ c .before .before .before .shape .ensures)
+    c .check-ends .ensures ∙ ap (λ v. v then grid-check P (a .n) (a .p) then grid-check Q (a .n) (a .q)) (sym (c .before .enum-told .given .1) ∙ c .before .before .before .shape .ensures .says)
 
 pub check-walk-spec : {M : Type 1} → statement M
 check-walk-spec =

@@ -1,7 +1,7 @@
 -- The part that the partner names lies within the bytes; where it names none, the empty part. Assumes nothing.
 use mir.Syntax.{w32}
 use mir.ValLaws.{toZ-ofZ}
-use mathlib.Core.Path.{_≡_, sym, _∙_, ap}
+use mathlib.Core.Path.{_≡_, refl, sym, _∙_, ap}
 use Prim.Native.Nat.{ℕ, _^_, _<_}
 use native.Mathlib.Nat.{add-sub-cancel-left}
 use native.Mathlib.Omega.{arith}
@@ -18,7 +18,7 @@ use Rattle.grids.proofs.layer.Tie as tie
 asked : (c : tie.After-layer-part) → let a = c .before .before .args in c .layer-part .result ≡ layer-part (a .n) (length (now (a .cells))) (a .z)
 asked c =
     let a = c .before .before .args in
-    c .layer-part .ensures ∙ ap (λ (z : ℤ). layer-part (a .n) (length (now (a .cells))) z) (toZ-ofZ w32 (a .z) (c .before .before .fits .z))
+    c .layer-part .ensures .says ∙ ap (λ (z : ℤ). layer-part (a .n) (length (now (a .cells))) z) (toZ-ofZ w32 (a .z) (c .before .before .fits .z))
 
 -- the part that is taken
 taken : (c : tie.After-known-told) → let a = c .before .before .before .before .before .args in
@@ -39,7 +39,9 @@ slice-aggregate-result c = search needs
 
 returns : tie.Need-returns
 unfolding layer
-returns c = rw (sym (asked (c .before .before .before)) ∙ c .before .enum-told .given .1)
+returns c =
+    let named = sym (asked (c .before .before .before)) ∙ c .before .enum-told .given .1 in
+    record { says = rw named; there = record { block = refl; offset = rw named (omega arith) } }
 
 add-result : tie.Need-add-result
 add-result c =
@@ -61,8 +63,11 @@ unfolding layer
 returns-2 c =
     let start = c .before .before .start .given .0 .0 in
     let long = c .before .before .start .given .0 .1 .0 in
-    rw (sym (asked (c .before .before .before .before)) ∙ c .before .before .start .given .1)
-    (ap (λ (t : ℕ). take t (drop start (now (c .before .before .before .before .before .before .args .cells)))) (add-sub-cancel-left start long))
+    let named = sym (asked (c .before .before .before .before)) ∙ c .before .before .start .given .1 in
+    record {
+      says = rw named (ap (λ (t : ℕ). take t (drop start (now (c .before .before .before .before .before .before .args .cells)))) (add-sub-cancel-left start long));
+      there = record { block = refl; offset = rw named (omega arith) };
+    }
 
 pub layer-spec : {M : Type 1} → statement M
 layer-spec =

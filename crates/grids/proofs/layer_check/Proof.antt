@@ -25,7 +25,7 @@ enum-told-2 c = search needs
 
 returns : tie.Need-returns
 unfolding layer-check
-returns c = let e = c .enum-told2 .given .1 in rw (sym (c .before .before .shape .ensures) ∙ e, e)
+returns c = let e = c .enum-told2 .given .1 in rw (sym (c .before .before .shape .ensures .says) ∙ e, e)
 
 bad-layer-requires : tie.Need-bad-layer-requires
 bad-layer-requires c κs = search needs
@@ -34,14 +34,14 @@ returns-2 : tie.Need-returns-2
 unfolding layer-check
 returns-2 c =
     let d = c .before .before .before .before in
-    rw (sym (d .shape .ensures) ∙ c .before .before .enum-told .given .1, sym (tested (c .before)) ∙ c .if1 .taken)
+    rw (sym (d .shape .ensures .says) ∙ c .before .before .enum-told .given .1, sym (tested (c .before)) ∙ c .if1 .taken)
 
 returns-3 : tie.Need-returns-3
 unfolding layer-check
 returns-3 c =
     let d = c .before .before .before .before in
     let e = c .before .before .enum-told .given .1 in
-    rw (sym (d .shape .ensures) ∙ e, sym (tested (c .before)) ∙ c .if1 .left, e)
+    rw (sym (d .shape .ensures .says) ∙ e, sym (tested (c .before)) ∙ c .if1 .left, e)
 
 pub layer-check-spec : {M : Type 1} → statement M
 layer-check-spec =

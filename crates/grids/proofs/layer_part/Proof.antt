@@ -61,11 +61,11 @@ returns : tie.Need-returns
 unfolding layer-part
 returns c =
     let d = c .before .before .before .before .before .before in
-    rw (toZ-ofZ w32 (d .args .z) (d .fits .z), fine c)
+    record { says = rw (toZ-ofZ w32 (d .args .z) (d .fits .z), fine c) }
 
 returns-2 : tie.Need-returns-2
 unfolding layer-part
-returns-2 c = rw (sym (checked (c .before .before .before)) ∙ c .before .r .given .1)
+returns-2 c = record { says = rw (sym (checked (c .before .before .before)) ∙ c .before .r .given .1) }
 
 pub layer-part-spec : {M : Type 1} → statement M
 layer-part-spec =

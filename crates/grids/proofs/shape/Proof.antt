@@ -47,15 +47,15 @@ returns : tie.Need-returns
 unfolding shape
 returns c =
     let s = c .before .before .before .before in
-    ap (λ v. v then refuse-when (not (eqb (s .args .bytes) (size (s .args .n)))) Bytes) (sym (c .before .r .given .1) ∙ c .before .before .before .check-counts .ensures)
+    record { says = ap (λ v. v then refuse-when (not (eqb (s .args .bytes) (size (s .args .n)))) Bytes) (sym (c .before .r .given .1) ∙ c .before .before .before .check-counts .ensures) }
 
 returns-2 : tie.Need-returns-2
 unfolding shape
-returns-2 c = rw (fine (c .before .before .before .before), eq-eqb _ _ (c .if1 .taken))
+returns-2 c = record { says = rw (fine (c .before .before .before .before), eq-eqb _ _ (c .if1 .taken)) }
 
 returns-3 : tie.Need-returns-3
 unfolding shape
-returns-3 c = rw (fine (c .before .before .before .before), ne-eqb _ _ (c .if1 .left))
+returns-3 c = record { says = rw (fine (c .before .before .before .before), ne-eqb _ _ (c .if1 .left)) }
 
 pub shape-spec : {M : Type 1} → statement M
 shape-spec =

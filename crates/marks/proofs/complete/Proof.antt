@@ -14,7 +14,7 @@ use Rattle.marks.proofs.complete.Statement.{statement}
 use Rattle.marks.proofs.complete.Tie as tie
 
 fine : (c : tie.After-enum-told) → let a = c .before .before .before .before .args in shape (a .n) (length (now (a .cells))) ≡ Fine
-fine c = sym (c .before .before .shape .ensures) ∙ c .enum-told .given .1
+fine c = sym (c .before .before .shape .ensures .says) ∙ c .enum-told .given .1
 
 shape-requires : tie.Need-shape-requires
 shape-requires c κs = search needs
@@ -33,15 +33,15 @@ enum-known-r c = search needs
 
 returns : tie.Need-returns
 unfolding completeness
-returns c = rw (fine (c .before .before .before .before), complete-is, sym (c .before .before .has-gap .ensures) ∙ c .if1 .taken)
+returns c = record { says = rw (fine (c .before .before .before .before), complete-is, sym (c .before .before .has-gap .ensures) ∙ c .if1 .taken) }
 
 returns-2 : tie.Need-returns-2
 unfolding completeness
-returns-2 c = rw (fine (c .before .before .before .before), complete-is, sym (c .before .before .has-gap .ensures) ∙ c .if1 .left)
+returns-2 c = record { says = rw (fine (c .before .before .before .before), complete-is, sym (c .before .before .has-gap .ensures) ∙ c .if1 .left) }
 
 returns-3 : tie.Need-returns-3
 unfolding completeness
-returns-3 c = rw (sym (c .before .before .before .shape .ensures) ∙ c .before .r .given .1)
+returns-3 c = record { says = rw (sym (c .before .before .before .shape .ensures .says) ∙ c .before .r .given .1) }
 
 pub complete-spec : {M : Type 1} → statement M
 complete-spec =

@@ -18,7 +18,7 @@ enum-told-2 c = search needs
 
 returns : tie.Need-returns
 returns c =
-    let e = c .before .before .shape .ensures in
+    let e = c .before .before .shape .ensures .says in
     record { says = e; holds = rw (sym e ∙ c .enum-told2 .given .1) }
 
 slice-aggregate-mark-rows : tie.Need-slice-aggregate-mark-rows
@@ -26,7 +26,7 @@ slice-aggregate-mark-rows c = search needs
 
 mark-rows-requires : tie.Need-mark-rows-requires
 mark-rows-requires c κs =
-    let fine = sym (c .before .before .before .before .shape .ensures) ∙ c .before .before .enum-told .given .1 in
+    let fine = sym (c .before .before .before .before .shape .ensures .says) ∙ c .before .before .enum-told .given .1 in
     (fine, framed-blank _ 1026 (omega (arith, shaped _ _ fine .x .most)))
 
 same-length : tie.Need-same-length
@@ -35,7 +35,7 @@ same-length c = search needs
 returns-2 : tie.Need-returns-2
 returns-2 c =
     let d = c .before .before .before .before .before .before in
-    let e = d .before .before .shape .ensures in
+    let e = d .before .before .shape .ensures .says in
     record { says = e; holds = rw (sym e ∙ d .enum-told .given .1) (c .before .before .before .mark-rows .ensures) }
 
 pub mark-spec : {M : Type 1} → statement M

@@ -14,7 +14,7 @@ same-length : tie.Need-same-length
 same-length c = search needs
 
 returns : tie.Need-returns
-returns c = record { puts = rw (c .before .before .before .number .ensures) at (c .before .before .put-pair-refused .ensures); next = refl }
+returns c = record { puts = rw (c .before .before .before .number .ensures .says) at (c .before .before .put-pair-refused .ensures); next = refl }
 
 pub pair-refused-spec : {M : Type 1} → statement M
 pair-refused-spec =

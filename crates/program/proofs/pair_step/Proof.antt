@@ -20,7 +20,7 @@ read : (c : tie.After-read-pair) {r : PairRead} → c .read-pair .result ≡ r �
     let a = c .before .before .before .before .before .before .before .args in
     pair-said (a .n) (now (a .cells)) (a .k) (now (a .frame)) ≡ said-of-pair (a .n) (now (a .cells)) (a .k) r
 unfolding pair-said
-read c e = rw (ne-eqb _ _ (c .before .before .before .if1 .left), judged (c .before .before) (c .before .if2 .left), sym (c .read-pair .ensures) ∙ e)
+read c e = rw (ne-eqb _ _ (c .before .before .before .if1 .left), judged (c .before .before) (c .before .if2 .left), sym (c .read-pair .ensures .says) ∙ e)
 
 returns : tie.Need-returns
 unfolding pair-said

@@ -17,7 +17,7 @@ judged c h = sym (c .beyond .ensures) ∙ h
 -- past the test, what is said is said of the venue
 read : (c : tie.After-read-venue) {r : VenueRead} → c .read-venue .result ≡ r → venue-said (now (c .before .before .before .before .before .args .frame)) ≡ said-of-venue r
 unfolding venue-said
-read c e = rw (judged (c .before .before) (c .before .if1 .left), sym (c .read-venue .ensures) ∙ e)
+read c e = rw (judged (c .before .before) (c .before .if1 .left), sym (c .read-venue .ensures .says) ∙ e)
 
 beyond-requires : tie.Need-beyond-requires
 beyond-requires c κs = search needs

@@ -15,17 +15,17 @@ enum-told : tie.Need-enum-told
 enum-told c = search needs
 
 look-from-requires : tie.Need-look-from-requires
-look-from-requires c κs = sym (c .before .before .shape .ensures) ∙ c .enum-told .given .1
+look-from-requires c κs = sym (c .before .before .shape .ensures .says) ∙ c .enum-told .given .1
 
 returns : tie.Need-returns
 returns c =
     let a = c .before .before .before .before .before .args in
-    record { says = rw (sight-is (a .n) (a .cells .now) (a .at) (a .camera) (a .ball), sym (c .before .before .before .shape .ensures) ∙ c .before .r .given .1) }
+    record { says = rw (sight-is (a .n) (a .cells .now) (a .at) (a .camera) (a .ball), sym (c .before .before .before .shape .ensures .says) ∙ c .before .r .given .1) }
 
 returns-2 : tie.Need-returns-2
 returns-2 c =
     let a = c .before .before .before .before .before .args in
-    record { says = rw (sight-is (a .n) (a .cells .now) (a .at) (a .camera) (a .ball), sym (c .before .before .before .shape .ensures) ∙ c .before .enum-told .given .1, c .look-from .ensures) }
+    record { says = rw (sight-is (a .n) (a .cells .now) (a .at) (a .camera) (a .ball), sym (c .before .before .before .shape .ensures .says) ∙ c .before .enum-told .given .1, c .look-from .ensures) }
 
 pub see-spec : {M : Type 1} → statement M
 see-spec =

@@ -30,14 +30,18 @@ look-up-requires c κs =
 returns : tie.Need-returns
 returns c =
     let a = c .before .before .before .before .before .before .args in
-    sym (cell-refused (a .n) (a .at) (a .point)
-    (c .before .before .before .before .before .check-counts .ensures) (c .before .before .before .before .check-placement .ensures) (c .before .before .before .first-of .ensures) (c .before .r .given .1))
+    record {
+      says = sym (cell-refused (a .n) (a .at) (a .point)
+          (c .before .before .before .before .before .check-counts .ensures) (c .before .before .before .before .check-placement .ensures) (c .before .before .before .first-of .ensures) (c .before .r .given .1));
+    }
 
 returns-2 : tie.Need-returns-2
 returns-2 c =
     let a = c .before .before .before .before .before .before .args in
-    sym (cell-looked-up (a .n) (a .at) (a .point)
-    (c .before .before .before .before .before .check-counts .ensures) (c .before .before .before .before .check-placement .ensures) (c .before .before .before .first-of .ensures) (c .before .enum-told .given .1) (c .look-up .ensures))
+    record {
+      says = sym (cell-looked-up (a .n) (a .at) (a .point)
+          (c .before .before .before .before .before .check-counts .ensures) (c .before .before .before .before .check-placement .ensures) (c .before .before .before .first-of .ensures) (c .before .enum-told .given .1) (c .look-up .ensures));
+    }
 
 pub cell-of-spec : {M : Type 1} → statement M
 cell-of-spec =

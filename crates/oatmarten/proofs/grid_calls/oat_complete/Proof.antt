@@ -13,7 +13,7 @@ flat-complete-requires : tie.Need-flat-complete-requires
 flat-complete-requires c κs = search needs
 
 returns : tie.Need-returns
-returns c = rw (c .flat-complete .ensures, c .before .complete .ensures, c .before .before .counts .ensures)
+returns c = rw (c .flat-complete .ensures, c .before .complete .ensures .says, c .before .before .counts .ensures)
 
 pub oat-complete-spec : {M : Type 1} → statement M
 oat-complete-spec =

@@ -19,7 +19,7 @@ flat-found-requires : tie.Need-flat-found-requires
 flat-found-requires c κs = search needs
 
 returns : tie.Need-returns
-returns c = rw (c .flat-found .ensures, c .before .cell-of .ensures, c .before .before .point .ensures, c .before .before .before .placement .ensures, c .before .before .before .before .counts .ensures)
+returns c = rw (c .flat-found .ensures, c .before .cell-of .ensures .says, c .before .before .point .ensures, c .before .before .before .placement .ensures, c .before .before .before .before .counts .ensures)
 
 pub oat-cell-of-spec : {M : Type 1} → statement M
 oat-cell-of-spec =

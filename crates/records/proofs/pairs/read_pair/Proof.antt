@@ -30,11 +30,11 @@ enum-known-r c = search needs
 
 returns : tie.Need-returns
 unfolding pair-read
-returns c = rw (fine (c .before .before), c .before .cell-in .ensures, c .cell-in2 .ensures)
+returns c = record { says = rw (fine (c .before .before), c .before .cell-in .ensures, c .cell-in2 .ensures) }
 
 returns-2 : tie.Need-returns-2
 unfolding pair-read
-returns-2 c = rw (sym (c .before .before .before .pair-check .ensures) ∙ c .before .r .given .1)
+returns-2 c = record { says = rw (sym (c .before .before .before .pair-check .ensures) ∙ c .before .r .given .1) }
 
 pub read-pair-spec : {M : Type 1} → statement M
 read-pair-spec =

@@ -25,11 +25,11 @@ enum-known-r c = search needs
 
 returns : tie.Need-returns
 unfolding venue-read
-returns c = rw (fine (c .before), c .venue-in .ensures)
+returns c = record { says = rw (fine (c .before), c .venue-in .ensures) }
 
 returns-2 : tie.Need-returns-2
 unfolding venue-read
-returns-2 c = rw (sym (c .before .before .before .venue-check .ensures) ∙ c .before .r .given .1)
+returns-2 c = record { says = rw (sym (c .before .before .before .venue-check .ensures) ∙ c .before .r .given .1) }
 
 pub read-venue-spec : {M : Type 1} → statement M
 read-venue-spec =

@@ -1,5 +1,5 @@
 -- The part that the partner names lies within the bytes; where it names none, the empty part. Assumes nothing.
-use mathlib.Core.Path.{sym, ap, _∙_}
+use mathlib.Core.Path.{refl, sym, ap, _∙_}
 use Prim.Native.Nat.{ℕ, _+_, _<_, _≤_, _^_}
 use native.Mathlib.Nat.{add-sub-cancel-left}
 use native.Mathlib.Omega.{arith}
@@ -13,7 +13,7 @@ use Rattle.records.proofs.venues.venue_cells.Tie as tie
 
 within : (c : tie.After-struct-known) → let v = c .before .before .venue .given .0 .0 in
     v .start + v .long ≤ length (now (c .before .before .before .before .before .before .args .bytes))
-within c = part-within _ _ (sym (c .before .before .before .before .read-venue .ensures) ∙ c .before .before .venue .given .1)
+within c = part-within _ _ (sym (c .before .before .before .before .read-venue .ensures .says) ∙ c .before .before .venue .given .1)
 
 read-venue-requires : tie.Need-read-venue-requires
 read-venue-requires c κs = search needs
@@ -29,7 +29,9 @@ slice-aggregate-result c = search needs
 
 returns : tie.Need-returns
 unfolding venue-cells
-returns c = rw (sym (c .before .before .before .read-venue .ensures) ∙ c .before .enum-told .given .1)
+returns c =
+    let named = sym (c .before .before .before .read-venue .ensures .says) ∙ c .before .enum-told .given .1 in
+    record { says = rw named; there = record { block = refl; offset = rw named (omega arith) } }
 
 add-end : tie.Need-add-end
 add-end c =
@@ -50,8 +52,11 @@ returns-2 : tie.Need-returns-2
 unfolding venue-cells
 returns-2 c =
     let v = c .before .before .before .venue .given .0 .0 in
-    rw (sym (c .before .before .before .before .before .read-venue .ensures) ∙ c .before .before .before .venue .given .1)
-    (ap (λ (t : ℕ). take t (drop (v .start) (now (c .before .before .before .before .before .before .before .args .bytes)))) (add-sub-cancel-left (v .start) (v .long)))
+    let named = sym (c .before .before .before .before .before .read-venue .ensures .says) ∙ c .before .before .before .venue .given .1 in
+    record {
+      says = rw named (ap (λ (t : ℕ). take t (drop (v .start) (now (c .before .before .before .before .before .before .before .args .bytes)))) (add-sub-cancel-left (v .start) (v .long)));
+      there = record { block = refl; offset = rw named (omega arith) };
+    }
 
 pub venue-cells-spec : {M : Type 1} → statement M
 venue-cells-spec =

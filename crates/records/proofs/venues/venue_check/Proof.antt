@@ -55,7 +55,7 @@ returns-2 : tie.Need-returns-2
 returns-2 c =
     let past = c .before .before .before in
     let venue = c .before .before .venue-in .ensures in
-    c .shape .ensures
+    c .shape .ensures .says
     ∙ rw (venue, venue-tests (now (past .before .before .before .before .before .before .before .before .args .s)), sym (tested (past .before .before)) ∙ past .enum-told .given .1)
 
 pub venue-check-spec : {M : Type 1} → statement M

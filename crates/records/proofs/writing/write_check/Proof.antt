@@ -12,7 +12,7 @@ use Rattle.records.proofs.writing.write_check.Statement.{statement}
 use Rattle.records.proofs.writing.write_check.Tie as tie
 
 fine : (c : tie.After-enum-told) → shape (c .before .before .before .args .n) (c .before .before .before .args .bytes) ≡ Fine
-fine c = sym (c .before .before .shape .ensures) ∙ c .enum-told .given .1
+fine c = sym (c .before .before .shape .ensures .says) ∙ c .enum-told .given .1
 
 shape-requires : tie.Need-shape-requires
 shape-requires c κs = search needs
@@ -25,7 +25,7 @@ enum-told-2 c = search needs
 
 returns : tie.Need-returns
 unfolding write-check
-returns c = let e = c .enum-told2 .given .1 in rw (sym (c .before .before .shape .ensures) ∙ e, e)
+returns c = let e = c .enum-told2 .given .1 in rw (sym (c .before .before .shape .ensures .says) ∙ e, e)
 
 venue-head-requires : tie.Need-venue-head-requires
 venue-head-requires c κs = search needs
