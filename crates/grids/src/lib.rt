@@ -104,7 +104,8 @@ pub fn layer(n: Counts, cells: &[u8], z: i32) -> &[u8]
     ensures { λ r. ⌜ GivesLayer n (cells .entry) z r ⌝ }
 {
     let LayerPart::Part(start, long) = layer_part(n, cells, z) else {
-        return &cells[..0];
+        let at = 0;
+        return &cells[at..at];
     };
     &cells[start..start + long]
 }

@@ -1,9 +1,11 @@
--- The part that the partner names lies within the bytes; where it names none, the empty part. Assumes nothing.
+-- `grids::layer` meets its contract: the part that the partner names lies within the bytes; where it names none, the empty part at their start.
+-- Assumes nothing.
 use mir.Syntax.{w32}
 use mir.ValLaws.{toZ-ofZ}
 use mathlib.Core.Path.{_≡_, refl, sym, _∙_, ap}
-use Prim.Native.Nat.{ℕ, _^_, _<_}
-use native.Mathlib.Nat.{add-sub-cancel-left}
+use mathlib.Core.List.{List, []}
+use Prim.Native.Nat.{ℕ, _-_, _^_, _<_}
+use native.Mathlib.Nat.{add-sub-cancel-left, sub-self}
 use native.Mathlib.Omega.{arith}
 use lib.IntN.{ℤ}
 use lib.ListN.{length, take, drop}
@@ -25,6 +27,10 @@ taken : (c : tie.After-known-told) → let a = c .before .before .before .before
     Named (a .n) (length (now (a .cells))) (c .before .start .given .0 .0) (c .before .start .given .0 .1 .0)
 taken c = part-named _ _ _ _ _ (sym (asked (c .before .before .before)) ∙ c .before .start .given .1)
 
+-- a part that ends where it starts
+nothing : (at : ℕ) (l : List ℕ) → take (at - at) (drop at l) ≡ []
+nothing at l = ap (λ (t : ℕ). take t (drop at l)) (sub-self at)
+
 layer-part-requires : tie.Need-layer-part-requires
 layer-part-requires c κs = search needs
 
@@ -34,21 +40,6 @@ enum-known-start c = search needs
 enum-told : tie.Need-enum-told
 enum-told c = search needs
 
-slice-aggregate-result : tie.Need-slice-aggregate-result
-slice-aggregate-result c = search needs
-
-returns : tie.Need-returns
-unfolding layer
-returns c =
-    let named = sym (asked (c .before .before .before)) ∙ c .before .enum-told .given .1 in
-    record { says = rw named; there = record { block = refl; offset = rw named (omega arith) } }
-
-add-result : tie.Need-add-result
-add-result c =
-    let long : length (now (c .before .before .before .before .before .args .cells)) < 2 ^ 64 = search needs in
-    let w = taken c .within in
-    record { fits = omega arith }
-
 sub-result : tie.Need-sub-result
 sub-result c = search needs
 
@@ -56,7 +47,28 @@ part-result-start : tie.Need-part-result-start
 part-result-start c = search needs
 
 part-result-end : tie.Need-part-result-end
-part-result-end c = taken c .within
+part-result-end c = omega arith
+
+returns : tie.Need-returns
+unfolding layer
+returns c =
+    let named = sym (asked (c .before .before .before)) ∙ c .before .enum-told .given .1 in
+    record { there = record { block = refl; offset = rw named (omega arith) }; says = rw named (search (refl, nothing)) }
+
+add-result : tie.Need-add-result
+add-result c =
+    let long : length (now (c .before .before .before .before .before .args .cells)) < 2 ^ 64 = search needs in
+    let w = taken c .within in
+    record { fits = omega arith }
+
+sub-result-2 : tie.Need-sub-result-2
+sub-result-2 c = search needs
+
+part-result-start-2 : tie.Need-part-result-start-2
+part-result-start-2 c = search needs
+
+part-result-end-2 : tie.Need-part-result-end-2
+part-result-end-2 c = taken c .within
 
 returns-2 : tie.Need-returns-2
 unfolding layer
@@ -76,10 +88,12 @@ layer-spec =
     layer-part-requires
     enum-known-start
     enum-told
-    slice-aggregate-result
-    returns
-    add-result
     sub-result
     part-result-start
     part-result-end
+    returns
+    add-result
+    sub-result-2
+    part-result-start-2
+    part-result-end-2
     returns-2)

@@ -1,4 +1,5 @@
--- The part that the partner names lies within the bytes; where it names none, the empty part. Assumes nothing.
+-- `records::venues::venue_cells` meets its contract: the part that the partner names lies within the bytes; where it names none, the empty part
+-- at their start. Assumes nothing.
 use mathlib.Core.Path.{refl, sym, ap, _∙_}
 use Prim.Native.Nat.{ℕ, _+_, _<_, _≤_, _^_}
 use native.Mathlib.Nat.{add-sub-cancel-left}
