@@ -10,3 +10,4 @@ pub mod Records
 pub mod Texts
 pub mod Program
 pub mod Exports
+pub mod Ties

@@ -11,3 +11,4 @@ pub mod Records
 pub mod Texts
 pub mod Program
 pub mod Exports
+pub mod Ties

@@ -1,0 +1,44 @@
+-- Each call's `ensures` is its record as it stands, and each call's `requires` asks for nothing. Assumes nothing.
+use Rattle.claims.specs.Ties.{Promised, AsksNothing}
+
+pub promised : Promised
+promised =
+    record {
+      of-number = λ κs a r e h. h;
+      of-line6 = λ κs a r e h. h;
+      of-line26 = λ κs a r e h. h;
+      of-shape = λ κs a r e h. h;
+      of-layer-part = λ κs a r e h. h;
+      of-layer = λ κs a r e h. h;
+      of-mark = λ κs a r e h. h;
+      of-complete = λ κs a r e h. h;
+      of-plain = λ κs a r e h. h;
+      of-adaptive = λ κs a r e h. h;
+      of-cell-of = λ κs a r e h. h;
+      of-see = λ κs a r e h. h;
+      of-read-venue = λ κs a r e h. h;
+      of-venue-cells = λ κs a r e h. h;
+      of-read-pair = λ κs a r e h. h;
+      of-write-venue = λ κs a r e h. h;
+    }
+
+pub asks-nothing : AsksNothing
+asks-nothing =
+    record {
+      number-asks = λ κs a. tt;
+      line6-asks = λ κs a. tt;
+      line26-asks = λ κs a. tt;
+      shape-asks = λ κs a. tt;
+      layer-part-asks = λ κs a. tt;
+      layer-asks = λ κs a. tt;
+      mark-asks = λ κs a. tt;
+      complete-asks = λ κs a. tt;
+      plain-asks = λ κs a. tt;
+      adaptive-asks = λ κs a. tt;
+      cell-of-asks = λ κs a. tt;
+      see-asks = λ κs a. tt;
+      read-venue-asks = λ κs a. tt;
+      venue-cells-asks = λ κs a. tt;
+      read-pair-asks = λ κs a. tt;
+      write-venue-asks = λ κs a. tt;
+    }

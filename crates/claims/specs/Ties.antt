@@ -1,0 +1,70 @@
+-- The contracts of which the claims speak are those that the sources state: `Pre` and `Post` of a call are its `requires` and its `ensures` as the
+-- toolchain reads them, of the call's inputs a, its answer r and the memory at exit e. No public call asks for anything, and what each promises is
+-- the record of its name: with a weaker `ensures` or a `requires` in its source, this file's theorem fails. Assumes nothing.
+use Prim.Native.Nat.{ℕ}
+use lib.ListN.{length}
+use Rattle.cells.specs.Refusals.{NumberOf}
+use Rattle.cells.proofs.number.Reads as number
+use Rattle.grids.specs.Grid.{Shapes, GivesLayerPart, GivesLayer}
+use Rattle.grids.specs.Marks.{Marks, Completes}
+use Rattle.grids.proofs.shape.Reads as shape
+use Rattle.grids.proofs.layer_part.Reads as layer-part
+use Rattle.grids.proofs.layer.Reads as layer
+use Rattle.marks.proofs.mark.Reads as mark
+use Rattle.marks.proofs.complete.Reads as complete
+use Rattle.lists.specs.Lists.{Line6, Line26}
+use Rattle.lists.proofs.line6.Reads as line6
+use Rattle.lists.proofs.line26.Reads as line26
+use Rattle.walks.specs.declared.Walker.the-variants.{Plain, Adaptive}
+use Rattle.walks.specs.Answers.{Finds}
+use Rattle.hits.proofs.first_plain.Reads as plain
+use Rattle.hits.proofs.first_adaptive.Reads as adaptive
+use Rattle.survey.specs.Survey.{LooksUp}
+use Rattle.survey.proofs.cell_of.Reads as cell-of
+use Rattle.sight.specs.Sight.{Sees}
+use Rattle.sight.proofs.see.Reads as see
+use Rattle.records.specs.Venues.{ReadsVenue, GivesCells}
+use Rattle.records.specs.Pairs.{ReadsPair}
+use Rattle.records.specs.Writing.{WritesVenue}
+use Rattle.records.proofs.read_venue.Reads as read-venue
+use Rattle.records.proofs.venue_cells.Reads as venue-cells
+use Rattle.records.proofs.read_pair.Reads as read-pair
+use Rattle.records.proofs.write_venue.Reads as write-venue
+
+-- what each call promises
+pub record Promised : Type 1 where
+  pub of-number : (κs : _) (a : _) (r : _) (e : _) → number.Post κs a r e → NumberOf (a .0) r
+  pub of-line6 : (κs : _) (a : _) (r : _) (e : _) → line6.Post κs a r e → Line6 (a .0) (a .1 .0) (a .1 .1 .0 .now) r (e .1 .1 .0 .now)
+  pub of-line26 : (κs : _) (a : _) (r : _) (e : _) → line26.Post κs a r e → Line26 (a .0) (a .1 .0) (a .1 .1 .0 .now) r (e .1 .1 .0 .now)
+  pub of-shape : (κs : _) (a : _) (r : _) (e : _) → shape.Post κs a r e → Shapes (a .0) (a .1 .0) r
+  pub of-layer-part : (κs : _) (a : _) (r : _) (e : _) → layer-part.Post κs a r e → GivesLayerPart (a .0) (length (a .1 .0 .now)) (a .1 .1 .0) r
+  pub of-layer : (κs : _) (a : _) (r : _) (e : _) → layer.Post κs a r e → GivesLayer (a .0) (a .1 .0) (a .1 .1 .0) r
+  pub of-mark : (κs : _) (a : _) (r : _) (e : _) → mark.Post κs a r e → Marks (a .0) (a .1 .0 .now) r (e .1 .0 .now)
+  pub of-complete : (κs : _) (a : _) (r : _) (e : _) → complete.Post κs a r e → Completes (a .0) (a .1 .0 .now) r
+  pub of-plain : (κs : _) (a : _) (r : _) (e : _) → plain.Post κs a r e → Finds Plain (a .0) (a .1 .0 .now) (a .1 .1 .0) (a .1 .1 .1 .0) r
+  pub of-adaptive : (κs : _) (a : _) (r : _) (e : _) → adaptive.Post κs a r e → Finds Adaptive (a .0) (a .1 .0 .now) (a .1 .1 .0) (a .1 .1 .1 .0) r
+  pub of-cell-of : (κs : _) (a : _) (r : _) (e : _) → cell-of.Post κs a r e → LooksUp (a .0) (a .1 .0) (a .1 .1 .0) r
+  pub of-see : (κs : _) (a : _) (r : _) (e : _) → see.Post κs a r e → Sees (a .0) (a .1 .0 .now) (a .1 .1 .0) (a .1 .1 .1 .0) (a .1 .1 .1 .1 .0) r
+  pub of-read-venue : (κs : _) (a : _) (r : _) (e : _) → read-venue.Post κs a r e → ReadsVenue (a .0 .now) r
+  pub of-venue-cells : (κs : _) (a : _) (r : _) (e : _) → venue-cells.Post κs a r e → GivesCells (a .0) r
+  pub of-read-pair : (κs : _) (a : _) (r : _) (e : _) → read-pair.Post κs a r e → ReadsPair (a .0 .now) r
+  pub of-write-venue : (κs : _) (a : _) (r : _) (e : _) → write-venue.Post κs a r e → WritesVenue (a .0) (a .1 .0 .now) (a .1 .1 .0 .now) r (e .1 .1 .0 .now)
+
+-- what each call asks for: nothing, of any inputs
+pub record AsksNothing : Type 1 where
+  pub number-asks : (κs : _) (a : _) → number.Pre κs a
+  pub line6-asks : (κs : _) (a : _) → line6.Pre κs a
+  pub line26-asks : (κs : _) (a : _) → line26.Pre κs a
+  pub shape-asks : (κs : _) (a : _) → shape.Pre κs a
+  pub layer-part-asks : (κs : _) (a : _) → layer-part.Pre κs a
+  pub layer-asks : (κs : _) (a : _) → layer.Pre κs a
+  pub mark-asks : (κs : _) (a : _) → mark.Pre κs a
+  pub complete-asks : (κs : _) (a : _) → complete.Pre κs a
+  pub plain-asks : (κs : _) (a : _) → plain.Pre κs a
+  pub adaptive-asks : (κs : _) (a : _) → adaptive.Pre κs a
+  pub cell-of-asks : (κs : _) (a : _) → cell-of.Pre κs a
+  pub see-asks : (κs : _) (a : _) → see.Pre κs a
+  pub read-venue-asks : (κs : _) (a : _) → read-venue.Pre κs a
+  pub venue-cells-asks : (κs : _) (a : _) → venue-cells.Pre κs a
+  pub read-pair-asks : (κs : _) (a : _) → read-pair.Pre κs a
+  pub write-venue-asks : (κs : _) (a : _) → write-venue.Pre κs a
