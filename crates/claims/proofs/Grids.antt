@@ -2,9 +2,12 @@
 use Prim.Native.Nat.{ℕ, _*_, _/_, _%_, _<_}
 use native.Mathlib.Omega.{arith}
 use mathlib.Core.Path.{_≡_, refl, sym, subst, ap, _∙_}
+use mathlib.Core.Bool.{Bool, true, false}
 use mathlib.Core.List.{List}
-use lib.IntN.{ℤ}
+use lib.IntN.{ℤ, pos}
 use lib.ListN.{length, getD}
+use denote.Ref.{RefT}
+use Rattle.cells.specs.Parts.{StartsAt}
 use Rattle.cells.specs.declared.Counts.{Counts}
 use Rattle.cells.specs.declared.Verdict.{Verdict}
 use Rattle.cells.specs.declared.Verdict.the-variants.{Fine, Refused}
@@ -12,14 +15,15 @@ use Rattle.grids.specs.declared.LayerPart.{LayerPart}
 use Rattle.grids.specs.declared.LayerPart.the-variants.{Part, Refused as NoPart}
 use Rattle.grids.specs.declared.Completeness.{Completeness}
 use Rattle.grids.specs.declared.Completeness.the-variants.{Yes, No}
-use Rattle.grids.specs.Grid.{shape, index, layer-part, layer}
-use Rattle.grids.specs.Marks.{after-marking, marked, complete, completeness, Marks}
+use Rattle.grids.specs.Grid.{shape, index, layer-part, layer, start-of, GivesLayerPart, GivesLayer}
+use Rattle.grids.specs.Marks.{after-marking, marked, complete, yes-or-no, completeness-by, completeness, Marks, Completes}
 use Rattle.grids.specs.Inside.{Shaped}
 use Rattle.grids.proofs.Shapes.{shaped}
 use Rattle.grids.proofs.Layers.{layer-empty, layer-long, layer-own}
 use Rattle.grids.proofs.Places.{cell-at-index, index-of-cell, index-below, x-below, y-below, z-below}
 use Rattle.grids.proofs.Marking.{marked-length, marked-keeps, marked-same, marked-twice, marked-complete, complete-iff}
-use Rattle.claims.specs.Grids.{OneAnswer, BytePlaces, Places, Layers, Marking, MarkedCall, Complete, ShutOut}
+use Rattle.claims.specs.Example.{example-counts}
+use Rattle.claims.specs.Grids.{OneAnswer, BytePlaces, Places, Layers, Marking, MarkedCall, Complete, SaysComplete, ShutOut, two-layers}
 
 -- a contract `r ≡ f of the inputs` admits one answer
 pub one : {A : Type 0} {f : A} (r s : A) → r ≡ f → s ≡ f → r ≡ s
@@ -28,10 +32,13 @@ one r s p q = p ∙ sym q
 pub one-answer : OneAnswer
 one-answer =
     record {
-      by-shape = λ n bytes. one;
-      by-layer-part = λ n l z. one;
-      by-layer = λ n l z. one;
-      by-complete = λ n l. one;
+      by-shape = λ n bytes r s p q. one r s (p .says) (q .says);
+      by-layer-part = λ n bytes z r s p q. one r s (p .says) (q .says);
+      by-layer = λ n cells z r s p q.
+          let block = one (r .ptr .0) (s .ptr .0) (p .there .block) (q .there .block) in
+          let offset = one (r .ptr .1) (s .ptr .1) (p .there .offset) (q .there .offset) in
+          (one (r .now) (s .now) (p .says) (q .says), λ i. (block i, offset i));
+      by-complete = λ n l r s p q. one r s (p .says) (q .says);
       by-mark = λ n l r s a b p q. (one r s (p .says) (q .says), one a b (p .holds) (q .holds));
     }
 
@@ -50,8 +57,19 @@ numbered n bytes fine =
 pub places : (n : Counts) (bytes : ℕ) → Places n bytes
 places n bytes = record { numbered = numbered n bytes }
 
-pub layers : (n : Counts) (l : List ℕ) (z : ℤ) → Layers n l z
-layers n l z = record { empty = layer-empty n l z; long = layer-long n l z; own = layer-own n l z }
+pub layers : (n : Counts) (z : ℤ) (cells layer : RefT (List ℕ)) (part : LayerPart) → Layers n z cells layer part
+layers n z cells layer part =
+    record {
+      empty = λ named given.
+          let (why, none) = layer-empty n (cells .now) z in
+          (λ e. let (r, f) = why (sym (given .says) ∙ e) in (r, named .says ∙ f), λ refused. given .says ∙ none (refused .0, sym (named .says) ∙ refused .1));
+      own = λ start many named given.
+          let there = subst (λ (p : LayerPart). StartsAt (start-of p) cells layer) (sym (named .says)) (given .there) in (
+            there,
+            ap length (given .says) ∙ layer-long n (cells .now) z start many (sym (named .says)),
+            λ i h. ap (λ (l : List ℕ). getD l i 0) (given .says) ∙ layer-own n (cells .now) z start many (sym (named .says)) i h,
+          );
+    }
 
 pub marking : (k : ℕ) (n : Counts) (l : List ℕ) → Marking k n l
 marking k n l =
@@ -67,32 +85,47 @@ pub marked-call : (n : Counts) (l : List ℕ) → MarkedCall n l
 unfolding completeness
 marked-call n l = record { says-yes = yes; refused = λ r a m. m .holds ∙ ap (λ (v : Verdict). after-marking v n l) (sym (m .says)) }
   where
-    yes : (r : Verdict) (a : List ℕ) (c : Completeness) → Marks n l r a → r ≡ Fine → c ≡ completeness n a → c ≡ Yes
+    yes : (r : Verdict) (a : List ℕ) (c : Completeness) → Marks n l r a → r ≡ Fine → Completes n a c → c ≡ Yes
     yes r a c m e f =
         let fine = sym (m .says) ∙ e in
-        f ∙ ap (completeness n) (m .holds ∙ ap (λ (v : Verdict). after-marking v n l) fine) ∙ rw (marked-length 3 n l, fine, marked-complete 3 n l)
+        f .says ∙ ap (completeness n) (m .holds ∙ ap (λ (v : Verdict). after-marking v n l) fine) ∙ rw (marked-length 3 n l, fine, marked-complete 3 n l)
 
 pub complete-means : (k : ℕ) (n : Counts) (l : List ℕ) → Complete k n l
 complete-means k n l = record { means = complete-iff k n l }
 
--- where a part starts
-starts : LayerPart → ℕ
-starts (Part start long) = start
-starts (NoPart r) = 0
+-- what the call says is what the test says, since a refusal is neither
+which : (b t : Bool) → yes-or-no t ≡ yes-or-no b → b ≡ t
+which true true e = refl
+which false false e = refl
+which true false e = absurd (let z : _≡_ {A = ℕ} 0 1 = cc in omega arith)
+which false true e = absurd (let z : _≡_ {A = ℕ} 0 1 = cc in omega arith)
+
+answered : (v : Verdict) (n : Counts) (l : List ℕ) (t : Bool) → yes-or-no t ≡ completeness-by v n l → complete 3 n l ≡ t
+answered Fine n l t e = which (complete 3 n l) t e
+answered (Refused r) n l true e = absurd (let z : _≡_ {A = ℕ} 0 1 = cc in omega arith)
+answered (Refused r) n l false e = absurd (let z : _≡_ {A = ℕ} 0 1 = cc in omega arith)
+
+pub says-complete : (n : Counts) (l : List ℕ) → SaysComplete n l
+unfolding completeness
+says-complete n l = record { yes = λ c. answered (shape n (length l)) n l true (c .says); no = λ c. answered (shape n (length l)) n l false (c .says) }
 
 pub shut-out : ShutOut
-unfolding starts shape marked complete completeness layer layer-part
+unfolding shape marked complete completeness layer layer-part
 shut-out =
     record {
-      one-byte-short = λ e. let z : _≡_ {A = ℕ} 0 1 = cc in omega arith;
-      no-shape = λ r e. let z : _≡_ {A = ℕ} 0 1 = cc in omega arith;
-      bytes-first = λ e. let z : _≡_ {A = ℕ} 0 1 = cc in omega arith;
+      one-byte-short = λ c. let e = c .says in let z : _≡_ {A = ℕ} 0 1 = cc in omega arith;
+      no-shape = λ r c. let e = c .says in let z : _≡_ {A = ℕ} 0 1 = cc in omega arith;
+      bytes-first = λ c. let e = c .says in let z : _≡_ {A = ℕ} 0 1 = cc in omega arith;
       marks-nothing = λ r m. let z : _≡_ {A = ℕ} 0 1 = ap (λ (l : List ℕ). getD l 0 0) (m .holds) in omega arith;
       refuses = λ r a m. let e : Refused r ≡ Fine = m .says in let z : _≡_ {A = ℕ} 0 1 = cc in omega arith;
-      complete-always = λ e. let f : Yes ≡ No = e in let z : _≡_ {A = ℕ} 0 1 = cc in omega arith;
-      never-complete = λ e. let f : No ≡ Yes = e in let z : _≡_ {A = ℕ} 0 1 = cc in omega arith;
-      empty-layer = λ e. let z : _≡_ {A = ℕ} 0 8 = ap length e in omega arith;
-      first-layer = λ e. let z : _≡_ {A = ℕ} 1 3 = ap (λ (l : List ℕ). getD l 0 0) e in omega arith;
-      first-part = λ e. let z : _≡_ {A = ℕ} 0 2 = ap starts e in omega arith;
-      no-part = λ r e. let z : _≡_ {A = ℕ} 0 2 = ap starts e in omega arith;
+      complete-always = λ c. let f : Yes ≡ No = c .says in let z : _≡_ {A = ℕ} 0 1 = cc in omega arith;
+      never-complete = λ c. let f : No ≡ Yes = c .says in let z : _≡_ {A = ℕ} 0 1 = cc in omega arith;
+      empty-layer = λ cells r e c none.
+          let z : _≡_ {A = ℕ} 0 8 = ap length (sym none ∙ c .says ∙ ap (λ (l : List ℕ). layer example-counts l (pos 0)) e) in
+          omega arith;
+      first-layer = λ cells r e c same.
+          let f : start-of (layer-part two-layers (length (cells .now)) (pos 1)) ≡ 2 = ap (λ (l : List ℕ). start-of (layer-part two-layers (length l) (pos 1))) e in
+          omega (arith, c .there .offset, ap (λ (p : ℕ × ℕ). p .1) same);
+      first-part = λ c. let z : _≡_ {A = ℕ} 0 2 = ap start-of (c .says) in omega arith;
+      no-part = λ r c. let z : _≡_ {A = ℕ} 0 2 = ap start-of (c .says) in omega arith;
     }

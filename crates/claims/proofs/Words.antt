@@ -28,7 +28,7 @@ told-apart =
     }
 
 pub one-number : (r : Refusal) → OneNumber r
-one-number r = record { one = λ m n e f. e ∙ sym f }
+one-number r = record { one = λ m n e f. e .says ∙ sym (f .says) }
 
 pub wrong-numbers : WrongNumbers
 wrong-numbers = record { off-grid-nine = λ e. omega (arith, e); version-as-record = λ e. omega (arith, e) }

@@ -3,30 +3,33 @@
 use Prim.Native.Nat.{ℕ, _+_, _≤_, _<_}
 use mathlib.Core.Path.{_≡_}
 use mathlib.Core.Logic.{_↔_}
-use mathlib.Core.Bool.{true}
+use mathlib.Core.Bool.{true, false}
 use mathlib.Core.List.{List, [], _∷_}
 use lib.IntN.{ℤ, pos}
 use lib.ListN.{length, getD}
+use denote.Ref.{RefT}
 use Rattle.cells.specs.declared.Counts.{Counts}
 use Rattle.cells.specs.declared.Refusal.{Refusal}
 use Rattle.cells.specs.declared.Refusal.the-variants.{Bytes}
 use Rattle.cells.specs.declared.Verdict.{Verdict}
 use Rattle.cells.specs.declared.Verdict.the-variants.{Fine, Refused}
+use Rattle.cells.specs.Parts.{StartsAt}
 use Rattle.cells.specs.Touching.{Touches}
 use Rattle.grids.specs.declared.LayerPart.{LayerPart}
 use Rattle.grids.specs.declared.LayerPart.the-variants.{Part, Refused as NoPart}
 use Rattle.grids.specs.declared.Completeness.{Completeness}
 use Rattle.grids.specs.declared.Completeness.the-variants.{Yes, No}
-use Rattle.grids.specs.Grid.{size, shape, index, cell-at, clear, solid, layer-part, layer}
-use Rattle.grids.specs.Marks.{marked, complete, completeness, Marks}
+use Rattle.grids.specs.Grid.{size, shape, Shapes, index, cell-at, clear, solid, GivesLayerPart, GivesLayer}
+use Rattle.grids.specs.Marks.{marked, complete, Completes, Marks}
 use Rattle.claims.specs.Example.{at, example-counts, example-cells, marked-cells}
 
--- 1. Each call's contract admits one answer, and marking one final memory, for each input; of a returned layer the contents.
+-- 1. Each call's contract admits one answer, and marking one final memory, for each input; of a returned layer the bytes and where they lie.
 pub record OneAnswer : Type 0 where
-  pub by-shape : (n : Counts) (bytes : ℕ) (r s : Verdict) → r ≡ shape n bytes → s ≡ shape n bytes → r ≡ s
-  pub by-layer-part : (n : Counts) (l : List ℕ) (z : ℤ) (r s : LayerPart) → r ≡ layer-part n (length l) z → s ≡ layer-part n (length l) z → r ≡ s
-  pub by-layer : (n : Counts) (l : List ℕ) (z : ℤ) (r s : List ℕ) → r ≡ layer n l z → s ≡ layer n l z → r ≡ s
-  pub by-complete : (n : Counts) (l : List ℕ) (r s : Completeness) → r ≡ completeness n l → s ≡ completeness n l → r ≡ s
+  pub by-shape : (n : Counts) (bytes : ℕ) (r s : Verdict) → Shapes n bytes r → Shapes n bytes s → r ≡ s
+  pub by-layer-part : (n : Counts) (bytes : ℕ) (z : ℤ) (r s : LayerPart) → GivesLayerPart n bytes z r → GivesLayerPart n bytes z s → r ≡ s
+  pub by-layer : (n : Counts) (cells : RefT (List ℕ)) (z : ℤ) (r s : RefT (List ℕ)) → GivesLayer n cells z r → GivesLayer n cells z s →
+      (r .now ≡ s .now) × (r .ptr ≡ s .ptr)
+  pub by-complete : (n : Counts) (l : List ℕ) (r s : Completeness) → Completes n l r → Completes n l s → r ≡ s
   pub by-mark : (n : Counts) (l : List ℕ) (r s : Verdict) (a b : List ℕ) → Marks n l r a → Marks n l s b → (r ≡ s) × (a ≡ b)
 
 -- the cell (x, y, z) lies inside the grid
@@ -44,11 +47,11 @@ pub record BytePlaces (n : Counts) (bytes : ℕ) : Type 0 where
 pub record Places (n : Counts) (bytes : ℕ) : Type 0 where
   pub numbered : shape n bytes ≡ Fine → BytePlaces n bytes
 
--- 3. The layer is the caller's bytes where the partner says, and it is empty exactly when the partner refuses.
-pub record Layers (n : Counts) (l : List ℕ) (z : ℤ) : Type 0 where
-  pub empty : (layer n l z ≡ []) ↔ ((r : Refusal) × (layer-part n (length l) z ≡ NoPart r))
-  pub long : (start many : ℕ) → layer-part n (length l) z ≡ Part start many → length (layer n l z) ≡ many
-  pub own : (start many : ℕ) → layer-part n (length l) z ≡ Part start many → (i : ℕ) → i < many → getD (layer n l z) i 0 ≡ getD l (start + i) 0
+-- 3. The layer is the caller's own bytes where the partner says, and it is empty exactly when the partner refuses.
+pub record Layers (n : Counts) (z : ℤ) (cells layer : RefT (List ℕ)) (part : LayerPart) : Type 0 where
+  pub empty : GivesLayerPart n (length (cells .now)) z part → GivesLayer n cells z layer → (layer .now ≡ []) ↔ ((r : Refusal) × (part ≡ NoPart r))
+  pub own : (start many : ℕ) → GivesLayerPart n (length (cells .now)) z (Part start many) → GivesLayer n cells z layer →
+      StartsAt start cells layer × (length (layer .now) ≡ many) × ((i : ℕ) → i < many → getD (layer .now) i 0 ≡ getD (cells .now) (start + i) 0)
 
 -- 4. Marking changes no solid byte and no cell's solidity, makes the marks complete, and done twice is done once.
 pub record Marking (k : ℕ) (n : Counts) (l : List ℕ) : Type 0 where
@@ -60,30 +63,34 @@ pub record Marking (k : ℕ) (n : Counts) (l : List ℕ) : Type 0 where
 
 -- 5. So the completeness call says yes of what a marking call left, unless it was refused.
 pub record MarkedCall (n : Counts) (l : List ℕ) : Type 0 where
-  pub says-yes : (r : Verdict) (a : List ℕ) (c : Completeness) → Marks n l r a → r ≡ Fine → c ≡ completeness n a → c ≡ Yes
+  pub says-yes : (r : Verdict) (a : List ℕ) (c : Completeness) → Marks n l r a → r ≡ Fine → Completes n a c → c ≡ Yes
   pub refused : (r : Refusal) (a : List ℕ) → Marks n l (Refused r) a → a ≡ l
 
--- 6. Complete: no clear cell touches a solid one.
+-- 6. Complete: no clear cell touches a solid one; and that is what the completeness call says.
 pub record Complete (k : ℕ) (n : Counts) (l : List ℕ) : Type 0 where
   pub means : (complete k n l ≡ true)
       ↔ ((i j : ℕ) → i < length l → j < length l → clear (getD l i 0) ≡ true → solid (getD l j 0) ≡ true → Touches k (cell-at n i) (cell-at n j) → ⊥)
 
--- 7. What the contracts shut out, on the program's venue and on a grid of two layers: a shape of one byte short, none, or one whose bytes are
+pub record SaysComplete (n : Counts) (l : List ℕ) : Type 0 where
+  pub yes : Completes n l Yes → complete 3 n l ≡ true
+  pub no : Completes n l No → complete 3 n l ≡ false
+
+-- 7. What the contracts shut out, on the program's venue and on grids of two layers: a shape of one byte short, none, or one whose bytes are
 -- tested before its counts; a marker that touches nothing, one that refuses; complete always, or never; a layer that is empty, or always the
--- first.
+-- first, also where the two layers hold the same bytes.
 abbrev pub two-layers : Counts
 two-layers = record { nx = 2; ny = 1; nz = 2 }
 
 pub record ShutOut : Type 0 where
-  pub one-byte-short : Fine ≡ shape example-counts 7 → ⊥
-  pub no-shape : (r : Refusal) → Refused r ≡ shape example-counts 8 → ⊥
+  pub one-byte-short : Shapes example-counts 7 Fine → ⊥
+  pub no-shape : (r : Refusal) → Shapes example-counts 8 (Refused r) → ⊥
   -- 2 and 3 both apply
-  pub bytes-first : Refused Bytes ≡ shape (record { nx = 0; ny = 2; nz = 1 }) 8 → ⊥
+  pub bytes-first : Shapes (record { nx = 0; ny = 2; nz = 1 }) 8 (Refused Bytes) → ⊥
   pub marks-nothing : (r : Verdict) → Marks example-counts example-cells r example-cells → ⊥
   pub refuses : (r : Refusal) (a : List ℕ) → Marks example-counts example-cells (Refused r) a → ⊥
-  pub complete-always : Yes ≡ completeness example-counts example-cells → ⊥
-  pub never-complete : No ≡ completeness example-counts marked-cells → ⊥
-  pub empty-layer : [] ≡ layer example-counts example-cells (pos 0) → ⊥
-  pub first-layer : 1 ∷ 2 ∷ [] ≡ layer two-layers (1 ∷ 2 ∷ 3 ∷ 4 ∷ []) (pos 1) → ⊥
-  pub first-part : Part 0 2 ≡ layer-part two-layers 4 (pos 1) → ⊥
-  pub no-part : (r : Refusal) → NoPart r ≡ layer-part two-layers 4 (pos 1) → ⊥
+  pub complete-always : Completes example-counts example-cells Yes → ⊥
+  pub never-complete : Completes example-counts marked-cells No → ⊥
+  pub empty-layer : (cells r : RefT (List ℕ)) → cells .now ≡ example-cells → GivesLayer example-counts cells (pos 0) r → r .now ≡ [] → ⊥
+  pub first-layer : (cells r : RefT (List ℕ)) → cells .now ≡ 0 ∷ 0 ∷ 0 ∷ 0 ∷ [] → GivesLayer two-layers cells (pos 1) r → r .ptr ≡ cells .ptr → ⊥
+  pub first-part : GivesLayerPart two-layers 4 (pos 1) (Part 0 2) → ⊥
+  pub no-part : (r : Refusal) → GivesLayerPart two-layers 4 (pos 1) (NoPart r) → ⊥

@@ -7,7 +7,7 @@ use Rattle.cells.specs.declared.End.the-variants.{P}
 use Rattle.cells.specs.declared.Refusal.{Refusal}
 use Rattle.cells.specs.declared.Refusal.the-variants.{OffGrid, Record, Version}
 use Rattle.cells.specs.declared.Verdict.{Verdict}
-use Rattle.cells.specs.Refusals.{told, told-verdict}
+use Rattle.cells.specs.Refusals.{told, NumberOf, told-verdict}
 use Rattle.lists.specs.declared.Listed.{Listed}
 use Rattle.lists.specs.Lists.{told-listed}
 use Rattle.grids.specs.declared.LayerPart.{LayerPart}
@@ -42,7 +42,7 @@ pub record ToldApart : Type 0 where
 
 -- the call that gives a refusal's number: one answer for each
 pub record OneNumber (r : Refusal) : Type 0 where
-  pub one : (m n : ℕ) → m ≡ told r .number → n ≡ told r .number → m ≡ n
+  pub one : (m n : ℕ) → NumberOf r m → NumberOf r n → m ≡ n
 
 -- wrong numbers: an end outside the grid called 9, another version called a record cut short
 pub record WrongNumbers : Type 0 where
