@@ -29,15 +29,16 @@ use Rattle.claims.specs.Grids.{OneAnswer, BytePlaces, Places, Layers, Ma
 pub one : {A : Type 0} {f : A} (r s : A) → r ≡ f → s ≡ f → r ≡ s
 one r s p q = p ∙ sym q
 
+-- and so one place
+pub one-place : {start : ℕ} {whole r s : RefT (List ℕ)} → StartsAt start whole r → StartsAt start whole s → r .ptr ≡ s .ptr
+one-place {r = r} {s = s} p q i = (one (r .ptr .0) (s .ptr .0) (p .block) (q .block) i, one (r .ptr .1) (s .ptr .1) (p .offset) (q .offset) i)
+
 pub one-answer : OneAnswer
 one-answer =
     record {
       by-shape = λ n bytes r s p q. one r s (p .says) (q .says);
       by-layer-part = λ n bytes z r s p q. one r s (p .says) (q .says);
-      by-layer = λ n cells z r s p q.
-          let block = one (r .ptr .0) (s .ptr .0) (p .there .block) (q .there .block) in
-          let offset = one (r .ptr .1) (s .ptr .1) (p .there .offset) (q .there .offset) in
-          (one (r .now) (s .now) (p .says) (q .says), λ i. (block i, offset i));
+      by-layer = λ n cells z r s p q. (one (r .now) (s .now) (p .says) (q .says), one-place (p .there) (q .there));
       by-complete = λ n l r s p q. one r s (p .says) (q .says);
       by-mark = λ n l r s a b p q. (one r s (p .says) (q .says), one a b (p .holds) (q .holds));
     }

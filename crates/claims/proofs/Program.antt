@@ -11,7 +11,7 @@ use Rattle.records.specs.declared.venues.Venue.{Venue}
 use Rattle.records.specs.declared.venues.VenueRead.{VenueRead}
 use Rattle.records.specs.declared.venues.VenueRead.the-variants.{Read, Refused as NoVenue}
 use Rattle.records.specs.Heads.{whole-check}
-use Rattle.records.specs.Venues.{venue-check, venue-read, venue-cells}
+use Rattle.records.specs.Venues.{venue-check, venue-read, venue-cells, start-of}
 use Rattle.records.specs.Pairs.{pair-check, pair-read}
 use Rattle.program.specs.declared.Next.{Next}
 use Rattle.program.specs.declared.Next.the-variants.{On, Over}
@@ -20,6 +20,7 @@ use Rattle.program.specs.Program.{Said, venue-most, pair-most, beyond, venue-re
 use Rattle.program.proofs.Frames.{venue-framed, venue-on, venue-taken, read-framed, cells-framed, pair-framed, pair-on, after-same, less-left}
 use Rattle.claims.specs.Program.{Pairs, last, next, Runs, ends, begins, Writes, OneStep, example-input, Silent, GoesOn, Begins}
 use Rattle.claims.proofs.Starred.{example-writes}
+use denote.Ref.{RefT}
 
 -- ---- one step
 
@@ -137,16 +138,21 @@ module _ (s : List ℕ) where
 
   only-run : {out : List ℕ} → Runs s out → out ≡ output s
   only-run (ends h stop) = venue-wrote h ∙ sym (stops (venue-goes h ∙ stop))
-  only-run (begins {k = k} {cells = cells} {v = v} h go read given rest) =
+  only-run (begins {k = k} {cells = cells} {v = v} h go is read given rest) =
       let on = venue-goes h ∙ go in
       let within = venue-on s k on in
       ap₂ (λ a b. a ++ b) (venue-wrote h)
-      (only-pairs (v .counts) cells rest (length s) enough ∙ ap (λ l. pairs (length s) (v .counts) l k (after-frame venue-most s)) (given ∙ cells-framed s within))
-      ∙ sym (begins-with k on v (sym (read ∙ read-framed s within)))
+      (only-pairs (v .counts) (cells .now) rest (length s) enough
+      ∙ ap (λ l. pairs (length s) (v .counts) l k (after-frame venue-most s)) (given .says ∙ ap venue-cells is ∙ cells-framed s within))
+      ∙ sym (begins-with k on v (sym (read .says ∙ ap venue-read is ∙ read-framed s within)))
 
   some-run : Runs s (output s)
   some-run = by (venue-said s .next) (venue-read s) refl refl
     where
+      -- the frame, lent somewhere
+      lent : RefT (List ℕ)
+      lent = record { ptr = (0, 0); name = 0; now = frame venue-most s }
+
       by : (x : Next) (r : VenueRead) → venue-said s .next ≡ x → venue-read s ≡ r → Runs s (output s)
       by Over r stop e =
           subst (Runs s) (venue-wrote (says-so venue-frame) ∙ sym (stops stop)) (ends (says-so venue-frame) (sym (venue-goes (says-so venue-frame)) ∙ stop))
@@ -156,10 +162,13 @@ module _ (s : List ℕ) where
           subst (Runs s)
           (ap (λ a. a ++ pairs (length s) (v .counts) (venue-cells s) k (after-frame venue-most s)) (venue-wrote (says-so venue-frame)) ∙ sym (begins-with k on v e))
           (begins
+          {bytes = lent}
+          {cells = record { ptr = (0, start-of (venue-read (frame venue-most s))); name = 0; now = venue-cells s }}
           (says-so venue-frame)
           (sym (venue-goes (says-so venue-frame)) ∙ on)
-          (sym (read-framed s within ∙ e))
-          (sym (cells-framed s within))
+          refl
+          (record { says = sym (read-framed s within ∙ e) })
+          (record { says = sym (cells-framed s within); there = record { block = refl; offset = omega arith } })
           (some-pairs (v .counts) (venue-cells s) (length s) k (after-frame venue-most s) enough))
 
 pub writes : (s : List ℕ) → Writes s

@@ -2,10 +2,12 @@
 use Prim.Native.Nat.{ℕ, _+_, _-_, _*_, _≤_}
 use native.Mathlib.Nat.{mul-le-mul}
 use native.Mathlib.Omega.{arith}
-use mathlib.Core.Path.{_≡_, sym, ap, _∙_, subst}
+use mathlib.Core.Path.{_≡_, refl, sym, ap, _∙_, subst}
 use mathlib.Core.List.{List, _++_, append-assoc}
 use lib.ListN.{length, getD, take, drop, take-append-drop}
-use borrow.Author.Tests.{eqb-true, le-ltb, ne-eqb}
+use borrow.Author.Tests.{eqb-true, le-ltb, ne-eqb, not-false}
+use denote.Ref.{RefT}
+use Rattle.cells.specs.Parts.{StartsAt}
 use Rattle.cells.specs.declared.Counts.{Counts}
 use Rattle.cells.specs.declared.Refusal.{Refusal}
 use Rattle.cells.specs.declared.Verdict.{Verdict}
@@ -17,44 +19,50 @@ use Rattle.records.specs.declared.pairs.Pair.{Pair}
 use Rattle.records.specs.declared.venues.Venue.{Venue}
 use Rattle.records.specs.declared.venues.VenueRead.{VenueRead}
 use Rattle.records.specs.declared.venues.VenueRead.the-variants.{Read}
-use Rattle.records.specs.Heads.{length-field, announced, whole-check}
-use Rattle.records.specs.Venues.{cells-from, venue-version, venue-head, venue-check, venue-read, venue-cells, counts-at}
-use Rattle.records.specs.Pairs.{signed, pair-version, pair-length, pair-in, pair-check, pair-read}
-use Rattle.records.proofs.HeadTests.{venue-accepted}
+use Rattle.records.specs.declared.pairs.PairRead.the-variants.{Read as ReadPair}
+use Rattle.records.specs.Heads.{length-field, announced, version-of, whole-check}
+use Rattle.records.specs.Venues.{cells-from, counts-at, venue-version, venue-head, venue-check, venue-read, venue-cells, start-of, ReadsVenue, GivesCells}
+use Rattle.records.specs.Pairs.{signed, pair-version, pair-length, pair-in, pair-check, pair-by, pair-read}
+use Rattle.records.proofs.HeadTests.{head-fits, venue-accepted}
 use Rattle.records.proofs.Following.{venue-unread, cells-unread, pair-unread}
 use Rattle.records.specs.declared.writing.Written.{Written}
 use Rattle.records.specs.declared.writing.Written.the-variants.{Wrote, Refused as NotWritten}
 use Rattle.records.specs.Writing.{written-version, head-bytes, write-check, written, after-writing, WritesVenue}
 use Rattle.records.proofs.RoundTrip.{read-back, cells-back, front-written, record-fits, same-bytes}
 use Rattle.claims.specs.Example.{example-counts, example-cells}
-use Rattle.claims.specs.Records.{ReadsVenue, GivesCells, OneAnswer, Right, Accepted, LengthTested, EmptyPart, ReadBack, WrittenBack, NotLookedAt, example-venue, example-room, minus-one-pair, Refuses, WritesNothing, ReadsUnsigned, WrongRecords}
+use Rattle.claims.specs.Records.{OneAnswer, Right, RightPair, Accepted, LengthTested, ThePart, SameVenue, ReadBack, WrittenBack, NotLookedAt, example-venue, example-room, minus-one-pair, Refuses, WritesNothing, ReadsUnsigned, WrongRecords}
+use Rattle.claims.proofs.Grids.{one, one-place}
 
 -- 1 where a venue was written
 accepts : Written → ℕ
 accepts (Wrote n) = 1
 accepts (NotWritten r) = 0
 
-pub one-answer : (s : List ℕ) → OneAnswer s
+pub one-answer : OneAnswer
 unfolding accepts
-one-answer s =
+one-answer =
     record {
-      venue = λ r t e f. e ∙ sym f;
-      cells = λ a b e f. e ∙ sym f;
-      pair = λ r t e f. e ∙ sym f;
-      written = λ n entry r t x y e f. (e .says ∙ sym (f .says), e .holds ∙ sym (f .holds));
-      untouched = λ n entry r x e. by n entry (write-check n (length s) (length entry)) r (e .says) (e .holds);
+      venue = λ s r t e f. one r t (e .says) (f .says);
+      cells = λ bytes a b e f. (one (a .now) (b .now) (e .says) (f .says), one-place (e .there) (f .there));
+      pair = λ s r t e f. one r t (e .says) (f .says);
+      written = λ n cells entry r t x y e f. (one r t (e .says) (f .says), one x y (e .holds) (f .holds));
+      untouched = λ n cells entry r x e. by n cells entry (write-check n (length cells) (length entry)) r (e .says) (e .holds);
     }
   where
-    by : (n : Counts) (entry : List ℕ) (v : Verdict) {x : List ℕ} (r : Refusal) → NotWritten r ≡ written v n → x ≡ after-writing v n s entry → x ≡ entry
-    by n entry Fine r h e = absurd (let z : _≡_ {A = ℕ} 0 1 = ap accepts h in omega arith)
-    by n entry (Fails r) x h e = e
+    by : (n : Counts) (cells entry : List ℕ) (v : Verdict) {x : List ℕ} (r : Refusal) → NotWritten r ≡ written v n → x ≡ after-writing v n cells entry → x ≡ entry
+    by n cells entry Fine r h e = absurd (let z : _≡_ {A = ℕ} 0 1 = ap accepts h in omega arith)
+    by n cells entry (Fails r) x h e = e
 
 pub not-looked-at : (s rest : List ℕ) → NotLookedAt s rest
 not-looked-at s rest =
     record {
-      venue = λ exact r t e f. e ∙ sym (venue-unread s rest exact) ∙ sym f;
-      cells = λ exact a b e f. e ∙ sym (cells-unread s rest exact) ∙ sym f;
-      pair = λ exact r t e f. e ∙ sym (pair-unread s rest exact) ∙ sym f;
+      venue = λ exact r t e f. e .says ∙ sym (venue-unread s rest exact) ∙ sym (f .says);
+      cells = λ exact short long a b es el e f.
+          let same : venue-read (long .now) ≡ venue-read (short .now) = ap venue-read el ∙ venue-unread s rest exact ∙ ap venue-read (sym es) in (
+            e .says ∙ ap venue-cells es ∙ sym (cells-unread s rest exact) ∙ ap venue-cells (sym el) ∙ sym (f .says),
+            (start-of (venue-read (short .now)), e .there, subst (λ (r : VenueRead). StartsAt (start-of r) long b) same (f .there)),
+          );
+      pair = λ exact r t e f. e .says ∙ sym (pair-unread s rest exact) ∙ sym (f .says);
     }
 
 -- ---- what is accepted
@@ -71,77 +79,126 @@ right s v e =
       whole = w .there;
       version = eqb-true _ _ (w .version);
       length-is = omega arith;
+      counts-are = sym (ap (λ (u : Venue). u .counts) f);
       shape-is = subst (λ (k : ℕ). shape (v .counts) k ≡ Fine) size-is fine;
       part = (sym (ap (λ (u : Venue). u .start) f), size-is);
     }
 
+-- the tests that both records begin with, passed
+whole-fine : (s : List ℕ) → 4 + announced s ≤ length s → 1 ≤ announced s → whole-check s ≡ Fine
+unfolding whole-check
+whole-fine s there some =
+    rw (
+      le-ltb (length s) length-field (omega arith),
+      ne-eqb (announced s) 0 (λ e. omega arith),
+      le-ltb (length s) (length-field + announced s) there,
+    )
+
+accepted-venue : (s : List ℕ) (v : Venue) → Right s v → Read v ≡ venue-read s
+unfolding venue-version venue-head venue-check venue-read
+accepted-venue s v r =
+    let long : announced s - 7 ≡ size (v .counts) = omega (arith, r .length-is) in
+    let fine : shape (counts-at s 5) (announced s - 7) ≡ Fine =
+    subst (λ (m : Counts). shape m (announced s - 7) ≡ Fine) (r .counts-are) (subst (λ (k : ℕ). shape (v .counts) k ≡ Fine) (sym long) (r .shape-is)) in
+    rw (whole-fine s (r .whole) (omega (arith, r .length-is)), r .version, le-ltb (announced s) 7 (omega (arith, r .length-is)), fine)
+    (ap Read (λ i. record { counts = r .counts-are i; start = r .part .0 i; long = (r .part .1 ∙ sym long) i }))
+
+right-pair : (s : List ℕ) (e : Pair) → ReadPair e ≡ pair-read s → RightPair s e
+unfolding pair-read pair-check pair-version pair-length
+right-pair s e h = go (pair-check s) refl h
+  where
+    go : (v : Verdict) → pair-check s ≡ v → ReadPair e ≡ pair-by v (pair-in s) → RightPair s e
+    go (Fails r) f h = absurd (let z : _≡_ {A = ℕ} 0 1 = cc in omega arith)
+    go Fine f h =
+        let same : e ≡ pair-in s = cc in
+        let w = head-fits s (pair-version (version-of s)) _ f in
+        record {
+          whole = w .there;
+          version = eqb-true _ _ (w .version);
+          length-is = eqb-true _ _ (not-false _ (w .long));
+          p-is = ap (λ (u : Pair). u .p) same;
+          q-is = ap (λ (u : Pair). u .q) same;
+        }
+
+accepted-pair : (s : List ℕ) (e : Pair) → RightPair s e → ReadPair e ≡ pair-read s
+unfolding pair-read pair-check pair-version pair-length
+accepted-pair s e r =
+    rw (whole-fine s (r .whole) (omega (arith, r .length-is)), r .version, r .length-is) (ap ReadPair (λ i. record { p = r .p-is i; q = r .q-is i }))
+
 pub accepted : (s : List ℕ) → Accepted s
-accepted s = record { right = right s }
+accepted s =
+    record {
+      venue = λ v. (λ c. right s v (sym (c .says)), λ r. record { says = accepted-venue s v r });
+      pair = λ e. (λ c. right-pair s e (c .says), λ r. record { says = accepted-pair s e r });
+    }
 
 pub length-tested : (s : List ℕ) → LengthTested s
-unfolding whole-check venue-version venue-head venue-check venue-read shape
+unfolding venue-version venue-head venue-check venue-read shape
 length-tested s =
     record {
       three = λ there version seven counted other.
-          rw (
-            le-ltb (length s) length-field (omega arith),
-            ne-eqb (announced s) 0 (λ e. omega arith),
-            le-ltb (length s) (length-field + announced s) there,
-            version,
-            le-ltb (announced s) 7 seven,
-            counted,
-            ne-eqb (announced s - 7) (size (counts-at s 5)) (λ e. other (omega arith)),
-          );
+          record {
+            says = rw (
+              whole-fine s there (omega arith),
+              version,
+              le-ltb (announced s) 7 seven,
+              counted,
+              ne-eqb (announced s - 7) (size (counts-at s 5)) (λ e. other (omega arith)),
+            );
+          };
     }
 
-pub empty-part : (s : List ℕ) → EmptyPart s
+pub the-part : (bytes part : RefT (List ℕ)) → ThePart bytes part
 unfolding venue-cells
-empty-part s =
+the-part bytes part =
     record {
-      accepted = λ v e.
-          let h = shaped (v .counts) (length (venue-cells s)) (record-fits s v e .fine) in
-          let some : 1 * 1 ≤ size (v .counts) = mul-le-mul (h .layer-some) (h .z .some) in
-          omega (arith, h .bytes-are);
-      refused = λ r e. rw e;
+      accepted = λ v c g.
+          let e = sym (c .says) in
+          let h = shaped (v .counts) (length (venue-cells (bytes .now))) (record-fits (bytes .now) v e .fine) in
+          let some : 1 * 1 ≤ size (v .counts) = mul-le-mul (h .layer-some) (h .z .some) in (
+            subst (λ (r : VenueRead). StartsAt (start-of r) bytes part) e (g .there),
+            ap length (g .says) ∙ h .bytes-are ∙ sym (right (bytes .now) v e .part .1),
+            omega (arith, h .bytes-are, ap length (g .says)),
+          );
+      refused = λ r c g. g .says ∙ rw (sym (c .says));
     }
 
 -- ---- the round trip
 
 pub read-back-same : (n : Counts) (cells entry : List ℕ) → ReadBack n cells entry
+unfolding venue-head
 read-back-same n cells entry = record { same = same; in-place = in-place }
   where
-    same : (w : Written) (exit : List ℕ) (k : ℕ) → WritesVenue n cells entry w exit → w ≡ Wrote k →
-        (rest : List ℕ) (r : VenueRead) (part : List ℕ) → ReadsVenue (take k exit ++ rest) r → GivesCells (take k exit ++ rest) part →
-        (r ≡ Read (record { counts = n; start = cells-from written-version; long = length cells })) × (part ≡ cells)
-    same w exit k c e rest r part reads gives =
-        let f = front-written n cells entry exit k (subst (λ (a : Written). WritesVenue n cells entry a exit) e c) in
-        let bytes : take k exit ++ rest ≡ head-bytes written-version n ++ (cells ++ rest) =
-        ap (λ l. l ++ rest) (f .front) ∙ append-assoc (head-bytes written-version n) cells rest in
-        let long : size n ≡ length cells = sym (shaped n (length cells) (f .fine) .bytes-are) in (
-          reads ∙ ap venue-read bytes ∙ read-back n cells rest (f .fine)
-              ∙ ap (λ (l : ℕ). Read (record { counts = n; start = cells-from written-version; long = l })) long,
-          gives ∙ ap venue-cells bytes ∙ cells-back n cells rest (f .fine),
-        )
+    same : (exit : List ℕ) (k : ℕ) → WritesVenue n cells entry (Wrote k) exit → (rest : List ℕ) (bytes part : RefT (List ℕ)) (r : VenueRead) →
+        bytes .now ≡ take k exit ++ rest → ReadsVenue (bytes .now) r → GivesCells bytes part → SameVenue n cells bytes part r
+    same exit k c rest bytes part r is reads gives =
+        let f = front-written n cells entry exit k c in
+        let bytes-are : bytes .now ≡ head-bytes written-version n ++ (cells ++ rest) =
+        is ∙ ap (λ l. l ++ rest) (f .front) ∙ append-assoc (head-bytes written-version n) cells rest in
+        let long : size n ≡ length cells = sym (shaped n (length cells) (f .fine) .bytes-are) in
+        let back = ap venue-read bytes-are ∙ read-back n cells rest (f .fine) ∙ ap (λ (l : ℕ). Read (record { counts = n; start = cells-from written-version; long = l })) long in
+        record {
+          read = reads .says ∙ back;
+          same-cells = gives .says ∙ ap venue-cells bytes-are ∙ cells-back n cells rest (f .fine);
+          there = subst (λ (a : VenueRead). StartsAt (start-of a) bytes part) back (gives .there);
+        }
 
-    in-place : (w : Written) (exit : List ℕ) (k : ℕ) → WritesVenue n cells entry w exit → w ≡ Wrote k →
-        (r : VenueRead) (part : List ℕ) → ReadsVenue exit r → GivesCells exit part →
-        (r ≡ Read (record { counts = n; start = cells-from written-version; long = length cells })) × (part ≡ cells)
-    in-place w exit k c e r part reads gives =
-        let whole = sym (take-append-drop k exit) in
-        same w exit k c e (drop k exit) r part (reads ∙ ap venue-read whole) (gives ∙ ap venue-cells whole)
+    in-place : (exit : List ℕ) (k : ℕ) → WritesVenue n cells entry (Wrote k) exit → (bytes part : RefT (List ℕ)) (r : VenueRead) →
+        bytes .now ≡ exit → ReadsVenue (bytes .now) r → GivesCells bytes part → SameVenue n cells bytes part r
+    in-place exit k c bytes part r is = same exit k c (drop k exit) bytes part r (is ∙ sym (take-append-drop k exit))
 
-pub written-back-same : (s : List ℕ) → WrittenBack s
-written-back-same s =
+pub written-back-same : (bytes part : RefT (List ℕ)) → WrittenBack bytes part
+written-back-same bytes part =
     record {
-      same = λ bytes v r part reads e gives entry room w exit c.
-          same-bytes s v entry exit w bytes (sym reads ∙ e) room (subst (λ (l : List ℕ). WritesVenue (v .counts) l entry w exit) gives c);
+      same = λ all v c gives entry room w exit writes.
+          same-bytes (bytes .now) v entry exit w all (sym (c .says)) room (subst (λ (l : List ℕ). WritesVenue (v .counts) l entry w exit) (gives .says) writes);
     }
 
 -- ---- wrong answers
 
 pub no-refuser : Refuses example-venue → ⊥
 unfolding shape whole-check venue-version venue-head venue-check venue-read
-no-refuser h = let e = h .answers in let z : _≡_ {A = ℕ} 0 1 = cc in omega arith
+no-refuser h = let e = h .answers .says in let z : _≡_ {A = ℕ} 0 1 = cc in omega arith
 
 pub no-idle-writer : WritesNothing example-counts example-cells example-room → ⊥
 unfolding shape venue-head write-check
@@ -150,7 +207,7 @@ no-idle-writer h = let e : _≡_ {A = ℕ} 99 0 = ap (λ (l : List ℕ). getD l 
 pub no-unsigned-reader : ReadsUnsigned → ⊥
 unfolding whole-check pair-version pair-length signed pair-check pair-read
 no-unsigned-reader h =
-    let e = h .answers in
+    let e = h .answers .says in
     let same : h .ends ≡ pair-in minus-one-pair = cc in
     let z : _≡_ {A = ℕ} 65535 0 = ap up (sym (h .unsigned) ∙ ap (λ (p : Pair). p .q .x) same) in
     omega arith
@@ -159,9 +216,12 @@ pub wrong-records : WrongRecords
 unfolding accepts shape whole-check venue-version venue-head venue-check venue-read venue-cells pair-version pair-length pair-check pair-read write-check
 wrong-records =
     record {
-      other-version = λ v e. let z : _≡_ {A = ℕ} 0 1 = cc in omega arith;
-      whole-part = λ e. let z : _≡_ {A = ℕ} 19 8 = ap length e in omega arith;
-      empty-part = λ e. let z : _≡_ {A = ℕ} 0 8 = ap length e in omega arith;
-      pair-refuser = λ r e. let z : _≡_ {A = ℕ} 0 1 = cc in omega arith;
+      other-version = λ v c. let e = c .says in let z : _≡_ {A = ℕ} 0 1 = cc in omega arith;
+      whole-part = λ bytes part is g w. let z : _≡_ {A = ℕ} 19 8 = ap length (sym w ∙ g .says ∙ ap venue-cells is) in omega arith;
+      empty-part = λ bytes part is g none. let z : _≡_ {A = ℕ} 0 8 = ap length (sym none ∙ g .says ∙ ap venue-cells is) in omega arith;
+      part-elsewhere = λ bytes part is g same.
+          let f : start-of (venue-read (bytes .now)) ≡ 11 = ap (λ (l : List ℕ). start-of (venue-read l)) is in
+          omega (arith, g .there .offset, ap (λ (p : ℕ × ℕ). p .1) same);
+      pair-refuser = λ r c. let e = c .says in let z : _≡_ {A = ℕ} 0 1 = cc in omega arith;
       short-writer = λ exit w. let z : _≡_ {A = ℕ} 1 0 = ap accepts (w .says) in omega arith;
     }

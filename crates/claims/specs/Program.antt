@@ -4,13 +4,15 @@ use mathlib.Core.Path.{_≡_}
 use mathlib.Core.List.{List, [], _∷_, _++_}
 use lib.ListN.{take}
 use Rattle.cells.specs.declared.Counts.{Counts}
+use denote.Ref.{RefT}
 use Rattle.records.specs.declared.venues.Venue.{Venue}
 use Rattle.records.specs.declared.venues.VenueRead.the-variants.{Read}
+use Rattle.records.specs.Venues.{ReadsVenue, GivesCells}
 use Rattle.program.specs.declared.Next.the-variants.{On, Over}
 use Rattle.program.specs.declared.Step.{Step}
 use Rattle.program.specs.Program.{venue-most, pair-most, venue-said, pair-said, output, frame, after-frame, Says}
 use Rattle.claims.specs.Example.{marked-cells}
-use Rattle.claims.specs.Records.{ReadsVenue, GivesCells, example-venue, example-pair}
+use Rattle.claims.specs.Records.{example-venue, example-pair}
 
 -- ---- a run of the program
 
@@ -24,8 +26,8 @@ pub data Pairs (n : Counts) (cells : List ℕ) : ℕ → List ℕ → List ℕ �
 -- The venue's frame first, and where it is taken the pairs, with the counts and the cells that reading the frame gives.
 pub data Runs : List ℕ → List ℕ → Type 0 where
   ends : {s entry exit : List ℕ} {r : Step} → Says (venue-said (frame venue-most s)) entry r exit → r .next ≡ Over → Runs s (take (r .long) exit)
-  begins : {k : ℕ} {s entry exit cells out : List ℕ} {r : Step} {v : Venue} → Says (venue-said (frame venue-most s)) entry r exit → r .next ≡ On k
-      → ReadsVenue (frame venue-most s) (Read v) → GivesCells (frame venue-most s) cells → Pairs (v .counts) cells k (after-frame venue-most s) out
+  begins : {k : ℕ} {s entry exit out : List ℕ} {bytes cells : RefT (List ℕ)} {r : Step} {v : Venue} → Says (venue-said (frame venue-most s)) entry r exit → r .next ≡ On k
+      → bytes .now ≡ frame venue-most s → ReadsVenue (bytes .now) (Read v) → GivesCells bytes cells → Pairs (v .counts) (cells .now) k (after-frame venue-most s) out
       → Runs s (take (r .long) exit ++ out)
 
 -- ---- the claims

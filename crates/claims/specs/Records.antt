@@ -1,13 +1,16 @@
 -- What is claimed of venue and pair records: for all answers that meet the calls' contracts. Assumes nothing.
 use Prim.Native.Nat.{ℕ, _+_, _≤_}
 use mathlib.Core.Path.{_≡_}
+use mathlib.Core.Logic.{_↔_}
 use mathlib.Core.List.{List, [], _∷_, _++_}
 use lib.IntN.{pos}
 use lib.ListN.{length, take, replicate}
-use Rattle.buffers.specs.Numbers.{AllBytes}
+use denote.Ref.{RefT}
+use Rattle.buffers.specs.Numbers.{two-at, AllBytes}
 use Rattle.cells.specs.declared.Counts.{Counts}
 use Rattle.cells.specs.declared.Refusal.{Refusal}
 use Rattle.cells.specs.declared.Refusal.the-variants.{Bytes}
+use Rattle.cells.specs.Parts.{StartsAt}
 use Rattle.cells.specs.declared.Verdict.the-variants.{Fine}
 use Rattle.grids.specs.Grid.{size, count-check, shape}
 use Rattle.records.specs.declared.venues.Venue.{Venue}
@@ -16,77 +19,80 @@ use Rattle.records.specs.declared.venues.VenueRead.the-variants.{Read, Refused 
 use Rattle.records.specs.declared.pairs.Pair.{Pair}
 use Rattle.records.specs.declared.pairs.PairRead.{PairRead}
 use Rattle.records.specs.declared.pairs.PairRead.the-variants.{Read as ReadPair, Refused as NoPair}
-use Rattle.records.specs.Heads.{length-field, announced, version-of}
-use Rattle.records.specs.Venues.{cells-from, venue-read, venue-cells, counts-at}
-use Rattle.records.specs.Pairs.{pair-read}
+use Rattle.records.specs.Heads.{announced, version-of}
+use Rattle.records.specs.Venues.{counts-at, ReadsVenue, GivesCells}
+use Rattle.records.specs.Pairs.{signed, ReadsPair}
 use Rattle.records.specs.declared.writing.Written.{Written}
 use Rattle.records.specs.declared.writing.Written.the-variants.{Wrote, Refused as NotWritten}
-use Rattle.records.specs.Writing.{written-version, WritesVenue}
+use Rattle.records.specs.Writing.{WritesVenue}
 use Rattle.claims.specs.Example.{example-counts, example-cells}
 
--- ---- the contracts of the reading calls
+-- 1. One answer and one final memory for each input; of the cells the bytes and where they lie; a refusal writes nothing.
+pub record OneAnswer : Type 0 where
+  pub venue : (s : List ℕ) (r t : VenueRead) → ReadsVenue s r → ReadsVenue s t → r ≡ t
+  pub cells : (bytes a b : RefT (List ℕ)) → GivesCells bytes a → GivesCells bytes b → (a .now ≡ b .now) × (a .ptr ≡ b .ptr)
+  pub pair : (s : List ℕ) (r t : PairRead) → ReadsPair s r → ReadsPair s t → r ≡ t
+  pub written : (n : Counts) (cells entry : List ℕ) (r t : Written) (x y : List ℕ) → WritesVenue n cells entry r x → WritesVenue n cells entry t y →
+      (r ≡ t) × (x ≡ y)
+  pub untouched : (n : Counts) (cells entry : List ℕ) (r : Refusal) (x : List ℕ) → WritesVenue n cells entry (NotWritten r) x → x ≡ entry
 
-abbrev pub ReadsVenue : List ℕ → VenueRead → Type 0
-ReadsVenue s r = r ≡ venue-read s
-
-abbrev pub GivesCells : List ℕ → List ℕ → Type 0
-GivesCells s part = part ≡ venue-cells s
-
-abbrev pub ReadsPair : List ℕ → PairRead → Type 0
-ReadsPair s r = r ≡ pair-read s
-
--- ---- the claims
-
--- One answer and one final memory for each input; a refusal writes nothing.
-pub record OneAnswer (s : List ℕ) : Type 0 where
-  pub venue : (r t : VenueRead) → ReadsVenue s r → ReadsVenue s t → r ≡ t
-  pub cells : (a b : List ℕ) → GivesCells s a → GivesCells s b → a ≡ b
-  pub pair : (r t : PairRead) → ReadsPair s r → ReadsPair s t → r ≡ t
-  pub written : (n : Counts) (entry : List ℕ) (r t : Written) (x y : List ℕ) → WritesVenue n s entry r x → WritesVenue n s entry t y → (r ≡ t) × (x ≡ y)
-  pub untouched : (n : Counts) (entry : List ℕ) (r : Refusal) (x : List ℕ) → WritesVenue n s entry (NotWritten r) x → x ≡ entry
-
--- What reading accepts, in document 01's numbers.
+-- 2. What reading accepts, in document 01's numbers: a venue v of these bytes, and a pair e.
 pub record Right (s : List ℕ) (v : Venue) : Type 0 where
   pub whole : 4 + announced s ≤ length s
   pub version : version-of s ≡ 1
   pub length-is : announced s ≡ 7 + size (v .counts)
+  pub counts-are : v .counts ≡ record { nx = two-at s 5; ny = two-at s 7; nz = two-at s 9 }
   pub shape-is : shape (v .counts) (size (v .counts)) ≡ Fine
   pub part : (v .start ≡ 11) × (v .long ≡ size (v .counts))
 
+pub record RightPair (s : List ℕ) (e : Pair) : Type 0 where
+  pub whole : 4 + announced s ≤ length s
+  pub version : version-of s ≡ 1
+  pub length-is : announced s ≡ 13
+  pub p-is : e .p ≡ record { x = signed (two-at s 5); y = signed (two-at s 7); z = signed (two-at s 9) }
+  pub q-is : e .q ≡ record { x = signed (two-at s 11); y = signed (two-at s 13); z = signed (two-at s 15) }
+
+-- just these are accepted
 pub record Accepted (s : List ℕ) : Type 0 where
-  pub right : (v : Venue) → venue-read s ≡ Read v → Right s v
+  pub venue : (v : Venue) → ReadsVenue s (Read v) ↔ Right s v
+  pub pair : (e : Pair) → ReadsPair s (ReadPair e) ↔ RightPair s e
 
 -- "3 if the length is not 7 + nx·ny·nz": of a whole record of version 1, long enough for its head, with counts that pass.
 pub record LengthTested (s : List ℕ) : Type 0 where
   pub three : 4 + announced s ≤ length s → version-of s ≡ 1 → 7 ≤ announced s → count-check (counts-at s 5) ≡ Fine →
-      (announced s ≡ 7 + size (counts-at s 5) → ⊥) → venue-read s ≡ NoVenue Bytes
+      (announced s ≡ 7 + size (counts-at s 5) → ⊥) → ReadsVenue s (NoVenue Bytes)
 
--- The part is never empty, so the empty part means refused.
-pub record EmptyPart (s : List ℕ) : Type 0 where
-  pub accepted : (v : Venue) → venue-read s ≡ Read v → 1 ≤ length (venue-cells s)
-  pub refused : (r : Refusal) → venue-read s ≡ NoVenue r → venue-cells s ≡ []
+-- 3. The cells are the caller's own bytes, where reading says; never empty, so the empty part means refused.
+pub record ThePart (bytes part : RefT (List ℕ)) : Type 0 where
+  pub accepted : (v : Venue) → ReadsVenue (bytes .now) (Read v) → GivesCells bytes part →
+      StartsAt (v .start) bytes part × (length (part .now) ≡ v .long) × (1 ≤ length (part .now))
+  pub refused : (r : Refusal) → ReadsVenue (bytes .now) (NoVenue r) → GivesCells bytes part → part .now ≡ []
 
--- A venue written and read back is the same counts and the same cells, whatever bytes follow it.
+-- 4. A venue written and read back is the same counts and the same cells, whatever bytes follow it; also as it stands in the lent memory, before
+-- the bytes that stayed.
+pub record SameVenue (n : Counts) (cells : List ℕ) (bytes part : RefT (List ℕ)) (r : VenueRead) : Type 0 where
+  pub read : r ≡ Read (record { counts = n; start = 11; long = length cells })
+  pub same-cells : part .now ≡ cells
+  pub there : StartsAt 11 bytes part
+
 pub record ReadBack (n : Counts) (cells entry : List ℕ) : Type 0 where
-  pub same : (w : Written) (exit : List ℕ) (k : ℕ) → WritesVenue n cells entry w exit → w ≡ Wrote k →
-      (rest : List ℕ) (r : VenueRead) (part : List ℕ) → ReadsVenue (take k exit ++ rest) r → GivesCells (take k exit ++ rest) part →
-      (r ≡ Read (record { counts = n; start = cells-from written-version; long = length cells })) × (part ≡ cells)
-  -- as it stands in the lent memory, before the bytes that stayed
-  pub in-place : (w : Written) (exit : List ℕ) (k : ℕ) → WritesVenue n cells entry w exit → w ≡ Wrote k →
-      (r : VenueRead) (part : List ℕ) → ReadsVenue exit r → GivesCells exit part →
-      (r ≡ Read (record { counts = n; start = cells-from written-version; long = length cells })) × (part ≡ cells)
+  pub same : (exit : List ℕ) (k : ℕ) → WritesVenue n cells entry (Wrote k) exit → (rest : List ℕ) (bytes part : RefT (List ℕ)) (r : VenueRead) →
+      bytes .now ≡ take k exit ++ rest → ReadsVenue (bytes .now) r → GivesCells bytes part → SameVenue n cells bytes part r
+  pub in-place : (exit : List ℕ) (k : ℕ) → WritesVenue n cells entry (Wrote k) exit → (bytes part : RefT (List ℕ)) (r : VenueRead) →
+      bytes .now ≡ exit → ReadsVenue (bytes .now) r → GivesCells bytes part → SameVenue n cells bytes part r
 
--- What reading accepts, writing gives back: the record's own bytes, into room that is just enough.
-pub record WrittenBack (s : List ℕ) : Type 0 where
-  pub same : AllBytes s → (v : Venue) (r : VenueRead) (part : List ℕ) → ReadsVenue s r → r ≡ Read v → GivesCells s part →
-      (entry : List ℕ) → length entry ≡ length-field + announced s → (w : Written) (exit : List ℕ) → WritesVenue (v .counts) part entry w exit →
-      (w ≡ Wrote (length-field + announced s)) × (exit ≡ take (length-field + announced s) s)
+-- 5. What reading accepts, writing gives back: the record's own bytes, into room that is just enough.
+pub record WrittenBack (bytes part : RefT (List ℕ)) : Type 0 where
+  pub same : AllBytes (bytes .now) → (v : Venue) → ReadsVenue (bytes .now) (Read v) → GivesCells bytes part →
+      (entry : List ℕ) → length entry ≡ 4 + announced (bytes .now) → (w : Written) (exit : List ℕ) → WritesVenue (v .counts) (part .now) entry w exit →
+      (w ≡ Wrote (4 + announced (bytes .now))) × (exit ≡ take (4 + announced (bytes .now)) (bytes .now))
 
--- Bytes after a record are not looked at: s is as long as its first four bytes say.
+-- 6. Bytes after a record are not looked at: s is as long as its first four bytes say.
 pub record NotLookedAt (s rest : List ℕ) : Type 0 where
-  pub venue : length s ≡ length-field + announced s → (r t : VenueRead) → ReadsVenue s r → ReadsVenue (s ++ rest) t → r ≡ t
-  pub cells : length s ≡ length-field + announced s → (a b : List ℕ) → GivesCells s a → GivesCells (s ++ rest) b → a ≡ b
-  pub pair : length s ≡ length-field + announced s → (r t : PairRead) → ReadsPair s r → ReadsPair (s ++ rest) t → r ≡ t
+  pub venue : length s ≡ 4 + announced s → (r t : VenueRead) → ReadsVenue s r → ReadsVenue (s ++ rest) t → r ≡ t
+  pub cells : length s ≡ 4 + announced s → (short long a b : RefT (List ℕ)) → short .now ≡ s → long .now ≡ s ++ rest → GivesCells short a → GivesCells long b →
+      (a .now ≡ b .now) × ((start : ℕ) × StartsAt start short a × StartsAt start long b)
+  pub pair : length s ≡ 4 + announced s → (r t : PairRead) → ReadsPair s r → ReadsPair (s ++ rest) t → r ≡ t
 
 -- ---- named inputs
 
@@ -129,7 +135,8 @@ version-2 = 0 ∷ 0 ∷ 0 ∷ 15 ∷ 2 ∷ 0 ∷ 4 ∷ 0 ∷ 2 ∷ 0 ∷ 1 ∷ e
 
 pub record WrongRecords : Type 0 where
   pub other-version : (v : Venue) → ReadsVenue version-2 (Read v) → ⊥
-  pub whole-part : GivesCells example-venue example-venue → ⊥
-  pub empty-part : GivesCells example-venue [] → ⊥
+  pub whole-part : (bytes part : RefT (List ℕ)) → bytes .now ≡ example-venue → GivesCells bytes part → part .now ≡ example-venue → ⊥
+  pub empty-part : (bytes part : RefT (List ℕ)) → bytes .now ≡ example-venue → GivesCells bytes part → part .now ≡ [] → ⊥
+  pub part-elsewhere : (bytes part : RefT (List ℕ)) → bytes .now ≡ example-venue → GivesCells bytes part → part .ptr ≡ bytes .ptr → ⊥
   pub pair-refuser : (r : Refusal) → ReadsPair example-pair (NoPair r) → ⊥
   pub short-writer : (exit : List ℕ) → WritesVenue example-counts example-cells (replicate 18 99) (Wrote 19) exit → ⊥
