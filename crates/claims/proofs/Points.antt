@@ -8,45 +8,40 @@ use lib.IntN.{ℤ, pos, natAbs}
 use lib.Ieee.{Float, le, lt, ofInt, div, sub, neg, toBits}
 use Rattle.cells.specs.declared.Cell as cell
 use Rattle.cells.specs.declared.Counts.{Counts}
+use Rattle.cells.specs.declared.End.{End}
 use Rattle.cells.specs.declared.End.the-variants.{P}
+use Rattle.cells.specs.declared.Verdict.the-variants.{Fine}
 use Rattle.cells.specs.declared.Axis.{Axis}
 use Rattle.cells.specs.declared.Axis.the-variants.{X, Y, Z}
-use Rattle.cells.specs.Refusals.{Told, at-end}
+use Rattle.cells.specs.Refusals.{Told}
 use Rattle.cells.specs.Touching.{on}
 use Rattle.lines.proofs.Cells.{same-cell}
 use Rattle.survey.specs.declared.Lookup.the-variants.{Cell}
 use Rattle.survey.specs.declared.Placement.{Placement}
 use Rattle.survey.specs.declared.Point.{Point}
 use Rattle.survey.specs.Quotient.{outside, cell-number}
-use Rattle.survey.specs.Search.{Inside}
-use Rattle.survey.specs.Survey.{Tested, quotients, cell-at, cell-of, told-lookup}
+use Rattle.survey.specs.Search.{Inside, AllInside}
+use Rattle.survey.specs.Survey.{Tested, quotients, point-check, cell-at, look-up, cell-of, LooksUp, told-lookup}
 use Rattle.survey.proofs.Whole.{whole-exact}
 use Rattle.survey.proofs.Finite.{quotient-no-nan}
 use Rattle.survey.proofs.Numbers.{one-number, number-whole-part, number-found, number-in, cell-not-outside, outside-exactly}
 use Rattle.grids.specs.Inside.{Counted}
 use Rattle.grids.proofs.Shapes.{counted}
 use Rattle.survey.proofs.Survey.{placed, point-fine}
-use Rattle.survey.proofs.Lookups.{cell-given, cell-found}
-use Rattle.claims.specs.Points.{OneAnswer, Coordinate, InItsCell, Finite, TheCell, Outside, Exact, Shares, Refuted, Every, table, cube, placement, metres, tenths, point, cell-is, refused}
+use Rattle.survey.proofs.Lookups.{cell-given, cell-found, look-given}
+use Rattle.claims.specs.Points.{OneAnswer, Coordinate, OnlyOne, InItsCell, Finite, TheCell, Outside, Exact, Shares, Refuted, Every, table, cube, placement, metres, tenths, point, cell-is}
 
 pub one-answer : (n : Counts) (at : Placement) (p : Point) → OneAnswer n at p
-one-answer n at p = record { alone = λ r s e f. e ∙ sym f }
+one-answer n at p = record { alone = λ r s e f. e .says ∙ sym (f .says) }
 
 -- ---- the cell
 
+pub only-one : (q : Float) → OnlyOne q
+only-one q = record { only = λ k m small below there i. one-number q m k below (omega arith) i there; part = λ k small there. number-whole-part q k small there }
+
 -- where q is inside, the definition's number is the coordinate
 coordinate : (count : ℕ) (q : Float) → Inside count q → Coordinate count q (pos (cell-number count q))
-coordinate count q h =
-    let small = h .small in
-    let (below, there) = number-in count q h in
-    record {
-      number = cell-number count q;
-      same = refl;
-      below = below;
-      there = there;
-      only = λ m r i. one-number q m (cell-number count q) r (omega arith) i there;
-      part = number-whole-part q (cell-number count q) (omega arith) there;
-    }
+coordinate count q h = let (below, there) = number-in count q h in record { number = cell-number count q; same = refl; below = below; there = there }
 
 -- a coordinate is the definition's number, and its quotient is not outside
 coordinate-is : (count : ℕ) (q : Float) (z : ℤ) → count ≤ 1024 → Coordinate count q z → z ≡ pos (cell-number count q)
@@ -65,21 +60,32 @@ cell-is-at n q c range i = same-cell c (cell-at n q) each
     each Z = coordinate-is (n .nz) (q .z) (c .z) (range .z .most) (i .z)
 
 pub the-cell : (n : Counts) (at : Placement) (p : Point) → TheCell n at p
-the-cell n at p = record { given = given; found = found }
+unfolding look-up
+the-cell n at p = record { given = given; found = λ c t f i. record { says = sym (cell-found n at p t (fine P c t f i) ∙ ap Cell (sym (is-at c t i))) }; end-given = end-given; end-found = end-found }
   where
-    given : (c : cell.Cell) → cell-of n at p ≡ Cell c → InItsCell n (quotients at p) c
-    given c h =
-        let (tested, inside, same) = cell-given n at p c h in
+    -- a cell where all quotients are inside
+    in-it : (c : cell.Cell) → AllInside n (quotients at p) → c ≡ cell-at n (quotients at p) → InItsCell n (quotients at p) c
+    in-it c inside same =
         subst (InItsCell n (quotients at p)) (sym same)
         (record { x = coordinate (n .nx) _ (inside .x); y = coordinate (n .ny) _ (inside .y); z = coordinate (n .nz) _ (inside .z) })
 
-    found : (c : cell.Cell) → Tested n at → Finite p → InItsCell n (quotients at p) c → cell-of n at p ≡ Cell c
-    found c t f i =
+    given : (c : cell.Cell) → LooksUp n at p (Cell c) → Tested n at × InItsCell n (quotients at p) c
+    given c h = let (tested, inside, same) = cell-given n at p c (sym (h .says)) in (tested, in-it c inside same)
+
+    end-given : (e : End) (c : cell.Cell) → Tested n at → look-up e n at p ≡ Cell c → InItsCell n (quotients at p) c
+    end-given e c t h = let (inside, same) = look-given e n at p c t h in in-it c inside same
+
+    fine : (e : End) (c : cell.Cell) → Tested n at → Finite p → InItsCell n (quotients at p) c → point-check e n p (quotients at p) ≡ Fine
+    fine e c t f i =
         let range = counted n (t .counts) in
-        let fine =
-        point-fine P n p (quotients at p) (f .x) (f .y) (f .z) (coordinate-inside (n .nx) _ (c .x) (range .x .most) (i .x))
-        (coordinate-inside (n .ny) _ (c .y) (range .y .most) (i .y)) (coordinate-inside (n .nz) _ (c .z) (range .z .most) (i .z)) in
-        cell-found n at p t fine ∙ ap Cell (sym (cell-is-at n (quotients at p) c range i))
+        point-fine e n p (quotients at p) (f .x) (f .y) (f .z) (coordinate-inside (n .nx) _ (c .x) (range .x .most) (i .x))
+        (coordinate-inside (n .ny) _ (c .y) (range .y .most) (i .y)) (coordinate-inside (n .nz) _ (c .z) (range .z .most) (i .z))
+
+    is-at : (c : cell.Cell) → Tested n at → InItsCell n (quotients at p) c → c ≡ cell-at n (quotients at p)
+    is-at c t i = cell-is-at n (quotients at p) c (counted n (t .counts)) i
+
+    end-found : (e : End) (c : cell.Cell) → Tested n at → Finite p → InItsCell n (quotients at p) c → look-up e n at p ≡ Cell c
+    end-found e c t f i = rw (fine e c t f i) (ap Cell (sym (is-at c t i)))
 
 -- ---- outside, and exact conversion
 
@@ -106,16 +112,12 @@ shares = record { half = refl; third = refl; start = refl }
 
 pub surveyed : Every table
 unfolding cell-of le lt ofInt div sub neg
-surveyed = (refl, (refl, (refl, (refl, (refl, (refl, (refl, (refl, (refl, (refl, (refl, (refl, (refl, (refl, (refl, (refl, (refl, tt)))))))))))))))))
+surveyed = (refl, (refl, (refl, (refl, (refl, (refl, (refl, (refl, (refl, (refl, (refl, (refl, (refl, (refl, (refl, (refl, (refl, (refl, (refl, (refl, tt))))))))))))))))))))
 
--- what the definition says at the two inputs
+-- what the definition says at that input
 at-one-and-a-half : told-lookup (cell-of (cube 4) (placement (metres 0) (metres 1)) (point (tenths 15) (metres 0) (metres 0))) ≡ cell-is 1 0 0
 unfolding cell-of le lt ofInt div sub
 at-one-and-a-half = refl
-
-at-the-count : told-lookup (cell-of (cube 4) (placement (metres 0) (metres 1)) (point (metres 4) (metres 0) (metres 0))) ≡ refused (at-end 9 P X)
-unfolding cell-of le lt ofInt div sub
-at-the-count = refl
 
 -- the x of an answer's cell, 0 where there is none
 x-of : Told ⊎ cell.Cell → ℕ
@@ -126,6 +128,6 @@ pub refuted : Refuted
 unfolding x-of
 refuted =
     record {
-      always-first-cell = λ e. let z : _≡_ {A = ℕ} 1 0 = ap x-of (sym at-one-and-a-half ∙ e) in omega arith;
-      count-accepted = λ e. let z : _≡_ {A = ℕ} 0 3 = ap x-of (sym at-the-count ∙ e) in omega arith;
+      always-first-cell = λ c. let z : _≡_ {A = ℕ} 1 0 = ap x-of (sym at-one-and-a-half ∙ ap told-lookup (sym (c .says))) in omega arith;
+      refuses-always = λ r c. let z : _≡_ {A = ℕ} 1 0 = ap x-of (sym at-one-and-a-half ∙ ap told-lookup (sym (c .says))) in omega arith;
     }

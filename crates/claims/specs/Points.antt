@@ -12,32 +12,36 @@ use lib.Ieee.Scale.{finite}
 use Rattle.cells.specs.declared.Axis.the-variants.{X, Y, Z}
 use Rattle.cells.specs.declared.Cell as cell
 use Rattle.cells.specs.declared.Counts.{Counts}
+use Rattle.cells.specs.declared.End.{End}
 use Rattle.cells.specs.declared.End.the-variants.{P}
+use Rattle.cells.specs.declared.Refusal.{Refusal}
 use Rattle.cells.specs.declared.Part.{Part}
 use Rattle.cells.specs.declared.Part.the-variants.{OriginX, Edge}
 use Rattle.cells.specs.declared.Axis.{Axis}
 use Rattle.cells.specs.Refusals.{Told, at-end}
 use Rattle.survey.specs.declared.Lookup.{Lookup}
-use Rattle.survey.specs.declared.Lookup.the-variants.{Cell}
+use Rattle.survey.specs.declared.Lookup.the-variants.{Cell, Refused}
 use Rattle.survey.specs.declared.Placement.{Placement}
 use Rattle.survey.specs.declared.Point.{Point}
 use Rattle.survey.specs.Quotient.{as-f64, outside, in-cell}
 use Rattle.sight.specs.Sight.{share-of}
-use Rattle.survey.specs.Survey.{Tested, quotients, cell-of, told-lookup}
+use Rattle.survey.specs.Survey.{Tested, quotients, look-up, cell-of, LooksUp, told-lookup}
 
 -- 1. One answer for each input.
 pub record OneAnswer (n : Counts) (at : Placement) (p : Point) : Type 0 where
-  pub alone : (r s : Lookup) → r ≡ cell-of n at p → s ≡ cell-of n at p → r ≡ s
+  pub alone : (r s : Lookup) → LooksUp n at p r → LooksUp n at p s → r ≡ s
 
--- 2. On one axis: the coordinate z is a whole number k below the count with k ≤ q < k+1, and no other whole number below 2^53 is.
--- It is q's whole part.
+-- 2. On one axis: the coordinate z is a whole number below the count with z ≤ q < z+1.
 pub record Coordinate (count : ℕ) (q : Float) (z : ℤ) : Type 0 where
   pub number : ℕ
   pub same : z ≡ pos number
   pub below : number < count
   pub there : in-cell q number ≡ true
-  pub only : (m : ℕ) → m < 2 ^ 53 → in-cell q m ≡ true → m ≡ number
-  pub part : toUnsigned 32 q ≡ number
+
+-- no other whole number below 2^53 is such; and it is q's whole part
+pub record OnlyOne (q : Float) : Type 0 where
+  pub only : (k m : ℕ) → k < 2 ^ 32 → m < 2 ^ 53 → in-cell q k ≡ true → in-cell q m ≡ true → m ≡ k
+  pub part : (k : ℕ) → k < 2 ^ 32 → in-cell q k ≡ true → toUnsigned 32 q ≡ k
 
 -- on the three axes
 pub record InItsCell (n : Counts) (q : Point) (c : cell.Cell) : Type 0 where
@@ -51,10 +55,13 @@ pub record Finite (p : Point) : Type 0 where
   pub y : finite (p .y) ≡ true
   pub z : finite (p .z) ≡ true
 
--- 2. An answer that is a cell is the cell where the point's quotients lie; and where there is such a cell, it is the answer.
+-- 2. An answer that is a cell is the cell where the point's quotients lie; and where there is such a cell, it is the answer. Of the call, and of
+-- the lookups that a sight makes, of the camera as P and of the ball as Q.
 pub record TheCell (n : Counts) (at : Placement) (p : Point) : Type 0 where
-  pub given : (c : cell.Cell) → cell-of n at p ≡ Cell c → InItsCell n (quotients at p) c
-  pub found : (c : cell.Cell) → Tested n at → Finite p → InItsCell n (quotients at p) c → cell-of n at p ≡ Cell c
+  pub given : (c : cell.Cell) → LooksUp n at p (Cell c) → Tested n at × InItsCell n (quotients at p) c
+  pub found : (c : cell.Cell) → Tested n at → Finite p → InItsCell n (quotients at p) c → LooksUp n at p (Cell c)
+  pub end-given : (e : End) (c : cell.Cell) → Tested n at → look-up e n at p ≡ Cell c → InItsCell n (quotients at p) c
+  pub end-found : (e : End) (c : cell.Cell) → Tested n at → Finite p → InItsCell n (quotients at p) c → look-up e n at p ≡ Cell c
 
 -- 3. With counts and placement that pass their tests and finite values, no quotient is NaN; and a quotient is outside exactly when no whole
 -- number k below the count has k ≤ q < k+1.
@@ -123,16 +130,19 @@ abbrev pub Every : List Row → Type 0
 Every [] = Unit {0}
 Every (r ∷ rows) = Holds r × Every rows
 
--- accepted: 1.5 m at an edge of 1 m; minus zero; (0.7 - 0.1) / 0.2, which rounds to less than 3; a quotient that rounds to minus zero.
+-- accepted: 1.5 m at an edge of 1 m; 1,024 cells; minus zero; (0.7 - 0.1) / 0.2, which rounds to less than 3; a quotient that rounds to minus zero.
 -- Refused: below 0, at the count, an infinite quotient (9); NaN and an infinity (8), x before y; edges 0.0, NaN, infinite, -1 and an origin
 -- NaN (7); counts 0 and 1,025 (2), before 7.
 abbrev pub table : List Row
 table =
     row (cube 4) (placement (metres 0) (metres 1)) (point (tenths 15) (metres 0) (tenths 39)) (cell-is 1 0 3)
+    ∷ row (cube 1024) (placement (metres 0) (metres 1)) (point (metres 1023) (metres 1) (metres 512)) (cell-is 1023 1 512)
     ∷ row (cube 4) (placement (metres 0) (metres 1)) (point (neg (metres 0)) (metres 1) (metres 2)) (cell-is 0 1 2)
     ∷ row (cube 4) (placement (tenths 1) (tenths 2)) (point (tenths 7) (tenths 1) (tenths 3)) (cell-is 2 0 0)
     ∷ row (cube 4) (placement (metres 0) (metres 4)) (point (neg smallest) (metres 5) (metres 15)) (cell-is 0 1 3)
     ∷ row (cube 4) (placement (metres 0) (metres 1)) (point (neg smallest) (metres 0) (metres 0)) (refused (at-end 9 P X))
+    ∷ row (cube 4) (placement (metres 0) (metres 1)) (point (metres 4) (metres 0) (metres 0)) (refused (at-end 9 P X))
+    ∷ row (cube 4) (placement (metres 0) (metres 1)) (point (metres 0) (metres 4) (metres 0)) (refused (at-end 9 P Y))
     ∷ row (cube 4) (placement (metres 0) (metres 1)) (point (metres 0) (metres 0) (metres 4)) (refused (at-end 9 P Z))
     ∷ row (cube 4) (placement (metres 0) smallest) (point (metres 0) (metres 1) (metres 0)) (refused (at-end 9 P Y))
     ∷ row (cube 4) (placement (metres 0) (metres 1)) (point (metres 0) nan (metres 0)) (refused (at-end 8 P Y))
@@ -149,7 +159,10 @@ table =
 
 -- ---- wrong answers that the contract rules out
 
--- "always cell 0", at 1.5 m; "q equal to the count is accepted", at 4 m of 4 cells
+-- "always cell 0", and "refused always", at 1.5 m of 4 cells
+abbrev pub Found-there : Lookup → Type 0
+Found-there = LooksUp (cube 4) (placement (metres 0) (metres 1)) (point (tenths 15) (metres 0) (metres 0))
+
 pub record Refuted : Type 0 where
-  pub always-first-cell : told-lookup (cell-of (cube 4) (placement (metres 0) (metres 1)) (point (tenths 15) (metres 0) (metres 0))) ≡ cell-is 0 0 0 → ⊥
-  pub count-accepted : told-lookup (cell-of (cube 4) (placement (metres 0) (metres 1)) (point (metres 4) (metres 0) (metres 0))) ≡ cell-is 3 0 0 → ⊥
+  pub always-first-cell : Found-there (Cell (record { x = pos 0; y = pos 0; z = pos 0 })) → ⊥
+  pub refuses-always : (r : Refusal) → Found-there (Refused r) → ⊥
