@@ -24,7 +24,7 @@ programs-hold = example-writes and refl and no-more
 
 records-hold : Every record-rows
 unfolding shape whole-check venue-version venue-head venue-check venue-read venue-cells signed pair-version pair-length pair-check pair-read
-records-hold = refl and refl and refl and programs-hold
+records-hold = refl and refl and refl and refl and programs-hold
 
 sights-hold : Every sight-rows
 unfolding sight le lt ofInt ofBits div sub
@@ -33,5 +33,6 @@ sights-hold = refl and records-hold
 pub starred : Every table
 unfolding six-line line-26 marked first-hit
 starred =
-    refl and refl and refl and refl and refl and refl and refl and refl and refl and refl and refl and refl and
-    refl and refl and refl and refl and refl and refl and refl and refl and refl and refl and refl and refl and sights-hold
+    refl and refl and refl and refl and refl and refl and refl and refl and refl and refl and refl and
+    refl and refl and refl and refl and refl and refl and refl and refl and refl and refl and refl and
+    refl and refl and refl and refl and refl and refl and refl and refl and refl and refl and refl and sights-hold

@@ -16,7 +16,7 @@ use Rattle.lines.specs.Steps.{total}
 use Rattle.lines.specs.Preference.{rule-1}
 use Rattle.lines.specs.Lines.{differences, six-cell}
 use Rattle.lines.proofs.Cells.{six-misses-none}
-use Rattle.grids.specs.Grid.{byte-of}
+use Rattle.grids.specs.Grid.{byte-of, solid}
 use Rattle.grids.specs.Marks.{complete, after-marking}
 use Rattle.grids.proofs.Marking.{marked-complete}
 use Rattle.walks.specs.declared.Walker.the-variants.{Plain, Adaptive}
@@ -34,7 +34,8 @@ use Rattle.walks.proofs.Inside.{six-inside}
 use Rattle.walks.proofs.Safe.{complete-safe}
 use Rattle.walks.proofs.Places.{never-falls}
 use Rattle.walks.proofs.Story.{first-hit-is, walk-stops, end-below, no-earlier, not-invented, ends-alike, reads-no-more, plain-clear, plain-clear-reads, adaptive-clear-most, adaptive-clear-least}
-use Rattle.claims.specs.Story.{SameStory, hits, clears, refusals, OneStory, NeverInvented, NothingInTheWay, Reads, WalksEnd, FirstSolid, HitInside, MarkedFirst, HitOnce, WrongWalks}
+use Rattle.claims.specs.Story.{SameStory, hits, clears, refusals, OneStory, NeverInvented, NothingInTheWay, Reads, WalksEnd, FirstSolid, HitInside, MarkedFirst, HitOnce, WrongWalks, OnTheLine, HitPlace}
+use Rattle.claims.proofs.Grids.{says-complete}
 
 -- what an answer carries
 hit-or : Hit → FirstHit → Hit
@@ -123,6 +124,24 @@ module _ (n : Counts) (l : List ℕ) (p q : Cell) where
         inside = λ w h a. inside-at h _ _ (end-below n l p q w) (a .says ∙ first-hit-is n l p q w);
       }
 
+  pub hit-place : HitPlace n l p q
+  hit-place = record { there = λ w h a. at h (end-of n l p q w) (reads-of n l p q w) (end-below n l p q w) (a .says ∙ first-hit-is n l p q w) }
+    where
+      at : (h : Hit) (e r : ℕ) → e ≤ total (differences p q) → Blocked h ≡ answer-by check (answer-at n l p q e r) → (s : ℕ) × OnTheLine n l p q h s
+      at h e r le is =
+          let (fine, hit, there) = hit-told check h e r is in
+          let cell = ap (λ k. k .cell) there in
+          let code = ap (λ k. k .code) there in (
+            e,
+            record {
+              most = le;
+              cell = cell;
+              code = code ∙ ap (byte-of n l) (sym cell);
+              solid-there = ap solid code ∙ hit;
+              place = ap (λ k. k .place) there;
+            },
+          )
+
   pub first-solid : FirstSolid n l p q
   first-solid =
       record {
@@ -194,7 +213,7 @@ module _ (n : Counts) (l : List ℕ) (p q : Cell) where
 -- ---- mark, then walk
 
 pub marked-first : (n : Counts) (l exit : List ℕ) → MarkedFirst n l exit
-marked-first n l exit = record { premise = λ m. ap (complete 3 n) (m .holds ∙ ap (λ v. after-marking v n l) (sym (m .says))) ∙ marked-complete 3 n l }
+marked-first n l exit = record { premise = λ m. ap (complete 3 n) (m .holds ∙ ap (λ v. after-marking v n l) (sym (m .says))) ∙ marked-complete 3 n l; asked = says-complete n l .yes }
 
 -- ---- wrong walks
 

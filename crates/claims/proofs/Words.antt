@@ -1,5 +1,5 @@
 -- What is said of a refusal or an answer tells which it is, each by its left inverse. Assumes nothing.
-use mathlib.Core.Path.{sym, _∙_}
+use mathlib.Core.Path.{sym, _∙_, refl}
 use native.Mathlib.Omega.{arith}
 use Rattle.cells.specs.declared.Refusal.{Refusal}
 use Rattle.cells.proofs.Refusals.{told-one, told-verdict-one}
@@ -9,7 +9,7 @@ use Rattle.walks.proofs.Told.{told-hit-one}
 use Rattle.survey.proofs.Told.{told-lookup-one}
 use Rattle.sight.proofs.Told.{told-sight-one}
 use Rattle.records.proofs.Told.{told-venue-one, told-pair-one, told-written-one}
-use Rattle.claims.specs.Words.{ToldApart, OneNumber, WrongNumbers}
+use Rattle.claims.specs.Words.{ToldApart, OneNumber, TheTable, WrongNumbers}
 
 pub told-apart : ToldApart
 told-apart =
@@ -32,3 +32,19 @@ one-number r = record { one = λ m n e f. e .says ∙ sym (f .says) }
 
 pub wrong-numbers : WrongNumbers
 wrong-numbers = record { off-grid-nine = λ e. omega (arith, e); version-as-record = λ e. omega (arith, e) }
+
+pub the-table : TheTable
+the-table =
+    record {
+      one = λ e a. refl;
+      two = λ a. refl;
+      three = refl;
+      four = refl;
+      five = λ e a. refl;
+      six = refl;
+      seven = λ p. refl;
+      eight = λ e a. refl;
+      nine = λ e a. refl;
+      ten = refl;
+      eleven = refl;
+    }

@@ -8,9 +8,12 @@ use lib.Ieee.{Float, binary64, div, ofBits}
 use lib.ListN.{length}
 use Rattle.cells.specs.declared.Cell.{Cell}
 use Rattle.cells.specs.declared.Counts.{Counts}
-use Rattle.cells.specs.Refusals.{Told}
+use Rattle.cells.specs.declared.Axis.the-variants.{X, Y}
+use Rattle.cells.specs.declared.End.the-variants.{P, Q}
+use Rattle.cells.specs.Refusals.{Told, alone, at-end}
 use Rattle.lines.specs.Preference.{rule-1}
 use Rattle.lines.specs.Lines.{six-line, line-26}
+use Rattle.lists.specs.Lists.{list-check, listed, told-listed}
 use Rattle.grids.specs.Marks.{marked}
 use Rattle.records.specs.Venues.{venue-read, venue-cells, told-venue}
 use Rattle.records.specs.Pairs.{pair-read, told-pair}
@@ -25,7 +28,7 @@ use Rattle.survey.specs.Quotient.{as-f64}
 use Rattle.sight.specs.Sight.{sight, told-sight}
 use Rattle.claims.specs.Points.{metres, placement, point}
 use Rattle.claims.specs.Example.{counts, at, example-counts, example-cells, marked-cells}
-use Rattle.claims.specs.Records.{example-venue, example-pair}
+use Rattle.claims.specs.Records.{example-venue, example-pair, minus-one-pair}
 use Rattle.claims.specs.Program.{example-input, example-output, marked-input, marked-output}
 
 -- the cell (-x, y, z)
@@ -43,12 +46,13 @@ clear reads = inr (inl reads)
 abbrev pub halves : ℕ → Float
 halves k = div binary64 (as-f64 k) (as-f64 2)
 
--- a row: the ends P and Q and the cells of the line between them; counts, bytes, and the bytes marked; a walk, its grid
+-- a row: the ends P and Q and the cells of the line between them; the ends, room for so many numbers, and what the 6-line's call answers; counts, bytes, and the bytes marked; a walk, its grid
 -- and ends, and what it finds; a venue's record, its counts and its cells; a pair's record, P and Q; the program's whole
 -- input and output; or a grid, its placement, camera and ball, and the 64 bits of the share, the cell, code and reads of what is in the way
 pub data Row : Type 0 where
   six : Cell → Cell → List Cell → Row
   twenty-six : Cell → Cell → List Cell → Row
+  lists : Cell → Cell → ℕ → Told ⊎ ℕ → Row
   marks : Counts → List ℕ → List ℕ → Row
   finds : Walker → Counts → List ℕ → Cell → Cell → Told ⊎ (ℕ ⊎ Hit) → Row
   venue : List ℕ → Counts → List ℕ → Row
@@ -61,6 +65,7 @@ pub data Row : Type 0 where
 abbrev pub Holds : Row → Type 0
 Holds (six p q l) = six-line rule-1 p q ≡ l
 Holds (twenty-six p q l) = line-26 p q ≡ l
+Holds (lists p q room says) = told-listed (listed (list-check p q (length (six-line rule-1 p q)) room) (length (six-line rule-1 p q))) ≡ says
 Holds (marks n l m) = marked 3 n l ≡ m
 Holds (finds w n l p q says) = told-hit (first-hit w n l p q) ≡ says
 Holds (venue s n cells) = told-venue (venue-read s) ≡ inr (n, length s - length cells, length cells)
@@ -86,6 +91,8 @@ record-rows =
     venue example-venue example-counts example-cells
     ∷ venue-part example-venue example-cells
     ∷ pair example-pair (at 0 0 0) (at 3 1 0)
+    -- `FFFF` is -1
+    ∷ pair minus-one-pair (at 0 0 0) (at-minus 1 1 0)
     ∷ program-rows
 
 -- the marked program's venue, its origin 0, its edge 1 metre, from the middle of (0,0,0) to the middle of (3,1,0): share 0.5
@@ -107,8 +114,17 @@ table =
     ∷ twenty-six (at 0 0 0) (at 3 1 0) (at 0 0 0 ∷ at 1 0 0 ∷ at 2 1 0 ∷ at 3 1 0 ∷ [])
     ∷ six (at 5 6 7) (at 5 6 7) (at 5 6 7 ∷ [])
     ∷ twenty-six (at 5 6 7) (at 5 6 7) (at 5 6 7 ∷ [])
+    -- just enough room, and one number less; the coordinate limit, and beyond it, P before Q
+    ∷ lists (at 0 0 0) (at 2 1 0) 12 (inr 4)
+    ∷ lists (at 0 0 0) (at 2 1 0) 11 (inl (alone 6))
+    ∷ lists (at 8191 8191 8191) (at 8191 8191 8191) 3 (inr 1)
+    ∷ lists (at-minus 8192 0 0) (at-minus 8192 0 0) 3 (inr 1)
+    ∷ lists (at 0 0 0) (at 0 8192 0) 0 (inl (at-end 1 Q Y))
+    ∷ lists (at-minus 8193 0 8192) (at 8192 0 0) 0 (inl (at-end 1 P X))
     -- the program's venue: its marks; its walks, unmarked and marked
     ∷ marks example-counts example-cells marked-cells
+    -- a near byte far from anything solid is cleared
+    ∷ marks (counts 4 1 1) (1 ∷ 1 ∷ 0 ∷ 2 ∷ []) (0 ∷ 0 ∷ 1 ∷ 2 ∷ [])
     -- a corner touches
     ∷ marks (counts 2 2 2) (0 ∷ 0 ∷ 0 ∷ 0 ∷ 0 ∷ 0 ∷ 0 ∷ 9 ∷ []) (1 ∷ 1 ∷ 1 ∷ 1 ∷ 1 ∷ 1 ∷ 1 ∷ 9 ∷ [])
     ∷ finds Plain example-counts example-cells (at 0 0 0) (at 3 1 0) (hit (at 1 1 0) 2 1 2 3)
@@ -118,6 +134,9 @@ table =
     -- equal ends: one cell, one read
     ∷ finds Plain example-counts marked-cells (at 3 1 0) (at 3 1 0) (clear 1)
     ∷ finds Adaptive example-counts marked-cells (at 3 1 0) (at 3 1 0) (clear 1)
+    -- a hit at P: 0 over 1
+    ∷ finds Plain example-counts marked-cells (at 1 1 0) (at 3 1 0) (hit (at 1 1 0) 2 0 1 1)
+    ∷ finds Adaptive example-counts marked-cells (at 1 1 0) (at 3 1 0) (hit (at 1 1 0) 2 0 1 1)
     -- complete marks, both clear, the adaptive walk reads fewer
     ∷ finds Plain (counts 3 2 1) (0 ∷ 0 ∷ 0 ∷ 0 ∷ 0 ∷ 0 ∷ []) (at 0 0 0) (at 2 1 0) (clear 4)
     ∷ finds Adaptive (counts 3 2 1) (0 ∷ 0 ∷ 0 ∷ 0 ∷ 0 ∷ 0 ∷ []) (at 0 0 0) (at 2 1 0) (clear 3)

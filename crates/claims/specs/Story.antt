@@ -14,8 +14,9 @@ use Rattle.lines.specs.Steps.{total}
 use Rattle.lines.specs.Preference.{rule-1}
 use Rattle.lines.specs.Lines.{differences, longest, six-cell}
 use Rattle.lines.specs.Segment.{Share, InOpen}
+use Rattle.grids.specs.declared.Completeness.the-variants.{Yes}
 use Rattle.grids.specs.Grid.{byte-of, solid}
-use Rattle.grids.specs.Marks.{complete, Marks}
+use Rattle.grids.specs.Marks.{complete, Marks, Completes}
 use Rattle.walks.specs.declared.Walker.{Walker}
 use Rattle.walks.specs.declared.Walker.the-variants.{Plain, Adaptive}
 use Rattle.walks.specs.declared.Hit.{Hit}
@@ -23,7 +24,7 @@ use Rattle.walks.specs.declared.FirstHit.{FirstHit}
 use Rattle.walks.specs.declared.FirstHit.the-variants.{Clear, Hit as Blocked, Refused}
 use Rattle.walks.specs.Walks.{hit-at, walk-of}
 use Rattle.grids.specs.Inside.{InGrid}
-use Rattle.walks.specs.Answers.{last-of, Finds}
+use Rattle.walks.specs.Answers.{entered-at, last-of, Finds}
 use Rattle.claims.specs.Example.{counts, at, example-counts, example-cells, marked-cells}
 
 -- the first answer is the plain walk's, the second the adaptive one's: the same cell, code and place, or both clear, or both refuse alike; and the
@@ -72,17 +73,29 @@ pub record FirstSolid (n : Counts) (l : List ℕ) (p q : Cell) : Type 0 where
   pub hit : (h : Hit) → Finds Plain n l p q (Blocked h) → (s : ℕ) × FirstOf n l p q h s
   pub none : (reads : ℕ) → Finds Plain n l p q (Clear reads) → (s : ℕ) → s ≤ total (differences p q) → hit-at n l (six-cell rule-1 p q s) ≡ false
 
--- 6. A hit lies in the grid.
+-- 6. A hit lies in the grid. It is a solid cell of the 6-line, with the cell's byte as its code, and its place is that of the crossing by which
+-- the 6-line enters this cell, also where a long step reached it.
 pub record HitInside (n : Counts) (l : List ℕ) (p q : Cell) : Type 0 where
   pub inside : (w : Walker) (h : Hit) → Finds w n l p q (Blocked h) → InGrid n (h .cell)
+
+pub record OnTheLine (n : Counts) (l : List ℕ) (p q : Cell) (h : Hit) (s : ℕ) : Type 0 where
+  pub most : s ≤ total (differences p q)
+  pub cell : h .cell ≡ six-cell rule-1 p q s
+  pub code : h .code ≡ byte-of n l (h .cell)
+  pub solid-there : solid (h .code) ≡ true
+  pub place : h .place ≡ entered-at p q s
+
+pub record HitPlace (n : Counts) (l : List ℕ) (p q : Cell) : Type 0 where
+  pub there : (w : Walker) (h : Hit) → Finds w n l p q (Blocked h) → (s : ℕ) × OnTheLine n l p q h s
 
 -- 7. Each walk ends: its last cell is solid, or Q. (The number of steps that bounds its definition is never used up.)
 pub record WalksEnd (n : Counts) (l : List ℕ) (p q : Cell) : Type 0 where
   pub ends : (w : Walker) → (hit-at n l (last-of p (walk-of w n l p q)) ≡ true) ⊎ (last-of p (walk-of w n l p q) ≡ q)
 
--- 8. Mark, then walk: after an accepted marking the premise of 1 and 3 holds.
+-- 8. Mark, then walk, or ask first: after an accepted marking the premise of 1 and 3 holds, and where the completeness call says yes.
 pub record MarkedFirst (n : Counts) (l exit : List ℕ) : Type 0 where
   pub premise : Marks n l Fine exit → complete 3 n exit ≡ true
+  pub asked : Completes n l Yes → complete 3 n l ≡ true
 
 -- 9. One answer for each input.
 pub record HitOnce (n : Counts) (l : List ℕ) (p q : Cell) : Type 0 where

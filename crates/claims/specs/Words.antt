@@ -2,10 +2,14 @@
 -- answer, a refusal or the values, tells which answer it is. Assumes nothing.
 use Prim.Native.Nat.{ℕ}
 use mathlib.Core.Path.{_≡_}
+use mathlib.Core.Option.{none, some}
+use Rattle.cells.specs.declared.Axis.{Axis}
 use Rattle.cells.specs.declared.Axis.the-variants.{X}
+use Rattle.cells.specs.declared.End.{End}
 use Rattle.cells.specs.declared.End.the-variants.{P}
+use Rattle.cells.specs.declared.Part.{Part}
 use Rattle.cells.specs.declared.Refusal.{Refusal}
-use Rattle.cells.specs.declared.Refusal.the-variants.{OffGrid, Record, Version}
+use Rattle.cells.specs.declared.Refusal.the-variants.{Limit, Count, Bytes, Layer, OffGrid, Room, Placement, NotFinite, OffSurvey, Record, Version}
 use Rattle.cells.specs.declared.Verdict.{Verdict}
 use Rattle.cells.specs.Refusals.{told, NumberOf, told-verdict}
 use Rattle.lists.specs.declared.Listed.{Listed}
@@ -43,6 +47,20 @@ pub record ToldApart : Type 0 where
 -- the call that gives a refusal's number: one answer for each
 pub record OneNumber (r : Refusal) : Type 0 where
   pub one : (m n : ℕ) → NumberOf r m → NumberOf r n → m ≡ n
+
+-- document 01's table, number by number: each refusal's number, and what it says with it
+pub record TheTable : Type 0 where
+  pub one : (e : End) (a : Axis) → told (Limit e a) ≡ record { number = 1; end = some e; axis = some a; part = none }
+  pub two : (a : Axis) → told (Count a) ≡ record { number = 2; end = none; axis = some a; part = none }
+  pub three : told Bytes ≡ record { number = 3; end = none; axis = none; part = none }
+  pub four : told Layer ≡ record { number = 4; end = none; axis = none; part = none }
+  pub five : (e : End) (a : Axis) → told (OffGrid e a) ≡ record { number = 5; end = some e; axis = some a; part = none }
+  pub six : told Room ≡ record { number = 6; end = none; axis = none; part = none }
+  pub seven : (p : Part) → told (Placement p) ≡ record { number = 7; end = none; axis = none; part = some p }
+  pub eight : (e : End) (a : Axis) → told (NotFinite e a) ≡ record { number = 8; end = some e; axis = some a; part = none }
+  pub nine : (e : End) (a : Axis) → told (OffSurvey e a) ≡ record { number = 9; end = some e; axis = some a; part = none }
+  pub ten : told Record ≡ record { number = 10; end = none; axis = none; part = none }
+  pub eleven : told Version ≡ record { number = 11; end = none; axis = none; part = none }
 
 -- wrong numbers: an end outside the grid called 9, another version called a record cut short
 pub record WrongNumbers : Type 0 where
