@@ -11,3 +11,4 @@ pub mod Texts
 pub mod Program
 pub mod Exports
 pub mod Ties
+pub mod Witnesses

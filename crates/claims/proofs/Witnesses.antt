@@ -1,0 +1,106 @@
+-- The witnesses, by computation. Assumes nothing.
+use Prim.Native.Nat.{ℕ, zero, suc, _+_, _<_}
+use mathlib.Core.Path.{_≡_, refl, sym, ap, _∙_}
+use mathlib.Core.Bool.{Bool, true, false, _&&_}
+use mathlib.Core.List.{List, [], _∷_}
+use native.Mathlib.Omega.{arith}
+use lib.Dec.{ltb, lit<}
+use lib.IntN.{pos}
+use lib.Ieee.{le, lt, ofInt, div, sub}
+use lib.ListN.{getD}
+use borrow.Author.Tests.{ltb-true}
+use denote.Ref.{RefT}
+use Rattle.cells.specs.declared.Axis.{Axis}
+use Rattle.cells.specs.declared.Axis.the-variants.{X, Y, Z}
+use Rattle.lines.specs.Lines.{six-line}
+use Rattle.lines.specs.Preference.{rule-1}
+use Rattle.grids.specs.Grid.{count-check, shape, layer-part, layer}
+use Rattle.grids.specs.Marks.{marked, complete, completeness}
+use Rattle.walks.specs.Answers.{first-hit}
+use Rattle.survey.specs.Survey.{placement-check, cell-of}
+use Rattle.sight.specs.Sight.{sight}
+use Rattle.records.specs.Heads.{whole-check}
+use Rattle.records.specs.Venues.{venue-version, venue-head, venue-check, venue-read, venue-cells, start-of}
+use Rattle.records.specs.Pairs.{signed, pair-version, pair-length, pair-check, pair-read}
+use Rattle.records.specs.Writing.{write-check}
+use Rattle.claims.specs.Example.{example-counts}
+use Rattle.claims.specs.Witnesses.{steps-there, OfLines, OfGrids, OfPoints, OfRecords}
+use Rattle.claims.specs.Records.{example-venue}
+use Rattle.claims.proofs.Lines.{one-place, entered}
+use Rattle.claims.proofs.Lists.{longest-list}
+
+pub of-lines : OfLines
+unfolding six-line
+of-lines =
+    record {
+      share = record { some = lit< tt; most = omega arith };
+      centre-of-p = record { from = λ a. elim a [ X ↦ record { lt = tt } | Y ↦ record { lt = tt } | Z ↦ record { lt = tt } ]; upto = λ a. elim a [ X ↦ record { lt = tt } | Y ↦ record { lt = tt } | Z ↦ record { lt = tt } ] };
+      limits = longest-list .accepted;
+      in-order = one-place rule-1 steps-there .there 2 (omega arith) .0;
+      last-made = entered rule-1 steps-there .by-last 1 (omega arith);
+      listed = record { says = refl; holds = refl };
+      no-room = record { says = refl; holds = refl };
+    }
+
+pub of-grids : OfGrids
+unfolding shape marked complete completeness layer-part layer first-hit
+of-grids =
+    record {
+      shaped = record { says = refl };
+      one-short = record { says = refl };
+      marked-there = record { says = refl; holds = refl };
+      complete-marks = refl;
+      says-yes = record { says = refl };
+      says-no = record { says = refl };
+      part = record { says = refl };
+      layer = λ cells e. record { says = e ∙ ap (λ (l : List ℕ). layer example-counts l (pos 0)) (sym e); there = record { block = refl; offset = rw e (omega arith) } };
+      plain-hits = record { says = refl };
+      adaptive-hits = record { says = refl };
+      clear-marks = refl;
+      plain-clear = record { says = refl };
+      adaptive-clear = record { says = refl };
+    }
+
+pub of-points : OfPoints
+unfolding count-check placement-check cell-of sight le lt ofInt div sub
+of-points =
+    record {
+      tested = record { counts = refl; placed = refl };
+      finite = record { x = refl; y = refl; z = refl };
+      in-its-cell = record {
+        x = record { number = 1; same = refl; below = lit< tt; there = refl };
+        y = record { number = 0; same = refl; below = lit< tt; there = refl };
+        z = record { number = 3; same = refl; below = lit< tt; there = refl };
+      };
+      looked-up = record { says = refl };
+      seen = record { says = refl };
+    }
+
+-- a list whose numbers are all below 256
+abbrev all-below : List ℕ → Bool
+all-below [] = true
+all-below (b ∷ l) = ltb b 256 && all-below l
+
+and-true : (a b : Bool) → (a && b) ≡ true → (a ≡ true) × (b ≡ true)
+and-true true b h = (refl, h)
+and-true false b h = absurd (let z : _≡_ {A = ℕ} 0 1 = cc in omega arith)
+
+bytes-of : (l : List ℕ) → all-below l ≡ true → (i : ℕ) → getD l i 0 < 256
+bytes-of [] h i = lit< tt
+bytes-of (b ∷ l) h zero = ltb-true b 256 (and-true (ltb b 256) (all-below l) h .0)
+bytes-of (b ∷ l) h (suc i) = bytes-of l (and-true (ltb b 256) (all-below l) h .1) i
+
+pub of-records : OfRecords
+unfolding shape whole-check venue-version venue-head venue-check venue-read venue-cells signed pair-version pair-length pair-check pair-read write-check
+of-records =
+    record {
+      bytes = record { byte = bytes-of example-venue refl };
+      exact = refl;
+      venue = record { says = refl };
+      pair = record { says = refl };
+      cells = λ bytes e. (
+        record { ptr = (bytes .ptr .0, bytes .ptr .1 + start-of (venue-read (bytes .now))); name = 0; now = venue-cells (bytes .now) },
+        record { says = refl; there = record { block = refl; offset = refl } },
+      );
+      written = record { says = refl; holds = refl };
+    }
