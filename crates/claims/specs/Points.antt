@@ -54,6 +54,7 @@ pub record Finite (p : Point) : Type 0 where
   pub x : finite (p .x) ≡ true
   pub y : finite (p .y) ≡ true
   pub z : finite (p .z) ≡ true
+  -- no more is asked
 
 -- 2. An answer that is a cell is the cell where the point's quotients lie; and where there is such a cell, it is the answer. Of the call, and of
 -- the lookups that a sight makes, of the camera as P and of the ball as Q.
