@@ -12,10 +12,9 @@ use Rattle.cells.specs.declared.Counts.{Counts}
 use Rattle.cells.specs.declared.Verdict.{Verdict}
 use Rattle.cells.specs.declared.Verdict.the-variants.{Fine, Refused}
 use Rattle.grids.specs.declared.LayerPart.{LayerPart}
-use Rattle.grids.specs.declared.LayerPart.the-variants.{Part, Refused as NoPart}
 use Rattle.grids.specs.declared.Completeness.{Completeness}
 use Rattle.grids.specs.declared.Completeness.the-variants.{Yes, No}
-use Rattle.grids.specs.Grid.{shape, index, layer-part, layer, start-of, GivesLayerPart, GivesLayer}
+use Rattle.grids.specs.Grid.{shape, index, layer-part, layer, start-of}
 use Rattle.grids.specs.Marks.{after-marking, marked, complete, yes-or-no, completeness-by, completeness, Marks, Completes}
 use Rattle.grids.specs.Inside.{Shaped}
 use Rattle.grids.proofs.Shapes.{shaped}

@@ -12,3 +12,4 @@ pub mod Program
 pub mod Exports
 pub mod Ties
 pub mod Witnesses
+pub mod Headline

@@ -1,15 +1,15 @@
 -- The claims about the 6-line and the 26-line, each from its law. Assumes nothing.
-use Prim.Native.Nat.{ℕ, _+_, _<_}
-use mathlib.Core.Path.{_≡_, refl, sym, _∙_, ap}
+use Prim.Native.Nat.{ℕ, _<_}
+use mathlib.Core.Path.{_≡_, sym, _∙_, ap}
 use native.Mathlib.Omega.{arith}
 use lib.IntN.{pos}
 use lib.Signed.{ltZ}
 use Rattle.cells.specs.declared.Cell.{Cell}
-use Rattle.lines.specs.Steps.{Axis, X, Y, Z, Steps, stepped}
-use Rattle.lines.specs.Crossings.{Course, next, place, before}
+use Rattle.lines.specs.Steps.{X, Y, Z, Steps}
+use Rattle.lines.specs.Crossings.{next, place}
 use Rattle.lines.specs.Preference.{Preference}
-use Rattle.lines.specs.Lines.{differences, centres, longest, six-line, line-26}
-use Rattle.lines.specs.Decisions.{decision, values, moved-values}
+use Rattle.lines.specs.Lines.{differences, centres, longest}
+use Rattle.lines.specs.Decisions.{decision, values}
 use Rattle.lines.proofs.Steps.{stepped-bump}
 use Rattle.lines.proofs.Fractions.{place-in-order, in-order-is-place, place-total, place-suc, entered-by-last, last-made-one, ahead}
 use Rattle.lines.proofs.Centres.{centres-good, upto-26}

@@ -3,8 +3,6 @@ use Prim.Native.Nat.{ℕ, _*_}
 use mathlib.Core.Path.{_≡_, refl, sym, ap, _∙_}
 use mathlib.Core.Bool.{true}
 use mathlib.Core.List.{List}
-use mathlib.Core.Logic.{_⊎_}
-use mathlib.Core.Option.{Option, some, Option·map}
 use native.Mathlib.Omega.{arith}
 use lib.IntN.{ℤ, pos, natAbs}
 use lib.ListN.{length, getD}
@@ -15,14 +13,12 @@ use Rattle.cells.specs.declared.Refusal.{Refusal}
 use Rattle.cells.specs.declared.Verdict.{Verdict}
 use Rattle.cells.specs.declared.Verdict.the-variants.{Fine, Refused as Fails}
 use Rattle.cells.specs.Touching.{on}
-use Rattle.cells.specs.Refusals.{Told, told}
-use Rattle.cells.proofs.Refusals.{told-back, tells-apart, untold-by}
 use Rattle.lines.specs.Preference.{rule-1}
 use Rattle.lines.specs.Lines.{six-line, line-26, in-limit}
 use Rattle.lines.proofs.Cells.{limited-difference}
 use Rattle.lists.specs.declared.Listed.{Listed}
 use Rattle.lists.specs.declared.Listed.the-variants.{Cells, Refused}
-use Rattle.lists.specs.Lists.{list-check, listed, numbers, after-listing, Lists, told-listed}
+use Rattle.lists.specs.Lists.{list-check, listed, after-listing}
 use Rattle.lists.proofs.Front.{numbers-length}
 use Rattle.claims.specs.Lists.{ListedOnce, Longest, lowest, highest, WrongLists}
 use Rattle.claims.proofs.Lines.{six-line-holds}

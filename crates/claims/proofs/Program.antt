@@ -1,7 +1,7 @@
 -- The program's claims: what a step says of a frame it says of all that is left of the input, so the steps give the whole output. Assumes nothing.
-use Prim.Native.Nat.{ℕ, zero, suc, _+_, _≤_, _<_}
-use mathlib.Core.Path.{_≡_, refl, sym, ap, ap₂, _∙_, subst, subst₂}
-use mathlib.Core.List.{List, [], _∷_, _++_, append-nil}
+use Prim.Native.Nat.{ℕ, zero, suc, _+_, _≤_}
+use mathlib.Core.Path.{_≡_, refl, sym, ap, ap₂, _∙_, subst}
+use mathlib.Core.List.{List, [], _++_, append-nil}
 use native.Mathlib.Omega.{arith}
 use lib.ListN.{length, take, drop, replicate, length-drop}
 use lib.Seq.{take-at}
@@ -16,7 +16,7 @@ use Rattle.records.specs.Pairs.{pair-check, pair-read}
 use Rattle.program.specs.declared.Next.{Next}
 use Rattle.program.specs.declared.Next.the-variants.{On, Over}
 use Rattle.program.specs.declared.Step.{Step}
-use Rattle.program.specs.Program.{Said, venue-most, pair-most, beyond, venue-refused, said-of-venue, venue-said, pair-said, after-record, then-on, pairs, after-venue, output, frame, frame-length, after-frame, Says, text-room}
+use Rattle.program.specs.Program.{Said, venue-most, pair-most, beyond, venue-said, pair-said, then-on, pairs, after-venue, output, frame, frame-length, after-frame, Says, text-room}
 use Rattle.program.proofs.Frames.{venue-framed, venue-on, venue-taken, read-framed, cells-framed, pair-framed, pair-on, after-same, less-left}
 use Rattle.claims.specs.Program.{Pairs, last, next, Runs, ends, begins, Writes, OneStep, example-input, Silent, GoesOn, Begins}
 use Rattle.claims.proofs.Starred.{example-writes}

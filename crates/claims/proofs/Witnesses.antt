@@ -9,8 +9,6 @@ use lib.IntN.{pos}
 use lib.Ieee.{le, lt, ofInt, div, sub}
 use lib.ListN.{getD}
 use borrow.Author.Tests.{ltb-true}
-use denote.Ref.{RefT}
-use Rattle.cells.specs.declared.Axis.{Axis}
 use Rattle.cells.specs.declared.Axis.the-variants.{X, Y, Z}
 use Rattle.lines.specs.Lines.{six-line}
 use Rattle.lines.specs.Preference.{rule-1}

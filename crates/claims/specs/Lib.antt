@@ -13,3 +13,4 @@ pub mod Program
 pub mod Exports
 pub mod Ties
 pub mod Witnesses
+pub mod Headline

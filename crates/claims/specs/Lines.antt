@@ -1,5 +1,5 @@
 -- What is claimed of the 6-line and the 26-line, for every two ends P and Q and every order of preference r of the axes. Assumes nothing.
-use Prim.Native.Nat.{ℕ, zero, suc, _+_, _*_, _≤_, _<_}
+use Prim.Native.Nat.{ℕ, suc, _+_, _≤_, _<_}
 use mathlib.Core.Path.{_≡_}
 use mathlib.Core.Logic.{_↔_}
 use lib.IntN.{ℤ, pos, negsuc, _+ℤ_}
@@ -10,7 +10,7 @@ use Rattle.cells.specs.Touching.{on, apart, Touches}
 use Rattle.lines.specs.Steps.{Axis, X, Y, Z, Steps, total, stepped}
 use Rattle.lines.specs.Crossings.{next, place, before, InOrder, LastMade, MadeUpto}
 use Rattle.lines.specs.Preference.{Preference, rule-1}
-use Rattle.lines.specs.Lines.{differences, cell-of, centres, six-cell, six-line, longest, place-26, cell-26, line-26, InLimit}
+use Rattle.lines.specs.Lines.{differences, centres, six-cell, six-line, longest, place-26, cell-26, line-26, InLimit}
 use Rattle.lines.specs.Segment.{Share, InClosed, InOpen}
 use Rattle.lines.specs.Decisions.{decision, e-xy, e-xz, e-zy, values, by-signs, doubled, moved-values}
 

@@ -1,7 +1,6 @@
 -- The contracts of which the claims speak are those that the sources state: `Pre` and `Post` of a call are its `requires` and its `ensures` as the
 -- toolchain reads them, of the call's inputs a, its answer r and the memory at exit e. No public call asks for anything, and what each promises is
 -- the record of its name: with a weaker `ensures` or a `requires` in its source, this file's theorem fails. Assumes nothing.
-use Prim.Native.Nat.{ℕ}
 use lib.ListN.{length}
 use Rattle.cells.specs.Refusals.{NumberOf}
 use Rattle.cells.proofs.number.Reads as number

@@ -8,6 +8,7 @@ ghost use Rattle.grids.specs.Inside.{walk-check};
 ghost use Rattle.walks.specs.Answers.{Finds};
 ghost use Rattle.survey.specs.Survey.{Tested, placement-check};
 ghost use Rattle.sight.specs.Sight.{share-of, sight-of, if-fine, looked, Sees};
+use cells::Axis;
 use cells::Cell;
 use cells::Counts;
 use cells::End;
@@ -80,14 +81,14 @@ fn look(n: Counts, cells: &[u8], at: Placement, camera: Point, ball: Point) -> S
     let Lookup::Cell(p) = from else {
         return match from {
             Lookup::Refused(r) => Sight::Refused(r),
-            Lookup::Cell(_) => Sight::Clear,
+            Lookup::Cell(_) => Sight::Refused(Refusal::NotFinite(End::P, Axis::X)), // no cell gets here
         };
     };
     let to = survey::look_up(End::Q, n, at, ball);
     let Lookup::Cell(q) = to else {
         return match to {
             Lookup::Refused(r) => Sight::Refused(r),
-            Lookup::Cell(_) => Sight::Clear,
+            Lookup::Cell(_) => Sight::Refused(Refusal::NotFinite(End::Q, Axis::X)), // nor here
         };
     };
     sight_of(walked(n, cells, p, q))

@@ -1,0 +1,45 @@
+-- The three demands, from the claims. Assumes nothing.
+use Rattle.claims.specs.Headline.{TakesAnything, AreThePapers, TellOneStory}
+use Rattle.lines.specs.Preference.{rule-1}
+use Rattle.claims.proofs.Ties.{asks-nothing, promised}
+use Rattle.claims.proofs.Exports.{exports-once, refused-untouched}
+use Rattle.claims.proofs.Lists.{listed-once}
+use Rattle.claims.proofs.Lines.{six-line-holds, each-cell-touched, no-cell-missing, line-26-holds}
+use Rattle.claims.proofs.Grids as grids
+use Rattle.claims.proofs.Points as points
+use Rattle.claims.proofs.Records as records
+use Rattle.claims.proofs.Sights.{seen-once, nothing-in-sight}
+use Rattle.claims.proofs.Story.{hit-once, first-solid, one-story, never-invented}
+
+pub takes-anything : TakesAnything
+takes-anything =
+    record {
+      asks-nothing = asks-nothing;
+      promised = promised;
+      lists = listed-once;
+      grid-calls = grids.one-answer;
+      walks = hit-once;
+      cells = points.one-answer;
+      sights = seen-once;
+      record-calls = records.one-answer;
+      for-c = (exports-once, refused-untouched);
+    }
+
+pub are-the-papers : AreThePapers
+are-the-papers =
+    record {
+      six = six-line-holds rule-1;
+      touched = λ p q. each-cell-touched rule-1 p q .touched;
+      none-missing = λ p q. no-cell-missing rule-1 p q .found;
+      twenty-six = line-26-holds rule-1;
+      plain = first-solid;
+      read-back = λ n cells entry exit k. records.read-back-same n cells entry .same exit k;
+    }
+
+pub tell-one-story : TellOneStory
+tell-one-story =
+    record {
+      same = λ n l p q yes. one-story n l p q .story (grids.says-complete n l .yes yes);
+      clear = λ n l at camera ball yes. nothing-in-sight n l at camera ball .open-way (grids.says-complete n l .yes yes);
+      never-invented = λ n l p q k plain ha hp. let (h, is, place, order) = never-invented n l p q .plain-too k plain ha hp in (h, is, order);
+    }

@@ -1,0 +1,73 @@
+-- The users' three demands, a record each, in the words of the calls' contracts. A tester may read this page alone; each name leads to its file.
+-- Assumes nothing.
+use Prim.Native.Nat.{ℕ, _≤_}
+use mathlib.Core.Path.{_≡_}
+use mathlib.Core.List.{List, _++_}
+use lib.IntN.{ℤ}
+use lib.ListN.{take}
+use denote.Ref.{RefT}
+use Rattle.cells.specs.declared.Cell.{Cell}
+use Rattle.cells.specs.declared.Counts.{Counts}
+use Rattle.lines.specs.Steps.{total}
+use Rattle.lines.specs.Preference.{rule-1}
+use Rattle.lines.specs.Lines.{differences, six-cell}
+use Rattle.lines.specs.Segment.{Share, InOpen, InClosed}
+use Rattle.grids.specs.declared.Completeness.the-variants.{Yes}
+use Rattle.grids.specs.Grid.{solid}
+use Rattle.grids.specs.Marks.{Completes}
+use Rattle.walks.specs.declared.Walker.the-variants.{Plain, Adaptive}
+use Rattle.walks.specs.declared.Hit.{Hit}
+use Rattle.walks.specs.declared.FirstHit.{FirstHit}
+use Rattle.walks.specs.declared.FirstHit.the-variants.{Hit as Blocked}
+use Rattle.walks.specs.Answers.{Finds}
+use Rattle.survey.specs.declared.Placement.{Placement}
+use Rattle.survey.specs.declared.Point.{Point}
+use Rattle.sight.specs.declared.Sight.the-variants.{Clear as Open}
+use Rattle.sight.specs.Sight.{Sees}
+use Rattle.records.specs.declared.venues.VenueRead.{VenueRead}
+use Rattle.records.specs.declared.writing.Written.the-variants.{Wrote}
+use Rattle.records.specs.Venues.{ReadsVenue, GivesCells}
+use Rattle.records.specs.Writing.{WritesVenue}
+use Rattle.claims.specs.Ties.{AsksNothing, Promised}
+use Rattle.claims.specs.Exports.{ExportsOnce, RefusedUntouched}
+use Rattle.claims.specs.Lists.{ListedOnce}
+use Rattle.claims.specs.Lines.{SixLine, TwentySixLine}
+use Rattle.claims.specs.Grids as grids
+use Rattle.claims.specs.Points as points
+use Rattle.claims.specs.Records as records
+use Rattle.claims.specs.Sights.{SeenOnce, OpenWay}
+use Rattle.claims.specs.Story.{SameStory, NoLater, FirstSolid, HitOnce}
+
+-- 1. Every public call takes any numbers and any lent memory, and has one answer and one final memory for each input; a refusal writes nothing.
+-- (That it stops is part of every proof of a call.)
+pub record TakesAnything : Type 1 where
+  pub asks-nothing : AsksNothing
+  pub promised : Promised
+  pub lists : (line : List Cell) (p q : Cell) (entry : List ℤ) → ListedOnce line p q entry
+  pub grid-calls : grids.OneAnswer
+  pub walks : (n : Counts) (l : List ℕ) (p q : Cell) → HitOnce n l p q
+  pub cells : (n : Counts) (at : Placement) (p : Point) → points.OneAnswer n at p
+  pub sights : (n : Counts) (l : List ℕ) (at : Placement) (camera ball : Point) → SeenOnce n l at camera ball
+  pub record-calls : records.OneAnswer
+  pub for-c : ExportsOnce × RefusedUntouched
+
+-- 2. The lines and walks are the paper's, made exact: cells in the order of their crossings, from P to Q; each touched by the segment, and no cell
+-- missing whose inside the segment enters; the plain walk is the 6-line to its first solid cell. A venue written and read back is the same venue.
+pub record AreThePapers : Type 0 where
+  pub six : (p q : Cell) → SixLine rule-1 p q
+  pub touched : (p q : Cell) (n : ℕ) → n ≤ total (differences p q) → (k : ℕ) × (d : ℕ) × Share k d × InClosed p q k d (six-cell rule-1 p q n)
+  pub none-missing : (p q : Cell) (k d : ℕ) (c : Cell) → Share k d → InOpen p q k d c → (n : ℕ) × (n ≤ total (differences p q)) × (six-cell rule-1 p q n ≡ c)
+  pub twenty-six : (p q : Cell) → TwentySixLine rule-1 p q
+  pub plain : (n : Counts) (l : List ℕ) (p q : Cell) → FirstSolid n l p q
+  pub read-back : (n : Counts) (cells entry exit : List ℕ) (k : ℕ) → WritesVenue n cells entry (Wrote k) exit → (rest : List ℕ) (bytes part : RefT (List ℕ)) (r : VenueRead) →
+      bytes .now ≡ take k exit ++ rest → ReadsVenue (bytes .now) r → GivesCells bytes part → records.SameVenue n cells bytes part r
+
+-- 3. Where the completeness call says yes, the adaptive and the plain walk find the same first solid cell, code and place, or both none, and the
+-- adaptive one reads no more cells; and a clear sight has nothing solid in its way. In any grid whatever, an adaptive hit is a plain hit, there or
+-- before.
+pub record TellOneStory : Type 0 where
+  pub same : (n : Counts) (l : List ℕ) (p q : Cell) → Completes n l Yes → (plain adaptive : FirstHit) → Finds Plain n l p q plain →
+      Finds Adaptive n l p q adaptive → SameStory plain adaptive
+  pub clear : (n : Counts) (l : List ℕ) (at : Placement) (camera ball : Point) → Completes n l Yes → Sees n l at camera ball Open → OpenWay n l at camera ball
+  pub never-invented : (n : Counts) (l : List ℕ) (p q : Cell) (k : Hit) (plain : FirstHit) → Finds Adaptive n l p q (Blocked k) → Finds Plain n l p q plain →
+      (h : Hit) × (plain ≡ Blocked h) × NoLater p q (h .cell) (k .cell)
