@@ -82,7 +82,7 @@ fn walk_plain(cells: &[u8], k: Route, start: Spot) -> Stop
     ensures { λ r. ⌜ Stops (now (cells .entry)) k (going (now (cells .entry)) k Plain) r ⌝ }
 {
     let d = k.d;
-    let t = walk_faces(cells, k, start, 0, d.a + d.b + d.c);
+    let t = walk_faces(cells, k, start, 0, d.total());
     let spot = t.spot;
     if t.hit {
         return Stop {
@@ -159,7 +159,8 @@ pub fn walk_adaptive(cells: &[u8], k: Route, start: Spot) -> Stop
     requires { ⌜ Planned (length (now cells)) k × SpotAt k (at 0 0 0) start ⌝ }
     ensures { λ r. ⌜ Stops (now (cells .entry)) k (going (now (cells .entry)) k Adaptive) r ⌝ }
 {
-    let long = tripod::longest_axis(k.d);
+    let d = k.d;
+    let long = d.longest_axis();
     let h = runs::slope_of(k, long);
     let mut t = Reach {
         spot: start,

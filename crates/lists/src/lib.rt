@@ -188,7 +188,7 @@ fn fill6(out: &mut [i32], p: Cell, q: Cell, d: Diffs)
     let w = way_of(p, q, d);
     let e = tripod::first_values(d);
     let mut s = Spot { at: p, e: e };
-    let crossings = d.a + d.b + d.c;
+    let crossings = d.total();
     let mut m: u32 = 0;
     let mut at: usize = 0;
     while m < crossings {
@@ -313,17 +313,6 @@ fn fill26(out: &mut [i32], p: Cell, q: Cell, d: Diffs, last: u32)
     put(out, at, q);
 }
 
-// The longest of the differences.
-fn longest_of(d: Diffs) -> u32
-    ensures { λ r. ⌜ r ≡ longest (steps d) ⌝ }
-{
-    if d.a < d.b {
-        if d.b < d.c { d.c } else { d.b }
-    } else {
-        if d.a < d.c { d.c } else { d.a }
-    }
-}
-
 // The 6-line from p to q.
 pub fn line6(p: Cell, q: Cell, out: &mut [i32]) -> Listed
     ensures { λ r. ⌜ Line6 p q (now (out .entry)) r (now (out .exit)) ⌝ }
@@ -332,7 +321,7 @@ pub fn line6(p: Cell, q: Cell, out: &mut [i32]) -> Listed
         Verdict::Refused(r) => Listed::Refused(r),
         Verdict::Fine => {
             let d = tripod::measured(p, q);
-            let cells = d.a + d.b + d.c + 1;
+            let cells = d.total() + 1;
             if out.len() < 3 * (cells as usize) {
                 Listed::Refused(Refusal::Room)
             } else {
@@ -351,7 +340,7 @@ pub fn line26(p: Cell, q: Cell, out: &mut [i32]) -> Listed
         Verdict::Refused(r) => Listed::Refused(r),
         Verdict::Fine => {
             let d = tripod::measured(p, q);
-            let last = longest_of(d);
+            let last = d.longest();
             let count = last + 1;
             if out.len() < 3 * (count as usize) {
                 Listed::Refused(Refusal::Room)

@@ -50,27 +50,16 @@ fn both(s: bool, t: bool) -> bool
     if s { t } else { false }
 }
 
-// The number along an axis.
-fn along(d: Diffs, n: Axis) -> u32
-    ensures { λ r. ⌜ r ≡ steps d n ⌝ }
-{
-    match n {
-        Axis::X => d.a,
-        Axis::Y => d.b,
-        Axis::Z => d.c,
-    }
-}
-
 // The place of a hit after t steps of d.
 pub fn place_after(d: Diffs, t: Diffs) -> Place
     requires { ⌜ Short d × Short t ⌝ }
     ensures { λ r. ⌜ r ≡ entered (steps d) (steps t) ⌝ }
 {
-    if t.a + t.b + t.c == 0 {
+    if t.total() == 0 {
         return Place { num: 0, den: 1 };
     }
     let n = last_made(d, t);
-    let num = numerator_of(along(t, n));
-    let den = 2 * along(d, n);
+    let num = numerator_of(t.along(n));
+    let den = 2 * d.along(n);
     Place { num: num, den: den }
 }

@@ -2,7 +2,7 @@
 ghost use mathlib.Core.Path.{_≡_};
 ghost use Prim.Native.Nat.{_≤_};
 ghost use Rattle.cells.specs.Touching.{apart};
-ghost use Rattle.lines.specs.Steps.{at};
+ghost use Rattle.lines.specs.Steps.{at, total};
 ghost use Rattle.lines.specs.Lines.{differences, longest, in-limit, InLimit};
 ghost use Rattle.lines.specs.Decisions.{values, doubled, moved-values};
 ghost use Rattle.tripod.specs.Tripod.{steps, Short, SmallTripod, SmallDoubled, NextFace, LongMoves};
@@ -24,6 +24,49 @@ pub struct Moves {
     pub x: bool,
     pub y: bool,
     pub z: bool,
+}
+
+impl Diffs {
+    // The number along an axis.
+    pub fn along(self, n: Axis) -> u32
+        ensures { λ r. ⌜ r ≡ steps self n ⌝ }
+    {
+        match n {
+            Axis::X => self.a,
+            Axis::Y => self.b,
+            Axis::Z => self.c,
+        }
+    }
+
+    // An axis with the longest of the three.
+    pub fn longest_axis(self) -> Axis
+        ensures { λ r. ⌜ steps self r ≡ longest (steps self) ⌝ }
+    {
+        if self.a < self.b {
+            if self.b < self.c { Axis::Z } else { Axis::Y }
+        } else {
+            if self.a < self.c { Axis::Z } else { Axis::X }
+        }
+    }
+
+    // The longest of the three.
+    pub fn longest(self) -> u32
+        ensures { λ r. ⌜ r ≡ longest (steps self) ⌝ }
+    {
+        if self.a < self.b {
+            if self.b < self.c { self.c } else { self.b }
+        } else {
+            if self.a < self.c { self.c } else { self.a }
+        }
+    }
+
+    // Their sum.
+    pub fn total(self) -> u32
+        requires { ⌜ Short self ⌝ }
+        ensures { λ r. ⌜ r ≡ total (steps self) ⌝ }
+    {
+        self.a + self.b + self.c
+    }
 }
 
 // How far apart two coordinates are.
@@ -119,17 +162,6 @@ pub fn moved(e: Tripod, d: Doubled, n: Axis) -> Tripod
             xz: xz - d.a2,
             zy: zy + d.b2,
         },
-    }
-}
-
-// The axis with the longest difference.
-pub fn longest_axis(d: Diffs) -> Axis
-    ensures { λ r. ⌜ steps d r ≡ longest (steps d) ⌝ }
-{
-    if d.a < d.b {
-        if d.b < d.c { Axis::Z } else { Axis::Y }
-    } else {
-        if d.a < d.c { Axis::Z } else { Axis::X }
     }
 }
 

@@ -27,12 +27,12 @@ slope-of-requires : tie.Need-slope-of-requires Inv-loop μ-loop
 slope-of-requires c κs = search needs
 
 -- the number of the last cell of the 26-line
-last-there : (c : tie.After-slope-of Inv-loop μ-loop) → let k = c .before .before .before .args .k in c .slope-of .result .last ≡ longest (differences (k .p) (k .q))
-last-there c = ap (λ h. h .last) (c .slope-of .ensures) ∙ c .before .longest-axis .ensures ∙ ap longest (c .before .before .before .pre .0 .is)
+last-there : (c : tie.After-slope-of Inv-loop μ-loop) → let k = c .before .before .before .before .args .k in c .slope-of .result .last ≡ longest (differences (k .p) (k .q))
+last-there c = ap (λ h. h .last) (c .slope-of .ensures) ∙ c .before .longest-axis .ensures ∙ ap longest (c .before .before .before .before .pre .0 .is)
 
 loop-holds : tie.Need-loop-holds Inv-loop μ-loop
 loop-holds c =
-    let s = c .before .before .before in
+    let s = c .before .before .before .before in
     let l = s .args .cells .now in
     let k = s .args .k in
     (omega arith, subst (λ j. Walking l k (going l k Adaptive) j 0 (s .args .start)) (sym (first-26 _ k (s .pre .0) l)) (walk-starts _ k (s .pre .0) l (going l k Adaptive) (s .args .start) (s .pre .1)))
@@ -40,11 +40,11 @@ loop-holds c =
 -- at a cell of the 26-line that is not the last
 here : (c : tie.Then1 Inv-loop μ-loop) →
     let a = c .before .before .before in
-    let s = a .before .before .before .before in
+    let s = a .before .before .before .before .before in
     CanGo (s .args .cells .now) (s .args .k) (a .before .before .longest-axis .result) (a .loop .t .spot) (a .loop .t .reads) (a .loop .t .m)
 here c =
     let a = c .before .before .before in
-    let s = a .before .before .before .before in
+    let s = a .before .before .before .before .before in
     record {
       plan = s .pre .0;
       long = a .before .before .longest-axis .ensures;
@@ -56,7 +56,7 @@ next-26-requires c κs = (here c, c .before .before .before .before .slope-of .e
 
 returns : tie.Need-returns Inv-loop μ-loop
 returns c =
-    let s = c .before .before .before .before .before .before .before .before .before .before in
+    let s = c .before .before .before .before .before .before .before .before .before .before .before in
     outcome-stopped (s .args .cells .now) (s .args .k) _ _ _ _ _ (c .before .before .next-26 .ensures .came) (c .before .if2 .taken)
 
 loop-less : tie.Need-loop-less Inv-loop μ-loop
@@ -66,21 +66,21 @@ loop-less c =
 
 loop-again : tie.Need-loop-again Inv-loop μ-loop
 loop-again c =
-    let s = c .before .before .before .before .before .before .before .before .before in
+    let s = c .before .before .before .before .before .before .before .before .before .before in
     let r = c .before .next-26 .ensures in
     (omega (arith, r .most, last-there (c .before .before .before .before .before .before)), outcome-walking (s .args .cells .now) (s .args .k) _ _ _ _ _ (r .came) (c .if2 .left))
 
-add-t10 : tie.Need-add-t10 Inv-loop μ-loop
-add-t10 c =
+add-t11 : tie.Need-add-t11 Inv-loop μ-loop
+add-t11 c =
     let a = c .before .before .before .before .before in
-    let s = a .before .before .before .before in
+    let s = a .before .before .before .before .before in
     let w = a .loop .inv .1 in
     record { fits = omega (arith, w .on .few, w .on .most, short-at _ (s .args .k) (s .pre .0) X, short-at _ (s .args .k) (s .pre .0) Y, short-at _ (s .args .k) (s .pre .0) Z) }
 
 returns-2 : tie.Need-returns-2 Inv-loop μ-loop
 returns-2 c =
     let a = c .before .before .before .before .before in
-    let s = a .before .before .before .before in
+    let s = a .before .before .before .before .before in
     let k = s .args .k in
     let m : a .loop .t .m ≡ longest (differences (k .p) (k .q)) = both-ways _ _ (omega (arith, a .loop .inv .0, last-there (a .before))) (omega (arith, c .before .before .if1 .left, last-there (a .before))) in
     at-end _ k (s .pre .0) (s .args .cells .now) _ _ _ _ (a .loop .inv .1) (ap (number-26 (k .p) (k .q)) m ∙ last-26 _ k (s .pre .0) (s .args .cells .now))
@@ -98,5 +98,5 @@ walk-adaptive-spec =
     returns
     loop-less
     loop-again
-    add-t10
+    add-t11
     returns-2)

@@ -1,9 +1,10 @@
 -- `lists::fill6` meets its contract. The invariant: m cells are stored, and s is the spot of place m; a turn stores one more and crosses the face that
 -- comes next. The measure is how many crossings are left. Assumes nothing.
 use mathlib.Core.Path.{refl, sym, ap, _∙_, subst}
-use Prim.Native.Nat.{_+_, _-_}
+use Prim.Native.Nat.{_+_, _-_, _*_, _≤_}
 use native.Mathlib.Omega.{arith}
 use borrow.Author.Needs.{needs}
+use lib.ListN.{length}
 use Rattle.lines.specs.Steps.{at, total}
 use Rattle.lines.specs.Preference.{rule-1}
 use Rattle.lines.specs.Lines.{differences, six-cell}
@@ -32,18 +33,19 @@ way-of-requires c κs = search needs
 first-values-requires : tie.Need-first-values-requires Inv-loop μ-loop
 first-values-requires c κs = search needs
 
-add-crossings : tie.Need-add-crossings Inv-loop μ-loop
-add-crossings c = search needs
+total-requires : tie.Need-total-requires Inv-loop μ-loop
+total-requires c κs = search needs
 
-add-crossings-2 : tie.Need-add-crossings-2 Inv-loop μ-loop
-add-crossings-2 c = search needs
+-- there is room for that many cells
+room : (c : tie.After-total Inv-loop μ-loop) → let s = c .before .before .before in 3 * (c .total .result + 1) ≤ length (s .args .out .now)
+room c = omega (arith, c .total .ensures, c .before .before .before .pre .1)
 
 loop-holds : tie.Need-loop-holds Inv-loop μ-loop
 loop-holds c =
-    let s = c .before .before .before .before in
+    let s = c .before .before .before in
     let p = s .args .p in
     let q = s .args .q in
-    (filled-none (six-cell rule-1 p q) _ _, spot-start p q (place (C p q) 0) _ (place-start (C p q)) refl (c .before .before .first-values .ensures ∙ ap (λ D. values D (at 0 0 0)) (s .pre .0 .is)))
+    (filled-none (six-cell rule-1 p q) _ _, spot-start p q (place (C p q) 0) _ (place-start (C p q)) refl (c .before .first-values .ensures ∙ ap (λ D. values D (at 0 0 0)) (s .pre .0 .is)))
 
 put-requires : tie.Need-put-requires Inv-loop μ-loop
 put-requires c κs = search needs
@@ -54,9 +56,9 @@ next-face-requires c κs = search needs
 crossed-requires : tie.Need-crossed-requires Inv-loop μ-loop
 crossed-requires c κs =
     let l = c .before .before .before .before .before in
-    let s = l .before .before .before .before .before in
+    let s = l .before .before .before .before in
     let k = s .pre .0 in
-    can-cross (s .args .p) (s .args .q) _ (l .before .before .before .before .way-of .ensures) (k .p-in) (k .q-in) _ _
+    can-cross (s .args .p) (s .args .q) _ (l .before .before .before .way-of .ensures) (k .p-in) (k .q-in) _ _
     (place-on (C (s .args .p) (s .args .q)) (centres-good rule-1 (differences (s .args .p) (s .args .q))) (l .loop .m) (omega (arith, ap total (k .is))) .1)
     (l .loop .inv .1)
 
@@ -72,14 +74,14 @@ loop-less c = search needs
 loop-again : tie.Need-loop-again Inv-loop μ-loop
 loop-again c =
     let l = c .before .before .before .before .before .before in
-    let s = l .before .before .before .before .before in
+    let s = l .before .before .before .before in
     let k = s .pre .0 in
     let p = s .args .p in
     let q = s .args .q in (
-      filled-one (six-cell rule-1 p q) _ _ (s .pre .1) _ _ _ (l .loop .m) _ (l .loop .inv .0) (omega arith) (c .before .before .before .put .ensures)
+      filled-one (six-cell rule-1 p q) _ _ (room (l .before)) _ _ _ (l .loop .m) _ (l .loop .inv .0) (omega arith) (c .before .before .before .put .ensures)
           (l .loop .inv .1 .cell ∙ sym (six-is rule-1 p q (l .loop .m))),
       subst (SpotAt p q (place (C p q) (l .loop .m + 1))) (sym (c .crossed .ensures))
-          (six-turn p q _ (l .before .before .before .before .way-of .ensures) (l .loop .m) (l .loop .s) _ (omega (arith, ap total (k .is))) (l .loop .inv .1) (c .before .next-face .ensures)),
+          (six-turn p q _ (l .before .before .before .way-of .ensures) (l .loop .m) (l .loop .s) _ (omega (arith, ap total (k .is))) (l .loop .inv .1) (c .before .next-face .ensures)),
     )
 
 put-requires-2 : tie.Need-put-requires-2 Inv-loop μ-loop
@@ -91,12 +93,12 @@ same-length c = search needs
 returns : tie.Need-returns Inv-loop μ-loop
 returns c =
     let l = c .before .before .before .before in
-    let s = l .before .before .before .before .before in
+    let s = l .before .before .before .before in
     let k = s .pre .0 in
     let p = s .args .p in
     let q = s .args .q in
-    let e = ap total (k .is) in
-    filled-last (six-cell rule-1 p q) _ _ (s .pre .1) _ _ q (l .loop .m) _ (l .loop .inv .0) (omega arith)
+    let e = l .before .total .ensures ∙ ap total (k .is) in
+    filled-last (six-cell rule-1 p q) _ _ (room (l .before)) _ _ q (l .loop .m) _ (l .loop .inv .0) (omega arith)
     (ap (six-cell rule-1 p q) e ∙ six-end rule-1 p q) (c .before .put2 .ensures)
     ∙ ap (λ n. filled (tabulate (six-cell rule-1 p q) (n + 1)) (s .args .out .now)) e ∙ ap (λ x. filled x (s .args .out .now)) (sym (six-line-is rule-1 p q))
 
@@ -108,8 +110,7 @@ fill6-spec =
     μ-loop
     way-of-requires
     first-values-requires
-    add-crossings
-    add-crossings-2
+    total-requires
     loop-holds
     put-requires
     next-face-requires

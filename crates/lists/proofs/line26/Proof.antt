@@ -26,16 +26,16 @@ fine : (c : tie.After-enum-told) → ends-check (c .before .before .before .args
 fine c = sym (c .before .before .check-ends .ensures) ∙ c .enum-told .given .1
 
 -- the last cell's number
-count : (c : tie.After-longest-of) →
+count : (c : tie.After-longest) →
     let s = c .before .before .before .before .before in
-    longest (differences (s .args .p) (s .args .q)) ≡ c .longest-of .result
-count c = sym (c .longest-of .ensures ∙ ap longest (c .before .measured .ensures .0))
+    longest (differences (s .args .p) (s .args .q)) ≡ c .longest .result
+count c = sym (c .longest .ensures ∙ ap longest (c .before .measured .ensures .0))
 
 measured-requires : tie.Need-measured-requires
 measured-requires c κs = ends-fine _ _ (fine c)
 
-longest-of-requires : tie.Need-longest-of-requires
-longest-of-requires c κs = search needs
+longest-requires : tie.Need-longest-requires
+longest-requires c κs = search needs
 
 add-count : tie.Need-add-count
 add-count c = search needs
@@ -51,7 +51,7 @@ fill26-requires c κs =
     let a = c .before .before in
     let m = a .before in
     let (hp, hq) = ends-fine _ _ (fine (m .before)) in
-    (record { p-in = hp; q-in = hq; is = m .measured .ensures .0; short = m .measured .ensures .1 }, a .longest-of .ensures, omega arith)
+    (record { p-in = hp; q-in = hq; is = m .measured .ensures .0; short = m .measured .ensures .1 }, a .longest .ensures, omega arith)
 
 returns : tie.Need-returns
 returns c =
@@ -87,7 +87,7 @@ line26-spec =
     enum-known-r
     enum-told
     measured-requires
-    longest-of-requires
+    longest-requires
     add-count
     cast-if1
     mul-if1

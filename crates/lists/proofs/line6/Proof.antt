@@ -28,22 +28,19 @@ fine : (c : tie.After-enum-told) → ends-check (c .before .before .before .args
 fine c = sym (c .before .before .check-ends .ensures) ∙ c .enum-told .given .1
 
 -- how many cells there are
-count : (c : tie.After-measured) →
-    let s = c .before .before .before .before in
-    total (differences (s .args .p) (s .args .q)) ≡ c .measured .result .a + c .measured .result .b + c .measured .result .c
-count c = sym (ap total (c .measured .ensures .0))
+count : (c : tie.After-total) →
+    let s = c .before .before .before .before .before in
+    total (differences (s .args .p) (s .args .q)) ≡ c .total .result
+count c = sym (c .total .ensures ∙ ap total (c .before .measured .ensures .0))
 
 measured-requires : tie.Need-measured-requires
 measured-requires c κs = ends-fine _ _ (fine c)
 
+total-requires : tie.Need-total-requires
+total-requires c κs = search needs
+
 add-cells : tie.Need-add-cells
 add-cells c = search needs
-
-add-cells-2 : tie.Need-add-cells-2
-add-cells-2 c = search needs
-
-add-cells-3 : tie.Need-add-cells-3
-add-cells-3 c = search needs
 
 cast-if1 : tie.Need-cast-if1
 cast-if1 c = search needs
@@ -53,7 +50,7 @@ mul-if1 c = search needs
 
 fill6-requires : tie.Need-fill6-requires
 fill6-requires c κs =
-    let m = c .before .before .before .before in
+    let m = c .before .before .before in
     let (hp, hq) = ends-fine _ _ (fine (m .before)) in
     (record { p-in = hp; q-in = hq; is = m .measured .ensures .0; short = m .measured .ensures .1 }, omega arith)
 
@@ -64,22 +61,24 @@ returns c =
 
 returns-2 : tie.Need-returns-2
 returns-2 c =
-    let m = c .before .before .before in
+    let a = c .before in
+    let m = a .before in
     let s = m .before .before .before .before in
     refused-room (six-line rule-1 (s .args .p) (s .args .q)) (s .args .p) (s .args .q) (s .args .out .now) (fine (m .before))
-    (omega (arith, six-length rule-1 (s .args .p) (s .args .q), count m))
+    (omega (arith, six-length rule-1 (s .args .p) (s .args .q), count a))
 
 same-length : tie.Need-same-length
 same-length c = search needs
 
 returns-3 : tie.Need-returns-3
 returns-3 c =
-    let m = c .before .before .before .before .before .before in
+    let a = c .before .before .before .before in
+    let m = a .before in
     let s = m .before .before .before .before in
     let p = s .args .p in
     let q = s .args .q in
-    subst (λ n. Line6 p q (s .args .out .now) (Cells n) (c .before .fill6 .last .0)) (six-length rule-1 p q ∙ ap (λ k. k + 1) (count m))
-    (listed-all (six-line rule-1 p q) p q (s .args .out .now) _ (fine (m .before)) (omega (arith, six-length rule-1 p q, count m)) (c .before .fill6 .ensures))
+    subst (λ n. Line6 p q (s .args .out .now) (Cells n) (c .before .fill6 .last .0)) (six-length rule-1 p q ∙ ap (λ k. k + 1) (count a))
+    (listed-all (six-line rule-1 p q) p q (s .args .out .now) _ (fine (m .before)) (omega (arith, six-length rule-1 p q, count a)) (c .before .fill6 .ensures))
 
 pub line6-spec : {M : Type 1} → statement M
 line6-spec =
@@ -89,9 +88,8 @@ line6-spec =
     enum-known-r
     enum-told
     measured-requires
+    total-requires
     add-cells
-    add-cells-2
-    add-cells-3
     cast-if1
     mul-if1
     fill6-requires

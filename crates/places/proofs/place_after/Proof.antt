@@ -1,5 +1,5 @@
 -- `places::place_after` meets its contract: with no step made the cell is P, else the last crossing made is that of the axis found. Assumes nothing.
-use mathlib.Core.Path.{ap, _∙_}
+use mathlib.Core.Path.{sym, ap, _∙_}
 use Prim.Native.Nat.{_*_}
 use native.Mathlib.Omega.{arith}
 use borrow.Author.Needs.{needs}
@@ -10,15 +10,12 @@ use Rattle.places.specs.Entered.{numerator, entered}
 use Rattle.places.proofs.place_after.Statement.{statement}
 use Rattle.places.proofs.place_after.Tie as tie
 
-add-if1 : tie.Need-add-if1
-add-if1 c = search needs
-
-add-if1-2 : tie.Need-add-if1-2
-add-if1-2 c = search needs
+total-requires : tie.Need-total-requires
+total-requires c κs = search needs
 
 returns : tie.Need-returns
 unfolding entered
-returns c = rw (eq-eqb _ _ (c .if1 .taken))
+returns c = rw (eq-eqb _ _ (sym (c .before .total .ensures) ∙ c .if1 .taken))
 
 last-made-requires : tie.Need-last-made-requires
 last-made-requires c κs = search needs
@@ -28,7 +25,7 @@ along-requires c κs = search needs
 
 numerator-of-requires : tie.Need-numerator-of-requires
 numerator-of-requires c κs =
-    let s = c .before .before .before .before .before in
+    let s = c .before .before .before .before in
     omega (arith, c .along .ensures, short-at (s .args .t) (s .pre .1) (c .before .last-made .result))
 
 along-requires-2 : tie.Need-along-requires-2
@@ -36,24 +33,23 @@ along-requires-2 c κs = search needs
 
 mul-den : tie.Need-mul-den
 mul-den c =
-    let s = c .before .before .before .before .before .before .before in
+    let s = c .before .before .before .before .before .before in
     record { fits = omega (arith, c .along2 .ensures, short-at (s .args .d) (s .pre .0) (c .before .before .before .last-made .result)) }
 
 returns-2 : tie.Need-returns-2
 unfolding entered
 returns-2 c =
-    let s = c .before .before .before .before .before .before .before in
+    let s = c .before .before .before .before .before .before in
     let n = c .before .before .before .last-made .ensures in
     let num = c .before .numerator-of .ensures ∙ ap numerator (c .before .before .along .ensures ∙ ap (steps (s .args .t)) n) in
     let den = c .along2 .ensures ∙ ap (steps (s .args .d)) n in
-    rw (ne-eqb _ _ (c .before .before .before .before .if1 .left)) (λ i. record { num = num i; den = 2 * den i })
+    rw (ne-eqb _ _ (λ e. c .before .before .before .before .if1 .left (c .before .before .before .before .before .total .ensures ∙ e))) (λ i. record { num = num i; den = 2 * den i })
 
 pub place-after-spec : {M : Type 1} → statement M
 place-after-spec =
     tie.close
     (tie.spec
-    add-if1
-    add-if1-2
+    total-requires
     returns
     last-made-requires
     along-requires
