@@ -18,10 +18,10 @@ use Rattle.lines.proofs.Fractions.{place-suc, place-on, place-total}
 use Rattle.lines.proofs.Centres.{centres-good}
 use Rattle.lines.proofs.Cells.{cell-start}
 use Rattle.tripod.specs.Tripod.{NextFace}
-use Rattle.lists.specs.declared.Way.{Way}
-use Rattle.lists.specs.declared.Spot.{Spot}
+use Rattle.lists.specs.declared.six.SixWay.{SixWay}
+use Rattle.lists.specs.declared.six.SixSpot.{SixSpot}
 use Rattle.lists.specs.Lists.{filled}
-use Rattle.lists.specs.Way.{WayOf, SpotAt, put3, crossed-spot}
+use Rattle.lists.specs.Way.{WayOf, SixSpotAt, put3, crossed-six}
 use Rattle.lists.proofs.Line.{spot-crossed}
 use Rattle.lists.proofs.Front.{front, put-next, front-filled}
 
@@ -58,7 +58,7 @@ module _ (f : ℕ → Cell) (last : ℕ) (out₀ : List ℤ) (room : 3 * (last +
 -- ---- the 6-line
 
 -- at the start
-pub spot-start : (p q : Cell) (t : Steps) (s : Spot) → ((a : Axis) → t a ≡ 0) → s .at ≡ p → s .e ≡ values (differences p q) (at 0 0 0) → SpotAt p q t s
+pub spot-start : (p q : Cell) (t : Steps) (s : SixSpot) → ((a : Axis) → t a ≡ 0) → s .at ≡ p → s .e ≡ values (differences p q) (at 0 0 0) → SixSpotAt p q t s
 spot-start p q t s z e v =
     record {
       cell = e ∙ sym (cell-start p q t z);
@@ -73,11 +73,11 @@ spot-start p q t s z e v =
 abbrev pub C : Cell → Cell → Course
 C p q = centres rule-1 (differences p q)
 
-module _ (p q : Cell) (w : Way) (way : WayOf p q w) where
+module _ (p q : Cell) (w : SixWay) (way : WayOf p q w) where
   pub six-turn :
-      (m : ℕ) (s : Spot) (n : Axis) → m < total (differences p q) → SpotAt p q (place (C p q) m) s → NextFace (s .e) n → SpotAt p q (place (C p q) (m + 1)) (crossed-spot w n s)
+      (m : ℕ) (s : SixSpot) (n : Axis) → m < total (differences p q) → SixSpotAt p q (place (C p q) m) s → NextFace (s .e) n → SixSpotAt p q (place (C p q) (m + 1)) (crossed-six w n s)
   six-turn m s n lt h face =
       let (on, wi) = place-on (C p q) (centres-good rule-1 (differences p q)) m (omega arith) in
       let t = place (C p q) m in
       let e : n ≡ next (C p q) t = face .comes-first (differences p q) t wi (omega (arith, place-total (C p q) m)) (h .value) in
-      subst (λ u. SpotAt p q u (crossed-spot w n s)) (ap (bump t) e ∙ sym (place-suc (C p q) m) ∙ ap (place (C p q)) (sym (add-one m))) (spot-crossed p q w way t s n h)
+      subst (λ u. SixSpotAt p q u (crossed-six w n s)) (ap (bump t) e ∙ sym (place-suc (C p q) m) ∙ ap (place (C p q)) (sym (add-one m))) (spot-crossed p q w way t s n h)

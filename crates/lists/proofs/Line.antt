@@ -19,9 +19,9 @@ use Rattle.lines.proofs.Steps.{bump}
 use Rattle.lines.proofs.Cells.{limited-difference}
 use Rattle.lines.proofs.Signs.{step-moves}
 use Rattle.tripod.proofs.Laws.{limit-parts, place-small, doubled-small}
-use Rattle.lists.specs.declared.Way.{Way}
-use Rattle.lists.specs.declared.Spot.{Spot}
-use Rattle.lists.specs.Way.{unit, heading, stepped-cell, WayOf, SpotAt, crossed-spot, CanCross}
+use Rattle.lists.specs.declared.six.SixWay.{SixWay}
+use Rattle.lists.specs.declared.six.SixSpot.{SixSpot}
+use Rattle.lists.specs.Way.{unit, heading, stepped-cell, WayOf, SixSpotAt, crossed-six, CanCrossSix}
 
 -- ---- one axis
 
@@ -67,9 +67,9 @@ stepped-on p q t X = λ i. record { x = towards-next (p .x) (q .x) (t X) i; y = 
 stepped-on p q t Y = λ i. record { x = towards-kept (p .x) (q .x) (t X) i; y = towards-next (p .y) (q .y) (t Y) i; z = towards-kept (p .z) (q .z) (t Z) i }
 stepped-on p q t Z = λ i. record { x = towards-kept (p .x) (q .x) (t X) i; y = towards-kept (p .y) (q .y) (t Y) i; z = towards-next (p .z) (q .z) (t Z) i }
 
-module _ (p q : Cell) (w : Way) (way : WayOf p q w) where
+module _ (p q : Cell) (w : SixWay) (way : WayOf p q w) where
   -- across a face along n lies the spot of the place one step further
-  pub spot-crossed : (t : Steps) (s : Spot) (n : Axis) → SpotAt p q t s → SpotAt p q (bump t n) (crossed-spot w n s)
+  pub spot-crossed : (t : Steps) (s : SixSpot) (n : Axis) → SixSpotAt p q t s → SixSpotAt p q (bump t n) (crossed-six w n s)
   spot-crossed t s n h =
       record {
         cell = ap₂ (λ d c. stepped-cell d n c) (way .towards) (h .cell) ∙ stepped-on p q t n;
@@ -77,7 +77,7 @@ module _ (p q : Cell) (w : Way) (way : WayOf p q w) where
       }
 
   -- at a place of a line within the limit every sum of a step fits
-  pub can-cross : InLimit p → InLimit q → (t : Steps) (s : Spot) → ((a : Axis) → t a ≤ differences p q a) → SpotAt p q t s → CanCross s w
+  pub can-cross : InLimit p → InLimit q → (t : Steps) (s : SixSpot) → ((a : Axis) → t a ≤ differences p q a) → SixSpotAt p q t s → CanCrossSix s w
   can-cross hp hq t s le h =
       record {
         cells = rw (h .cell, way .towards) (record { x = coordinate X; y = coordinate Y; z = coordinate Z; hx = unit-small (p .x) (q .x); hy = unit-small (p .y) (q .y); hz = unit-small (p .z) (q .z) });

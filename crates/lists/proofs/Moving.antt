@@ -20,9 +20,9 @@ use Rattle.lines.specs.Lines.{differences, longest, moved-26, cell-26, in-limit
 use Rattle.lines.proofs.Cells.{is-26, limited-difference}
 use Rattle.lines.proofs.Centres.{longest-most, moved-start, moved-within, moves-iff, else-stays, moved-near}
 use Rattle.lines.proofs.Towards.{towards-start}
-use Rattle.lists.specs.declared.Pace.{Pace}
-use Rattle.lists.specs.declared.Coordinate.{Coordinate}
-use Rattle.lists.specs.declared.Coordinates.{Coordinates}
+use Rattle.lists.specs.declared.twenty_six.Pace.{Pace}
+use Rattle.lists.specs.declared.twenty_six.Coordinate.{Coordinate}
+use Rattle.lists.specs.declared.twenty_six.Coordinates.{Coordinates}
 use Rattle.lists.specs.Way.{unit, pace, first-of, next-of, CanMove, paces, firsts, nexts, CanMoves, cell-at}
 use Rattle.lists.proofs.Line.{towards-next, towards-small, unit-small}
 

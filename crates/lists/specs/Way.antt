@@ -13,13 +13,13 @@ use Rattle.lines.specs.Lines.{differences, longest, cell-of, InLimit}
 use Rattle.lines.specs.Decisions.{values, doubled, moved-values}
 use Rattle.tripod.specs.declared.Diffs.{Diffs}
 use Rattle.tripod.specs.Tripod.{steps, Short, SmallTripod, SmallDoubled}
-use Rattle.lists.specs.declared.Heading.{Heading}
-use Rattle.lists.specs.declared.Way.{Way}
-use Rattle.lists.specs.declared.Spot.{Spot}
-use Rattle.lists.specs.declared.Pace.{Pace}
-use Rattle.lists.specs.declared.Coordinate.{Coordinate}
-use Rattle.lists.specs.declared.Paces.{Paces}
-use Rattle.lists.specs.declared.Coordinates.{Coordinates}
+use Rattle.lists.specs.declared.six.Heading.{Heading}
+use Rattle.lists.specs.declared.six.SixWay.{SixWay}
+use Rattle.lists.specs.declared.six.SixSpot.{SixSpot}
+use Rattle.lists.specs.declared.twenty_six.Pace.{Pace}
+use Rattle.lists.specs.declared.twenty_six.Coordinate.{Coordinate}
+use Rattle.lists.specs.declared.twenty_six.Paces.{Paces}
+use Rattle.lists.specs.declared.twenty_six.Coordinates.{Coordinates}
 
 -- one cell from p towards q
 abbrev pub unit : ℤ → ℤ → ℤ
@@ -44,21 +44,21 @@ pub record CanStep (c : Cell) (h : Heading) : Type 0 where
   pub hz : Small (h .z)
 
 -- the way from p to q
-pub record WayOf (p q : Cell) (w : Way) : Type 0 where
+pub record WayOf (p q : Cell) (w : SixWay) : Type 0 where
   pub towards : w .towards ≡ heading p q
   pub twice : w .twice ≡ doubled (differences p q)
 
 -- the spot of a place of the line from p to q
-pub record SpotAt (p q : Cell) (t : Steps) (s : Spot) : Type 0 where
+pub record SixSpotAt (p q : Cell) (t : Steps) (s : SixSpot) : Type 0 where
   pub cell : s .at ≡ cell-of p q t
   pub value : s .e ≡ values (differences p q) t
 
 -- the place across the next face along n
-abbrev pub crossed-spot : Way → Axis → Spot → Spot
-crossed-spot w n s = record { at = stepped-cell (w .towards) n (s .at); e = moved-values (w .twice) n (s .e) }
+abbrev pub crossed-six : SixWay → Axis → SixSpot → SixSpot
+crossed-six w n s = record { at = stepped-cell (w .towards) n (s .at); e = moved-values (w .twice) n (s .e) }
 
 -- what a step asks: every sum fits
-pub record CanCross (s : Spot) (w : Way) : Type 0 where
+pub record CanCrossSix (s : SixSpot) (w : SixWay) : Type 0 where
   pub cells : CanStep (s .at) (w .towards)
   pub values : SmallTripod (s .e)
   pub twice : SmallDoubled (w .twice)
