@@ -1,5 +1,5 @@
 -- The turns of the two walks: all faces of the route at once, or from one cell of the 26-line to the next. Assumes nothing.
-use mathlib.Core.Path.{_≡_, refl, sym, ap, _∙_, subst}
+use mathlib.Core.Path.{_≡_, refl, sym, ap, ap₂, _∙_, subst}
 use mathlib.Core.Logic.{⊎-elim}
 use mathlib.Core.Bool.{Bool, true, false}
 use mathlib.Core.List.{List}
@@ -23,13 +23,14 @@ use Rattle.walks.proofs.Numbers.{go-rises}
 use Rattle.walks.proofs.Long.{go-long, go-face, go-between}
 use Rattle.routes.specs.declared.Route.{Route}
 use Rattle.routes.specs.declared.Spot.{Spot}
-use Rattle.runs.specs.declared.Slope.{Slope}
-use Rattle.runs.specs.declared.Lean.{Lean}
+use Rattle.runs.specs.declared.RunRoute.{RunRoute}
+use Rattle.runs.specs.declared.RunSpot.{RunSpot}
 use Rattle.runs.specs.declared.Run.{Run}
-use Rattle.runs.specs.Run.{slope, lean-from, index-26, LeanAt, Running, CanRun, ClearTo, Ran, spot-at}
-use Rattle.runs.proofs.Along.{lean-starts}
+use Rattle.runs.specs.Run.{run-route, run-spot, spot-back, SmallDue, cell-left, run-cell, Running, CanRun, ClearTo, Ran}
+use Rattle.runs.proofs.Along.{run-starts, run-ends, dues-small}
 use Rattle.walks.specs.declared.Walker.the-variants.{Adaptive}
 use Rattle.hits.specs.declared.Turn.{Turn}
+use Rattle.hits.specs.declared.Reach.{Reach}
 use Rattle.routes.specs.Route.{Planned, SpotAt, HasByte, byte-there, byte-of-spot}
 use Rattle.hits.specs.Found.{last, hits, going, Walking, Stops, Outcome, Crossing, Walked, At26, CanGo, Reached}
 use Rattle.hits.proofs.Walking.{walk-starts, walk-byte, goes-on}
@@ -45,6 +46,14 @@ outcome-stopped l k next m false s r o e = absurd (let z : _≡_ {A = ℕ} 0 1 =
 pub outcome-walking : (l : List ℕ) (k : Route) (next : ℕ → ℕ) (m : ℕ) (t : Bool) (s : Spot) (r : ℕ) → Outcome l k next m t s r → t ≡ false → Walking l k next m r s
 outcome-walking l k next m true s r o e = absurd (let z : _≡_ {A = ℕ} 0 1 = cc in omega arith)
 outcome-walking l k next m false s r o e = o
+
+-- a turn of the adaptive walk
+module _ {l : List ℕ} {k : Route} {left : ℕ} {r : Reach} (h : Reached l k left r) where
+  pub turn-stopped : r .hit ≡ true → Stops l k (going l k Adaptive) (record { spot = r .spot; reads = r .reads })
+  turn-stopped = outcome-stopped l k _ _ (r .hit) (r .spot) (r .reads) (h .came)
+
+  pub turn-walking : r .hit ≡ false → Walking l k (going l k Adaptive) (number-26 (k .p) (k .q) (cell-left k (r .left))) (r .reads) (r .spot)
+  turn-walking = outcome-walking l k _ _ (r .hit) (r .spot) (r .reads) (h .came)
 
 module _ (bytes : ℕ) (k : Route) (plan : Planned bytes k) (l : List ℕ) where
   abbrev D : Steps
@@ -66,7 +75,13 @@ module _ (bytes : ℕ) (k : Route) (plan : Planned bytes k) (l : List ℕ) where
   next-within : (m : ℕ) → m < longest D → at-number (m + 1) ≤ last l k
   next-within m lt = let w = within-26 D (m + 1) (omega arith) in omega (arith, w X, w Y, w Z)
 
-  module _ (m : ℕ) (s : Spot) (reads : ℕ) (here : At26 l k s reads m) where
+  module _ (left : ℕ) (s : Spot) (reads : ℕ) (here : At26 l k s reads left) where
+    abbrev m : ℕ
+    m = cell-left k left
+
+    below : m < longest D
+    below = omega (arith, here .some, here .most)
+
     -- over clear cells, a long step from each
     runs-on : (n : ℕ) → m + n ≤ longest D → ClearTo l k m (m + n) → OnWay (hits l k) (last l k) go (at-number (m + n)) (reads + n)
     runs-on zero le cl = subst (λ j. OnWay (hits l k) (last l k) go (at-number j) (reads + 0)) (omega arith) (subst (OnWay (hits l k) (last l k) go (at-number m)) (omega arith) (here .walking .on))
@@ -82,14 +97,14 @@ module _ (bytes : ℕ) (k : Route) (plan : Planned bytes k) (l : List ℕ) where
         zero-at : m + n < longest D → byte-of (k .n) l (six-cell rule-1 (k .p) (k .q) (at-number (m + n))) ≡ 0
         zero-at lt = sym (ap (byte-of (k .n) l) (six-at-26 rule-1 (k .p) (k .q) (m + n) (omega arith))) ∙ cl (m + n) (omega arith) (omega arith)
 
-    pub clear-turn : (r : Run) → m < r .m → r .m ≤ longest D → r .at ≡ pos (index-26 k (r .m)) → ClearTo l k m (r .m) → Walking l k go (at-number (r .m)) (reads + (r .m - m)) (spot-at D r)
-    clear-turn r lt le at cl =
-        let e : m + (r .m - m) ≡ r .m = omega arith in
+    pub clear-turn : (u : Axis) (e : ℕ) → e < left → ClearTo l k m (cell-left k e) → Walking l k go (at-number (cell-left k e)) (reads + (left - e)) (spot-back u D (run-cell k u (cell-left k e)))
+    clear-turn u e fewer cl =
+        let is : m + (left - e) ≡ cell-left k e = omega (arith, here .most) in
         record {
-          spot = from-26 k (r .m) (spot-at D r) le (record { index = at; value = refl });
+          spot = from-26 k (cell-left k e) (spot-back u D (run-cell k u (cell-left k e))) (omega arith) (run-ends bytes k plan u (cell-left k e));
           on =
-              subst (λ j. OnWay (hits l k) (last l k) go (at-number j) (reads + (r .m - m))) e
-              (runs-on (r .m - m) (omega arith) (subst (ClearTo l k m) (sym e) cl));
+              subst (λ j. OnWay (hits l k) (last l k) go (at-number j) (reads + (left - e))) is
+              (runs-on (left - e) (omega arith) (subst (ClearTo l k m) (sym is) cl));
         }
 
     module _ (r : Moves) (moves : LongMoves D (s .e) r) where
@@ -98,20 +113,23 @@ module _ (bytes : ℕ) (k : Route) (plan : Planned bytes k) (l : List ℕ) where
       near-faces not-zero =
           record {
             rises = go-rises (k .n) l (k .p) (k .q);
-            fits = omega (arith, between, next-within m (here .below));
-            one = λ j lo hi. ⊎-elim (λ e. subst (λ i. go i ≡ suc i) e first) (λ lt. go-between (k .n) l (k .p) (k .q) m j (here .below) lt (omega (arith, between)) (omega (arith, between, next-within m (here .below)))) (eq-or-lt-of-le {n = at-number m} {m = j} lo);
+            fits = omega (arith, between, next-within m below);
+            one = λ j lo hi. ⊎-elim (λ e. subst (λ i. go i ≡ suc i) e first) (λ lt. go-between (k .n) l (k .p) (k .q) m j below lt (omega (arith, between)) (omega (arith, between, next-within m below))) (eq-or-lt-of-le {n = at-number m} {m = j} lo);
             walking = here .walking;
           }
         where
           between : at-number (m + 1) ≡ at-number m + total (moves-on r)
-          between = faces-between k m s r (here .below) (here .walking .spot) moves
+          between = faces-between k m s r below (here .walking .spot) moves
 
           first : go (at-number m) ≡ suc (at-number m)
           first = go-face (k .n) l (k .p) (k .q) (at-number m) (sym (ap clear (walk-byte bytes k plan l go (at-number m) s (here .walking .spot))) ∙ ne-eqb (byte-of-spot l s) 0 not-zero)
 
-      pub near-turn : (t : Turn) → (byte-of-spot l s ≡ 0 → ⊥) → Walked l k s reads (total (moves-on r)) t → Outcome l k go (at-number (m + 1)) (t .hit) (t .spot) (t .reads)
+      pub near-turn : (t : Turn) → (byte-of-spot l s ≡ 0 → ⊥) → Walked l k s reads (total (moves-on r)) t → Outcome l k go (at-number (cell-left k (left - 1))) (t .hit) (t .spot) (t .reads)
       near-turn t not-zero w =
-          subst (λ j. Outcome l k go j (t .hit) (t .spot) (t .reads)) (sym (faces-between k m s r (here .below) (here .walking .spot) moves)) (w .leads go (at-number m) (near-faces not-zero))
+          subst (λ j. Outcome l k go j (t .hit) (t .spot) (t .reads)) (sym (faces-between k m s r below (here .walking .spot) moves) ∙ ap at-number next-left) (w .leads go (at-number m) (near-faces not-zero))
+        where
+          next-left : m + 1 ≡ cell-left k (left - 1)
+          next-left = omega (arith, here .some, here .most)
 
   -- ---- the first and the last
 
@@ -123,62 +141,63 @@ module _ (bytes : ℕ) (k : Route) (plan : Planned bytes k) (l : List ℕ) where
 
 -- ---- what a turn is given
 
-module _ (l : List ℕ) (k : Route) (u : Axis) (s : Spot) (reads m : ℕ) (c : CanGo l k u s reads m) where
+module _ (l : List ℕ) (k : Route) (u : Axis) (s : Spot) (reads left : ℕ) (c : CanGo l k u s reads left) where
   abbrev E : Steps
   E = differences (k .p) (k .q)
 
-  spot-26 : SpotAt k (place-26 E m) s
-  spot-26 = at-26 k m s (omega (arith, c .at .below)) (c .at .walking .spot)
+  abbrev here : ℕ
+  here = cell-left k left
+
+  spot-26 : SpotAt k (place-26 E here) s
+  spot-26 = at-26 k here s (omega arith) (c .at .walking .spot)
 
   pub turn-byte : HasByte (length l) (s .at)
-  turn-byte = spot-byte (length l) k (c .plan) (place-26 E m) s (within-26 E m (omega (arith, c .at .below))) spot-26
+  turn-byte = spot-byte (length l) k (c .plan) (place-26 E here) s (within-26 E here (omega arith)) spot-26
 
   pub turn-small : SmallTripod (s .e)
-  turn-small = can-cross (length l) k (c .plan) (place-26 E m) s (within-26 E m (omega (arith, c .at .below))) spot-26 .values
+  turn-small = can-cross (length l) k (c .plan) (place-26 E here) s (within-26 E here (omega arith)) spot-26 .values
 
   -- the axis is a longest one of the ends' own differences
   long-there : E u ≡ longest E
   long-there = subst (λ F. F u ≡ longest F) (c .plan .is) (c .long)
 
-  module _ (h : Slope) (is : h ≡ slope k u) where
-    pub last-is : h .last ≡ longest (steps (k .d))
-    last-is = ap (λ g. g .last) is ∙ c .long
+  -- a run may start there
+  module _ (h : RunRoute) (is : h ≡ run-route k u) (a : RunSpot) (from : a ≡ run-spot u (steps (k .d)) s) where
+    pub run-begins : Running l h a left k u
+    run-begins =
+        record {
+          plan = c .plan;
+          long = long-there;
+          route = is;
+          most = c .at .most;
+          at = from ∙ ap (λ F. run-spot u F s) (c .plan .is) ∙ run-starts (length l) k (c .plan) u here s spot-26;
+        }
 
-    pub last-there : h .last ≡ longest E
-    last-there = last-is ∙ ap longest (c .plan .is)
+    pub can-run : byte-of-spot l s ≡ 0 → CanRun l h a left
+    can-run zero-there =
+        record {
+          k = k;
+          u = u;
+          running = run-begins;
+          some = c .at .some;
+          clear = ap (byte-there l) (ap (λ r. r .at) (run-begins .at) ∙ sym (spot-26 .index)) ∙ zero-there;
+        }
 
-    -- a run may start there
-    module _ (a : Lean) (from : a ≡ lean-from u (steps (k .d)) s) where
-      pub run-starts : Running l h a m k u
-      run-starts =
+    module _ (r : Run) (ran : Ran l h a left r) where
+      -- where it ended
+      end-is : r .spot ≡ run-cell k u (cell-left k (r .left))
+      end-is = ran .leads k u run-begins .0
+
+      pub end-small : SmallDue (r .spot)
+      end-small = subst SmallDue (sym end-is) (dues-small (length l) k (c .plan) u (cell-left k (r .left)) (omega arith))
+
+      -- and leads there
+      pub run-leads : (t : Spot) → t ≡ spot-back u (steps (k .d)) (r .spot) → Reached l k left (record { spot = t; reads = reads + (left - r .left); hit = false; left = r .left })
+      run-leads t e =
           record {
-            plan = c .plan;
-            long = long-there;
-            slope = is;
-            at = subst (LeanAt k u m) (sym (from ∙ ap (λ F. lean-from u F s) (c .plan .is))) (lean-starts (length l) k (c .plan) u m s spot-26);
-          }
-
-      pub can-run : byte-of-spot l s ≡ 0 → CanRun l h a m
-      can-run zero-there =
-          record {
-            k = k;
-            u = u;
-            running = run-starts;
-            below = omega (arith, c .at .below, last-there);
-            clear = ap (byte-there l) (run-starts .at .index ∙ sym (spot-26 .index)) ∙ zero-there;
-          }
-
-      -- and leads to where it ended
-      pub run-leads : (r : Run) → Ran l h a m r → (t : Spot) → t ≡ spot-at (steps (k .d)) r → Reached l k m (record { spot = t; reads = reads + (r .m - m); hit = false; m = r .m })
-      run-leads r ran t e =
-          record {
-            further = ran .further;
-            most = below;
+            fewer = ran .fewer;
             came =
-                let (index, clear) = ran .leads k u run-starts in
-                subst (Walking l k (going l k Adaptive) (number-26 (k .p) (k .q) (r .m)) (reads + (r .m - m))) (sym (e ∙ ap (λ F. spot-at F r) (c .plan .is)))
-                (clear-turn (length l) k (c .plan) l m s reads (c .at) r (ran .further) below index clear);
+                subst (Walking l k (going l k Adaptive) (number-26 (k .p) (k .q) (cell-left k (r .left))) (reads + (left - r .left)))
+                (sym (e ∙ ap₂ (spot-back u) (c .plan .is) end-is))
+                (clear-turn (length l) k (c .plan) l left s reads (c .at) u (r .left) (ran .fewer) (ran .leads k u run-begins .1));
           }
-        where
-          below : r .m ≤ longest E
-          below = omega (arith, ran .most, last-there)

@@ -19,6 +19,7 @@ use Rattle.hits.specs.declared.Turn.{Turn}
 use Rattle.hits.specs.declared.Reach.{Reach}
 use Rattle.hits.specs.declared.Stop.{Stop}
 use Rattle.routes.specs.Route.{course, SpotAt, Planned}
+use Rattle.runs.specs.Run.{cell-left}
 
 -- a walk that ends at place number e after so many reads
 pub record Stopped (k : Route) (e many : ℕ) (r : Stop) : Type 0 where
@@ -69,22 +70,22 @@ module _ (l : List ℕ) (k : Route) where
   pub record Walked (s : Spot) (reads faces : ℕ) (r : Turn) : Type 0 where
     pub leads : (next : ℕ → ℕ) (m : ℕ) → Crossing s reads faces next m → Outcome next (m + faces) (r .hit) (r .spot) (r .reads)
 
-  -- at 26-line cell m, which is not the last
-  pub record At26 (s : Spot) (reads m : ℕ) : Type 0 where
-    pub below : m < longest (differences (k .p) (k .q))
-    pub walking : Walking (going Adaptive) (number-26 (k .p) (k .q) m) reads s
+  -- at the cell of the 26-line from which so many long steps are left, at least one
+  pub record At26 (s : Spot) (reads left : ℕ) : Type 0 where
+    pub some : 0 < left
+    pub most : left ≤ longest (differences (k .p) (k .q))
+    pub walking : Walking (going Adaptive) (number-26 (k .p) (k .q) (cell-left k left)) reads s
 
   -- what a turn of the adaptive walk asks: the longest axis, and that cell
-  pub record CanGo (u : Axis) (s : Spot) (reads m : ℕ) : Type 0 where
+  pub record CanGo (u : Axis) (s : Spot) (reads left : ℕ) : Type 0 where
     pub plan : Planned (length l) k
     pub long : steps (k .d) u ≡ longest (steps (k .d))
-    pub at : At26 s reads m
+    pub at : At26 s reads left
 
   -- stopped, or on its way at a later cell of the 26-line
-  pub record Reached (m : ℕ) (r : Reach) : Type 0 where
-    pub further : m < r .m
-    pub most : r .m ≤ longest (differences (k .p) (k .q))
-    pub came : Outcome (going Adaptive) (number-26 (k .p) (k .q) (r .m)) (r .hit) (r .spot) (r .reads)
+  pub record Reached (left : ℕ) (r : Reach) : Type 0 where
+    pub fewer : r .left < left
+    pub came : Outcome (going Adaptive) (number-26 (k .p) (k .q) (cell-left k (r .left))) (r .hit) (r .spot) (r .reads)
 
   -- what a walk answers
   abbrev pub found : Walker → FirstHit

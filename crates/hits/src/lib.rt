@@ -9,7 +9,7 @@ ghost use Rattle.grids.specs.Grid.{solid};
 ghost use Rattle.walks.specs.declared.Walker.the-variants.{Plain, Adaptive};
 ghost use Rattle.walks.specs.Answers.{Finds};
 ghost use Rattle.routes.specs.Route.{Planned, SpotAt, HasByte, byte-of-spot};
-ghost use Rattle.runs.specs.Run.{slope};
+ghost use Rattle.runs.specs.Run.{run-route};
 ghost use Rattle.hits.specs.Found.{going, Stops, CanWalk, Walked, CanGo, Reached, found};
 ghost use Rattle.hits.specs.Answer.{answer-from};
 use cells::Axis;
@@ -18,7 +18,7 @@ use cells::Counts;
 use cells::Verdict;
 use routes::Route;
 use routes::Spot;
-use runs::Slope;
+use runs::RunRoute;
 use tripod::Moves;
 use walks::FirstHit;
 use walks::Hit;
@@ -36,12 +36,12 @@ pub struct Turn {
     pub hit: bool,
 }
 
-// How far the adaptive walk came along the 26-line: cell m, unless it stopped on the way there.
+// How far the adaptive walk came along the 26-line: to the cell from which so many long steps are left, unless it stopped on the way there.
 pub struct Reach {
     pub spot: Spot,
     pub reads: u32,
     pub hit: bool,
-    pub m: u32,
+    pub left: u32,
 }
 
 // The one test of a cell: "byte 2 or more, hit".
@@ -110,26 +110,27 @@ fn one_if(t: bool) -> u32
 }
 
 // From a clear cell of the 26-line to the end of its run.
-fn run_on(cells: &[u8], k: Route, h: Slope, long: Axis, s: Spot, reads: u32, m: u32) -> Reach
-    requires { ⌜ CanGo (now cells) k long s reads m × (h ≡ slope k long) × (byte-of-spot (now cells) s ≡ 0) ⌝ }
-    ensures { λ r. ⌜ Reached (now (cells .entry)) k m r ⌝ }
+fn run_on(cells: &[u8], k: Route, h: RunRoute, long: Axis, s: Spot, reads: u32, left: u32) -> Reach
+    requires { ⌜ CanGo (now cells) k long s reads left × (h ≡ run-route k long) × (byte-of-spot (now cells) s ≡ 0) ⌝ }
+    ensures { λ r. ⌜ Reached (now (cells .entry)) k left r ⌝ }
 {
     let d = k.d;
-    let r = runs::clear_run(cells, h, runs::lean_of(s, d, long), m);
-    let spot = runs::spot_of(r, d, h.last);
-    let made = r.m - m;
+    let r = runs::clear_run(cells, h, runs::run_spot_of(s, d, long), left);
+    let end = r.spot;
+    let spot = runs::spot_of(end, d, long);
+    let made = left - r.left;
     Reach {
         spot: spot,
         reads: reads + made,
         hit: false,
-        m: r.m,
+        left: r.left,
     }
 }
 
 // From a near cell of the 26-line to the next cell of it, over the faces between them.
-fn near_turn(cells: &[u8], k: Route, long: Axis, s: Spot, reads: u32, m: u32) -> Reach
-    requires { ⌜ CanGo (now cells) k long s reads m × (byte-of-spot (now cells) s ≡ 0 → ⊥) ⌝ }
-    ensures { λ r. ⌜ Reached (now (cells .entry)) k m r ⌝ }
+fn near_turn(cells: &[u8], k: Route, long: Axis, s: Spot, reads: u32, left: u32) -> Reach
+    requires { ⌜ CanGo (now cells) k long s reads left × (byte-of-spot (now cells) s ≡ 0 → ⊥) ⌝ }
+    ensures { λ r. ⌜ Reached (now (cells .entry)) k left r ⌝ }
 {
     let e = s.e;
     let d = k.d;
@@ -139,19 +140,19 @@ fn near_turn(cells: &[u8], k: Route, long: Axis, s: Spot, reads: u32, m: u32) ->
         spot: spot,
         reads: t.reads,
         hit: t.hit,
-        m: m + 1,
+        left: left - 1,
     }
 }
 
 // From a cell of the 26-line to a later one: by long steps where the byte is 0, else over the faces to the next.
-fn next_26(cells: &[u8], k: Route, h: Slope, long: Axis, s: Spot, reads: u32, m: u32) -> Reach
-    requires { ⌜ CanGo (now cells) k long s reads m × (h ≡ slope k long) ⌝ }
-    ensures { λ r. ⌜ Reached (now (cells .entry)) k m r ⌝ }
+fn next_26(cells: &[u8], k: Route, h: RunRoute, long: Axis, s: Spot, reads: u32, left: u32) -> Reach
+    requires { ⌜ CanGo (now cells) k long s reads left × (h ≡ run-route k long) ⌝ }
+    ensures { λ r. ⌜ Reached (now (cells .entry)) k left r ⌝ }
 {
     if routes::byte_at(cells, s) == 0 {
-        return run_on(cells, k, h, long, s, reads, m);
+        return run_on(cells, k, h, long, s, reads, left);
     }
-    near_turn(cells, k, long, s, reads, m)
+    near_turn(cells, k, long, s, reads, left)
 }
 
 // The adaptive walk: from cell to cell of the 26-line, with long steps where the byte is 0, to the first solid cell or to Q.
@@ -161,15 +162,15 @@ pub fn walk_adaptive(cells: &[u8], k: Route, start: Spot) -> Stop
 {
     let d = k.d;
     let long = d.longest_axis();
-    let h = runs::slope_of(k, long);
+    let h = runs::run_route_of(k, long);
     let mut t = Reach {
         spot: start,
         reads: 0,
         hit: false,
-        m: 0,
+        left: d.along(long),
     };
-    while t.m < h.last {
-        t = next_26(cells, k, h, long, t.spot, t.reads, t.m);
+    while 0 < t.left {
+        t = next_26(cells, k, h, long, t.spot, t.reads, t.left);
         if t.hit {
             let spot = t.spot;
             return Stop {

@@ -1,56 +1,71 @@
--- A run along its route: the long step leads from 26-line cell to 26-line cell, every sum on the way fits, and every cell has its byte. Assumes
--- nothing.
+-- A run along its route: the long step leads from 26-line cell to 26-line cell, every sum on the way fits, every cell has its byte, and a run goes
+-- from a spot to a spot. Assumes nothing.
 use mathlib.Core.Path.{_≡_, refl, sym, ap, ap₂, _∙_, subst, fun-ext}
 use mathlib.Core.Logic.{⊎-elim}
 use mathlib.Core.Bool.{Bool, true, false, cond}
 use mathlib.Core.List.{List}
-use Prim.Native.Nat.{ℕ, _+_, _*_, _≤_, _<_}
+use Prim.Native.Nat.{ℕ, _+_, _-_, _*_, _≤_, _<_}
 use native.Mathlib.Omega.{arith}
-use native.Mathlib.Nat.{eq-or-lt-of-le}
+use native.Mathlib.Nat.{eq-or-lt-of-le, lt-of-lt-of-le}
 use lib.IntN.{ℤ, pos, _+ℤ_, _-ℤ_}
 use lib.Signed.{leZ}
 use lib.ListN.{length}
-use Rattle.cells.proofs.Signed.{same-number, one-sided, sum-is, diff-is, abs-is}
+use Rattle.cells.specs.Small.{Small}
+use Rattle.cells.proofs.Signed.{up, dn, same-number, one-sided, sum-is, diff-is}
+use Rattle.cells.proofs.Machine.{nat-small, parts-small}
 use Rattle.lines.specs.Steps.{Axis, X, Y, Z, Steps}
 use Rattle.lines.specs.Preference.{rule-1}
 use Rattle.lines.specs.Lines.{differences, cell-of, longest, place-26, cell-26}
-use Rattle.lines.specs.Decisions.{values, doubled}
+use Rattle.lines.specs.Decisions.{values, doubled, decision}
 use Rattle.lines.proofs.Centres.{within-26}
 use Rattle.lines.proofs.Cells.{is-26}
+use Rattle.tripod.proofs.Laws.{decision-small}
 use Rattle.tripod.proofs.Leap.{where-to, where-at}
 use Rattle.grids.specs.Grid.{byte-of, byte-index}
 use Rattle.routes.specs.declared.Route.{Route}
 use Rattle.routes.specs.declared.Spot.{Spot}
 use Rattle.routes.specs.Route.{stride, strides, stride-on, Planned, SpotAt, HasByte, byte-there}
 use Rattle.routes.proofs.Spots.{short-at, index-next, spot-byte, byte-is, can-cross}
-use Rattle.runs.specs.declared.Slope.{Slope}
-use Rattle.runs.specs.declared.Lean.{Lean}
-use Rattle.runs.specs.Run.{second, third, twice-on, slope, leaning, lean-from, picked, stepped-lean, Upto, CanSwing, CanLean, index-26, LeanAt, Running, ClearTo, Ran}
-use Rattle.runs.proofs.Leaning.{turned, value-next, leaning-upto, goes, after-1, after-2, after-3, leads-to}
+use Rattle.runs.specs.declared.RunRoute.{RunRoute}
+use Rattle.runs.specs.declared.RunSpot.{RunSpot}
+use Rattle.runs.specs.Run.{v-of, w-of, twice-on, ordered, sides, run-route, due-on, run-spot, spot-back, by-sign, long-step, SmallDue, SmallRoute, CanStep, index-26, cell-left, run-cell, Running, ClearTo, Ran}
+use Rattle.runs.proofs.Due.{nothing-more, turned, turned-back, taken-back, due-small, goes, after-u, after-v, after-w, leads-to, v-moves, w-moves, third-by-v, third-by-w}
 
--- a stride's magnitude
-stride-upto : (p q : ℤ) (w : ℕ) → w ≤ 1048576 → Upto 1048576 (stride p q w)
-stride-upto p q w h = go (leZ p q)
+-- a stride is so small that the sum of two is
+module _ (p q : ℤ) (w : ℕ) (most : w ≤ 1048576) where
+  pub stride-most : (up (stride p q w) ≤ 1048576) × (dn (stride p q w) ≤ 1048576)
+  stride-most = go (leZ p q)
+    where
+      go : (t : Bool) → (up (cond t (pos w) (pos 0 -ℤ pos w)) ≤ 1048576) × (dn (cond t (pos w) (pos 0 -ℤ pos w)) ≤ 1048576)
+      go true = (most, omega arith)
+      go false =
+          let s = diff-is (pos 0) (pos w) in
+          let o = one-sided (pos 0 -ℤ pos w) in
+          (omega arith, omega arith)
+
+sum-small : (a b : ℤ) → (up a ≤ 1048576) × (dn a ≤ 1048576) → (up b ≤ 1048576) × (dn b ≤ 1048576) → Small (a +ℤ b)
+sum-small a b ha hb =
+    let s = sum-is a b in
+    let o = one-sided (a +ℤ b) in
+    parts-small (a +ℤ b) (omega arith) (omega arith)
+
+difference-small : (m n : ℕ) → m ≤ 32766 → n ≤ 32766 → Small (pos m -ℤ pos n)
+difference-small m n h k =
+    let s = diff-is (pos m) (pos n) in
+    let o = one-sided (pos m -ℤ pos n) in
+    parts-small (pos m -ℤ pos n) (omega arith) (omega arith)
+
+twice-is : (D : Steps) → twice-on (doubled D) ≡ (λ a. pos (2 * D a))
+twice-is D = fun-ext at-axis
   where
-    go : (t : Bool) → Upto 1048576 (cond t (pos w) (pos 0 -ℤ pos w))
-    go true = record { most = h }
-    go false =
-        let s = diff-is (pos 0) (pos w) in
-        let o = one-sided (pos 0 -ℤ pos w) in
-        record { most = omega (arith, abs-is (pos 0 -ℤ pos w)) }
+    at-axis : (a : Axis) → twice-on (doubled D) a ≡ pos (2 * D a)
+    at-axis X = refl
+    at-axis Y = refl
+    at-axis Z = refl
 
-twice-is : (D : Steps) (a : Axis) → twice-on (doubled D) a ≡ pos (2 * D a)
-twice-is D X = refl
-twice-is D Y = refl
-twice-is D Z = refl
-
-nothing-more : (z : ℤ) → z +ℤ pos 0 ≡ z
-nothing-more z = same-number _ _ (omega (arith, sum-is z (pos 0)))
-
--- three moves one after another, or their sum at once
-at-once : (i x y z : ℤ) → i +ℤ ((x +ℤ y) +ℤ z) ≡ ((i +ℤ x) +ℤ y) +ℤ z
-at-once i x y z =
-    same-number _ _ (omega (arith, sum-is i ((x +ℤ y) +ℤ z), sum-is (x +ℤ y) z, sum-is x y, sum-is ((i +ℤ x) +ℤ y) z, sum-is (i +ℤ x) y, sum-is i x))
+-- two moves one after another, or their sum at once
+at-once : (i x y : ℤ) → i +ℤ (x +ℤ y) ≡ (i +ℤ x) +ℤ y
+at-once i x y = same-number _ _ (omega (arith, sum-is i (x +ℤ y), sum-is x y, sum-is (i +ℤ x) y, sum-is i x))
 
 module _ (bytes : ℕ) (k : Route) (plan : Planned bytes k) where
   abbrev D : Steps
@@ -62,158 +77,199 @@ module _ (bytes : ℕ) (k : Route) (plan : Planned bytes k) where
   abbrev by : Axis → ℤ
   by n = stride-on (strides (k .n) (k .p) (k .q)) n
 
-  -- a move of the byte's place that is made where it is asked for
+  abbrev twice : Axis → ℤ
+  twice a = pos (2 * D a)
+
+  -- the route of its runs, from the ends
+  abbrev run-there : Axis → RunRoute
+  run-there u = sides (ordered by u) (ordered twice u)
+
+  pub route-is : (u : Axis) → run-route k u ≡ run-there u
+  route-is u = ap₂ (λ s d. sides (ordered (stride-on s) u) (ordered d u)) (plan .moves) (ap twice-on (plan .twice) ∙ twice-is D)
+
+  -- a spot of any place
+  abbrev spot-there : Steps → Spot
+  spot-there t = record { at = pos (index-of t); e = values D t }
+
+  is-spot : (t : Steps) → SpotAt k t (spot-there t)
+  is-spot t = record { index = refl; value = refl }
+
+  index-small : (t : Steps) → ((a : Axis) → t a ≤ D a) → Small (pos (index-of t))
+  index-small t le = can-cross bytes k plan t (spot-there t) le (is-spot t) .at
+
+  pub route-small : SmallRoute k
+  route-small =
+      let c = can-cross bytes k plan (place-26 D 0) (spot-there (place-26 D 0)) (within-26 D 0 (omega arith)) (is-spot (place-26 D 0)) in
+      record { x = c .x; y = c .y; z = c .z; twice = c .twice }
+
+  by-most : (a : Axis) → (up (by a) ≤ 1048576) × (dn (by a) ≤ 1048576)
+  by-most X = stride-most (k .p .x) (k .q .x) 1 (omega arith)
+  by-most Y = stride-most (k .p .y) (k .q .y) (k .n .nx) (omega (arith, plan .shaped .x .most))
+  by-most Z = stride-most (k .p .z) (k .q .z) (k .n .nx * k .n .ny) (plan .shaped .layer-most)
+
+  by-small : (a : Axis) → Small (by a)
+  by-small a = let m = by-most a in parts-small (by a) (omega arith) (omega arith)
+
+  twice-small : (a : Axis) → Small (twice a)
+  twice-small a = nat-small (2 * D a) (omega (arith, short-at bytes k plan a))
+
+  less-small : (a b : Axis) → Small (twice a -ℤ twice b)
+  less-small a b = difference-small (2 * D a) (2 * D b) (omega (arith, short-at bytes k plan a)) (omega (arith, short-at bytes k plan b))
+
+  back-small : (a : Axis) → Small (pos 0 -ℤ twice a)
+  back-small a = difference-small 0 (2 * D a) (omega arith) (omega (arith, short-at bytes k plan a))
+
+  none-small : Small (pos 0)
+  none-small = nat-small 0 (omega arith)
+
+  -- the byte's place after a step that is made where it is asked for
   index-where : (go : Bool) (n : Axis) (t : Steps) → ((a : Axis) → where-to go n t a ≤ D a) → pos (index-of t) +ℤ cond go (by n) (pos 0) ≡ pos (index-of (where-to go n t))
   index-where true n t le = index-next bytes k plan t n le
   index-where false n t le = nothing-more (pos (index-of t))
 
-  twice-there : (a : Axis) → twice-on (k .twice) a ≡ pos (2 * D a)
-  twice-there a = ap (λ d. twice-on d a) (plan .twice) ∙ twice-is D a
-
-  stride-there : (a : Axis) → Upto 1048576 (by a)
-  stride-there X = stride-upto (k .p .x) (k .q .x) 1 (omega arith)
-  stride-there Y = stride-upto (k .p .y) (k .q .y) (k .n .nx) (omega (arith, plan .shaped .x .most))
-  stride-there Z = stride-upto (k .p .z) (k .q .z) (k .n .nx * k .n .ny) (plan .shaped .layer-most)
+  -- and after one along u before it
+  index-with : (go : Bool) (u n : Axis) (t : Steps) → ((a : Axis) → where-to go n (where-to true u t) a ≤ D a) → pos (index-of t) +ℤ cond go (by u +ℤ by n) (by u) ≡ pos (index-of (where-to go n (where-to true u t)))
+  index-with true u n t le =
+      at-once (pos (index-of t)) (by u) (by n)
+      ∙ ap (λ i. i +ℤ by n) (index-next bytes k plan t u (λ a. omega (arith, le a, where-at true n (where-to true u t) a)))
+      ∙ index-next bytes k plan (where-to true u t) n le
+  index-with false u n t le = index-next bytes k plan t u le
 
   module _ (u : Axis) (long : D u ≡ longest D) (m : ℕ) (lt : m < longest D) where
     abbrev t : Steps
     t = place-26 D m
 
-    abbrev f : ℤ
-    f = leaning D t u (second u)
+    abbrev t-v : Steps
+    t-v = after-v D u long m lt
 
-    abbrev g : ℤ
-    g = leaning D t u (third u)
+    within-w : (a : Axis) → after-w D u long m lt a ≤ D a
+    within-w a = omega (arith, leads-to D u long m lt a, within-26 D (m + 1) (omega arith) a)
 
-    -- the byte's place after the long step
-    index-after : pos (index-26 k m) +ℤ ((by u +ℤ picked f (by (second u))) +ℤ picked g (by (third u))) ≡ pos (index-26 k (m + 1))
-    index-after =
-        at-once (pos (index-26 k m)) (by u) (picked f (by (second u))) (picked g (by (third u)))
-        ∙ ap (λ i. (i +ℤ picked f (by (second u))) +ℤ picked g (by (third u))) (index-where true u t below-1)
-        ∙ ap (λ i. i +ℤ picked g (by (third u))) (index-where (goes D u long m lt (second u)) (second u) (after-1 D u long m lt) below-2)
-        ∙ index-where (goes D u long m lt (third u)) (third u) (after-2 D u long m lt) below-3
-        ∙ ap (λ s. pos (index-of s)) (fun-ext (leads-to D u long m lt))
-      where
-        below-3 : (a : Axis) → after-3 D u long m lt a ≤ D a
-        below-3 a = omega (arith, leads-to D u long m lt a, within-26 D (m + 1) (omega arith) a)
+    within-v : (a : Axis) → t-v a ≤ D a
+    within-v a = omega (arith, within-w a, where-at (goes D u long m lt (w-of u)) (w-of u) t-v a)
 
-        below-2 : (a : Axis) → after-2 D u long m lt a ≤ D a
-        below-2 a = omega (arith, below-3 a, where-at (goes D u long m lt (third u)) (third u) (after-2 D u long m lt) a)
-
-        below-1 : (a : Axis) → after-1 D u long m lt a ≤ D a
-        below-1 a = omega (arith, below-2 a, where-at (goes D u long m lt (second u)) (second u) (after-1 D u long m lt) a)
+    index-v : pos (index-26 k m) +ℤ by-sign (due-on D t u (v-of u)) (by u +ℤ by (v-of u)) (by u) ≡ pos (index-of t-v)
+    index-v = index-with (goes D u long m lt (v-of u)) u (v-of u) t within-v
 
     -- so it leads to the next cell
-    pub lean-next : (l : Lean) → LeanAt k u m l → LeanAt k u (m + 1) (stepped-lean (slope k u) l)
-    lean-next l h =
-        record {
-          index =
-              ap (λ w. l .at +ℤ ((stride-on w u +ℤ picked (l .f) (stride-on w (second u))) +ℤ picked (l .g) (stride-on w (third u)))) (plan .moves)
-              ∙ ap₂ (λ x y. l .at +ℤ ((by u +ℤ picked x (by (second u))) +ℤ picked y (by (third u)))) (h .f) (h .g)
-              ∙ ap (λ i. i +ℤ ((by u +ℤ picked f (by (second u))) +ℤ picked g (by (third u)))) (h .index)
-              ∙ index-after;
-          f = value (second u) (l .f) (h .f);
-          g = value (third u) (l .g) (h .g);
-        }
-      where
-        value : (b : Axis) (e : ℤ) → e ≡ leaning D t u b → (e +ℤ twice-on (k .twice) b) -ℤ picked e (twice-on (k .twice) u) ≡ leaning D (place-26 D (m + 1)) u b
-        value b e h =
-            ap (λ v. (v +ℤ twice-on (k .twice) b) -ℤ picked v (twice-on (k .twice) u)) h
-            ∙ ap₂ (λ v w. (leaning D t u b +ℤ v) -ℤ picked (leaning D t u b) w) (twice-there b) (twice-there u)
-            ∙ sym (value-next D u long m lt b)
+    step-there : long-step (run-there u) (run-cell k u m) ≡ run-cell k u (m + 1)
+    step-there =
+        (λ i. record {
+          at =
+              (ap (λ z. z +ℤ by-sign (due-on D t u (w-of u)) (by (w-of u)) (pos 0)) index-v
+              ∙ index-where (goes D u long m lt (w-of u)) (w-of u) t-v within-w) i;
+          v = sym (v-moves D u long m lt) i;
+          w = sym (w-moves D u long m lt) i;
+          wv = (ap (λ z. z +ℤ by-sign (due-on D t u (w-of u)) (twice (v-of u)) (pos 0)) (sym (third-by-v D u long m lt)) ∙ sym (third-by-w D u long m lt)) i;
+        })
+        ∙ ap (λ s. record { at = pos (index-of s); v = due-on D s u (v-of u); w = due-on D s u (w-of u); wv = decision D s (w-of u) (v-of u) }) (fun-ext (leads-to D u long m lt))
+
+    pub step-next : long-step (run-route k u) (run-cell k u m) ≡ run-cell k u (m + 1)
+    step-next = ap (λ h. long-step h (run-cell k u m)) (route-is u) ∙ step-there
+
+    within-t : (a : Axis) → t a ≤ D a
+    within-t = within-26 D m (omega arith)
+
+    pub can-step : CanStep (run-route k u) (run-cell k u m)
+    can-step =
+        subst (λ h. CanStep h (run-cell k u m)) (sym (route-is u))
+        (record {
+          v = record {
+            stay = record { at = by-small u; due = twice-small (v-of u); wv = none-small };
+            go = record { at = sum-small (by u) (by (v-of u)) (by-most u) (by-most (v-of u)); due = less-small (v-of u) u; wv = back-small (w-of u) };
+            from = record { at = index-small t within-t; due = due-small D t u (v-of u) (short-at bytes k plan) within-t; wv = decision-small D t (short-at bytes k plan) within-t (w-of u) (v-of u) };
+          };
+          w = record {
+            stay = record { at = none-small; due = twice-small (w-of u); wv = none-small };
+            go = record { at = by-small (w-of u); due = less-small (w-of u) u; wv = twice-small (v-of u) };
+            from = record {
+              at = subst Small (sym index-v) (index-small t-v within-v);
+              due = due-small D t u (w-of u) (short-at bytes k plan) within-t;
+              wv = subst Small (third-by-v D u long m lt) (decision-small D t-v (short-at bytes k plan) within-v (w-of u) (v-of u));
+            };
+          };
+        })
 
   -- ---- at 26-line cell m
 
-  module _ (u : Axis) (m : ℕ) (le : m ≤ longest D) (l : Lean) (h : LeanAt k u m l) where
-    -- a spot there
-    abbrev there : Spot
-    there = record { at = l .at; e = values D (place-26 D m) }
+  module _ (u : Axis) (m : ℕ) (le : m ≤ longest D) where
+    pub run-byte : HasByte bytes (run-cell k u m .at)
+    run-byte = spot-byte bytes k plan (place-26 D m) (spot-there (place-26 D m)) (within-26 D m le) (is-spot (place-26 D m))
 
-    is-spot : SpotAt k (place-26 D m) there
-    is-spot = record { index = h .index; value = refl }
+    pub run-byte-is : (cells : List ℕ) → byte-there cells (run-cell k u m .at) ≡ byte-of (k .n) cells (cell-26 (k .p) (k .q) m)
+    run-byte-is cells = byte-is bytes k plan cells (place-26 D m) (spot-there (place-26 D m)) (is-spot (place-26 D m)) ∙ ap (byte-of (k .n) cells) (sym (is-26 rule-1 (k .p) (k .q) m))
 
-    pub lean-byte : HasByte bytes (l .at)
-    lean-byte = spot-byte bytes k plan (place-26 D m) there (within-26 D m le) is-spot
-
-    pub lean-byte-is : (cells : List ℕ) → byte-there cells (l .at) ≡ byte-of (k .n) cells (cell-26 (k .p) (k .q) m)
-    lean-byte-is cells = byte-is bytes k plan cells (place-26 D m) there is-spot ∙ ap (byte-of (k .n) cells) (sym (is-26 rule-1 (k .p) (k .q) m))
-
-    pub can-lean : CanLean (slope k u) l
-    can-lean =
-        record {
-          at = can-cross bytes k plan (place-26 D m) there (within-26 D m le) is-spot .at;
-          su = stride-of u;
-          sv = stride-of (second u);
-          sw = stride-of (third u);
-          f = value (second u) (l .f) (h .f);
-          g = value (third u) (l .g) (h .g);
-        }
+    -- what is due may be added
+    pub dues-small : SmallDue (run-cell k u m)
+    dues-small = record { v = on-axis (v-of u); w = on-axis (w-of u) }
       where
-        stride-of : (a : Axis) → Upto 1048576 (stride-on (k .strides) a)
-        stride-of a = subst (λ w. Upto 1048576 (stride-on w a)) (sym (plan .moves)) (stride-there a)
-
-        twice-of : (a : Axis) → Upto 32766 (twice-on (k .twice) a)
-        twice-of a = subst (Upto 32766) (sym (twice-there a)) (record { most = omega (arith, short-at bytes k plan a) })
-
-        value : (b : Axis) (e : ℤ) → e ≡ leaning D (place-26 D m) u b → CanSwing e (twice-on (k .twice) b) (twice-on (k .twice) u)
-        value b e h =
-            record {
-              value = subst (Upto 536870912) (sym h) (leaning-upto D u b (place-26 D m) (short-at bytes k plan) (within-26 D m le));
-              up = twice-of b;
-              down = twice-of u;
-            }
+        on-axis : (b : Axis) → Small (due-on D (place-26 D m) u b)
+        on-axis b = due-small D (place-26 D m) u b (short-at bytes k plan) (within-26 D m le)
 
   -- a spot of 26-line cell m, as a cell of a run
-  pub lean-starts : (u : Axis) (m : ℕ) (s : Spot) → SpotAt k (place-26 D m) s → LeanAt k u m (lean-from u D s)
-  lean-starts X m s h = record { index = h .index; f = ap (λ e. e .xy +ℤ pos (D Y)) (h .value); g = ap (λ e. e .xz +ℤ pos (D Z)) (h .value) }
-  lean-starts Y m s h =
-      record {
-        index = h .index;
-        f = ap (λ e. pos (D X) -ℤ e .xy) (h .value) ∙ turned D Y X (place-26 D m);
-        g = ap (λ e. pos (D Z) -ℤ e .zy) (h .value) ∙ turned D Y Z (place-26 D m);
-      }
-  lean-starts Z m s h =
-      record {
-        index = h .index;
-        f = ap (λ e. pos (D X) -ℤ e .xz) (h .value) ∙ turned D Z X (place-26 D m);
-        g = ap (λ e. e .zy +ℤ pos (D Y)) (h .value);
-      }
+  pub run-starts : (u : Axis) (m : ℕ) (s : Spot) → SpotAt k (place-26 D m) s → run-spot u D s ≡ run-cell k u m
+  run-starts u m s h = ap₂ (λ i e. run-spot u D (record { at = i; e = e })) (h .index) (h .value) ∙ from u
+    where
+      from : (u : Axis) → run-spot u D (spot-there (place-26 D m)) ≡ run-cell k u m
+      from X = refl
+      from Y = λ i. record { at = pos (index-26 k m); v = turned D (place-26 D m) Y Z i; w = turned D (place-26 D m) Y X i; wv = decision D (place-26 D m) X Z }
+      from Z = λ i. record { at = pos (index-26 k m); v = due-on D (place-26 D m) Z Y; w = turned D (place-26 D m) Z X i; wv = decision D (place-26 D m) X Y }
+
+  -- and back
+  pub run-ends : (u : Axis) (m : ℕ) → SpotAt k (place-26 D m) (spot-back u D (run-cell k u m))
+  run-ends X m = record { index = refl; value = λ i. record { xy = taken-back D (place-26 D m) X Y i; xz = taken-back D (place-26 D m) X Z i; zy = decision D (place-26 D m) Z Y } }
+  run-ends Y m = record { index = refl; value = λ i. record { xy = turned-back D (place-26 D m) Y X i; xz = decision D (place-26 D m) X Z; zy = turned-back D (place-26 D m) Y Z i } }
+  run-ends Z m = record { index = refl; value = λ i. record { xy = decision D (place-26 D m) X Y; xz = turned-back D (place-26 D m) Z X i; zy = taken-back D (place-26 D m) Z Y i } }
 
 -- ---- a run on its way
 
--- at cell m of it
-pub record Follows (cells : List ℕ) (h : Slope) (start : Lean) (from m : ℕ) (l : Lean) : Type 0 where
-  pub begun : from ≤ m
-  pub most : m ≤ h .last
-  pub clear : m ≤ from → byte-there cells (l .at) ≡ 0
-  pub leads : (k : Route) (u : Axis) → Running cells h start from k u → LeanAt k u m l × ClearTo cells k from m
+-- so many long steps are left
+pub record Follows (cells : List ℕ) (h : RunRoute) (start : RunSpot) (from left : ℕ) (s : RunSpot) : Type 0 where
+  pub most : left ≤ from
+  pub clear : from ≤ left → byte-there cells (s .at) ≡ 0
+  pub leads : (k : Route) (u : Axis) → Running cells h start from k u → (s ≡ run-cell k u (cell-left k left)) × ClearTo cells k (cell-left k from) (cell-left k left)
 
-module _ (cells : List ℕ) (h : Slope) (start : Lean) (from : ℕ) where
-  -- the last cell's number is the longest difference
-  pub last-is : {k : Route} {u : Axis} → Running cells h start from k u → h .last ≡ longest (differences (k .p) (k .q))
-  last-is {k} {u} r = ap (λ s. s .last) (r .slope) ∙ ap (λ d. d u) (r .plan .is) ∙ r .long
+module _ (cells : List ℕ) (h : RunRoute) (start : RunSpot) (from : ℕ) where
+  -- it starts
+  pub not-begun : byte-there cells (start .at) ≡ 0 → Follows cells h start from from start
+  not-begun zero-there = record { most = omega arith; clear = λ le. zero-there; leads = λ k u r. (r .at, λ j ge less. absurd (omega arith)) }
 
-  pub not-begun : from < h .last → byte-there cells (start .at) ≡ 0 → Follows cells h start from from start
-  not-begun lt zero-there =
-      record { begun = omega arith; most = omega arith; clear = λ _. zero-there; leads = λ k u r. (r .at, λ j ge lt. absurd (omega arith)) }
+  module _ (left : ℕ) (s : RunSpot) (w : Follows cells h start from left s) where
+    module _ {k : Route} {u : Axis} (r : Running cells h start from k u) where
+      within : cell-left k left ≤ longest (differences (k .p) (k .q))
+      within = omega arith
 
-  pub one-step : (m : ℕ) (l : Lean) → Follows cells h start from m l → m < h .last → byte-there cells (l .at) ≡ 0 → Follows cells h start from (m + 1) (stepped-lean h l)
-  one-step m l w lt zero-there =
-      record {
-        begun = omega (arith, w .begun);
-        most = omega arith;
-        clear = λ le. absurd (omega (arith, w .begun));
-        leads = λ k u r. (
-          subst (λ g. LeanAt k u (m + 1) (stepped-lean g l)) (sym (r .slope)) (lean-next (length cells) k (r .plan) u (r .long) m (below r) l (w .leads k u r .0)),
-          λ j ge less.
-              ⊎-elim (λ e. subst (λ i. byte-of (k .n) cells (cell-26 (k .p) (k .q) i) ≡ 0) (sym e) (sym (lean-byte-is (length cells) k (r .plan) u m (omega (arith, below r)) l (w .leads k u r .0) cells) ∙ zero-there)) (λ before. w .leads k u r .1 j ge before)
-              (eq-or-lt-of-le {n = j} {m = m} (omega arith)),
-        );
-      }
-    where
-      below : {k : Route} {u : Axis} → Running cells h start from k u → m < longest (differences (k .p) (k .q))
-      below r = omega (arith, last-is r)
+      below : 0 < left → cell-left k left < longest (differences (k .p) (k .q))
+      below some = omega (arith, w .most, r .most)
 
-  -- it stops at a cell that is not clear, or at the last
-  pub stopped : (m : ℕ) (l : Lean) → Follows cells h start from m l → from < m → Ran cells h start from (record { at = l .at; m = m })
-  stopped m l w lt = record { further = lt; most = w .most; leads = λ k u r. (w .leads k u r .0 .index, w .leads k u r .1) }
+      one-less : 0 < left → cell-left k left + 1 ≡ cell-left k (left - 1)
+      one-less some = omega (arith, w .most, r .most)
+
+    -- every sum of a step from there fits, and there is a byte
+    pub steps-on : {k : Route} {u : Axis} → Running cells h start from k u → 0 < left → CanStep h s
+    steps-on {k} {u} r some =
+        subst (CanStep h) (sym (w .leads k u r .0)) (subst (λ g. CanStep g (run-cell k u (cell-left k left))) (sym (r .route)) (can-step (length cells) k (r .plan) u (r .long) (cell-left k left) (below r some)))
+
+    pub byte-on : {k : Route} {u : Axis} → Running cells h start from k u → HasByte (length cells) (s .at)
+    byte-on {k} {u} r = subst (λ z. HasByte (length cells) (z .at)) (sym (w .leads k u r .0)) (run-byte (length cells) k (r .plan) u (cell-left k left) (within r))
+
+    -- a clear cell leads on
+    pub one-step : 0 < left → byte-there cells (s .at) ≡ 0 → Follows cells h start from (left - 1) (long-step h s)
+    one-step some zero-there =
+        record {
+          most = omega (arith, w .most);
+          clear = λ le. absurd (omega (arith, w .most));
+          leads = λ k u r. (
+            ap₂ long-step (r .route) (w .leads k u r .0) ∙ step-next (length cells) k (r .plan) u (r .long) (cell-left k left) (below r some) ∙ ap (run-cell k u) (one-less r some),
+            λ j ge less.
+                ⊎-elim (λ e. subst (λ i. byte-of (k .n) cells (cell-26 (k .p) (k .q) i) ≡ 0) (sym e) (zero-here r)) (λ before. w .leads k u r .1 j ge before)
+                (eq-or-lt-of-le {n = j} {m = cell-left k left} (omega (arith, one-less r some))),
+          );
+        }
+      where
+        zero-here : {k : Route} {u : Axis} → Running cells h start from k u → byte-of (k .n) cells (cell-26 (k .p) (k .q) (cell-left k left)) ≡ 0
+        zero-here {k} {u} r = sym (run-byte-is (length cells) k (r .plan) u (cell-left k left) (within r) cells) ∙ ap (λ z. byte-there cells (z .at)) (sym (w .leads k u r .0)) ∙ zero-there
+
+    -- it stops at a cell that is not clear, or at the last
+    pub stopped : left < from → Ran cells h start from (record { spot = s; left = left })
+    stopped fewer = record { fewer = fewer; leads = w .leads }

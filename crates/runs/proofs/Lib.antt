@@ -1,3 +1,3 @@
 pub mod Sums
-pub mod Leaning
+pub mod Due
 pub mod Along

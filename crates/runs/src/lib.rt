@@ -1,214 +1,293 @@
-// Clear runs: long steps one after another while the byte is 0. The two shorter axes move by the sign of one value each, with no branch; the
-// tripod's values are worked out anew where a run ends.
+// Clear runs: long steps one after another while the byte is 0. u is the longest axis, v and w are the two others. What is due on v and on w tells by
+// its sign whether the long step moves along it, and it and the third of the tripod's values move by sums, with no branch; so a run goes from spot to
+// spot.
 ghost use mathlib.Core.Path.{_≡_};
-ghost use Prim.Native.Nat.{_+_, _*_, _≤_, _<_};
-ghost use lib.IntN.{pos, _-ℤ_};
 ghost use lib.ListN.{length};
-ghost use Rattle.lines.specs.Lines.{longest, moved-26};
-ghost use Rattle.lines.specs.Decisions.{values};
 ghost use Rattle.tripod.specs.Tripod.{steps, Short, SmallTripod};
 ghost use Rattle.routes.specs.Route.{HasByte, byte-there};
-ghost use Rattle.runs.specs.Run.{slope, lean-from, picked, swung-by, strode-by, stepped-lean, CanSwing, CanLean, CanRun, Ran, spot-at};
+ghost use Rattle.runs.specs.Run.{by-sign, sides, run-route, run-spot, spot-back, moved-by, long-step, SmallOrdered, SmallRoute, SmallDue, CanMove, CanStep, CanRun, Ran};
 use cells::Axis;
 use lines::Tripod;
 use routes::Route;
 use routes::Spot;
 use tripod::Diffs;
 
-// What stays the same along the runs of a route, the longest axis first: strides, twice the differences, and the number of the last cell.
-pub struct Slope {
-    pub su: i32,
-    pub sv: i32,
-    pub sw: i32,
-    pub u2: i32,
-    pub v2: i32,
-    pub w2: i32,
-    pub last: u32,
+// A number of each axis, the longest first.
+pub struct Ordered {
+    pub u: i32,
+    pub v: i32,
+    pub w: i32,
 }
 
-// A cell of a run: where its byte is, and for each shorter axis a value that is at least 0 where the long step moves along it.
-pub struct Lean {
+// The three numbers that a shorter axis moves: the place of the byte, what is due on the axis, and the third value, that of w and v.
+pub struct Triple {
     pub at: i32,
-    pub f: i32,
-    pub g: i32,
+    pub due: i32,
+    pub wv: i32,
 }
 
-// Where a run ended: the place of the byte, and which cell of the 26-line it is.
+// What a long step adds to them where the axis stays and where it goes.
+pub struct Side {
+    pub stay: Triple,
+    pub go: Triple,
+}
+
+// What stays the same along the runs of a route. The step along u is counted to v's.
+pub struct RunRoute {
+    pub v: Side,
+    pub w: Side,
+}
+
+// A cell of a run: where its byte is; what is due on v and on w, at least 0 where the long step moves along it; and the third value.
+pub struct RunSpot {
+    pub at: i32,
+    pub v: i32,
+    pub w: i32,
+    pub wv: i32,
+}
+
+// Where a run ended, and how many long steps are left from there to Q.
 pub struct Run {
-    pub at: i32,
-    pub m: u32,
+    pub spot: RunSpot,
+    pub left: u32,
 }
 
-// A number where e is at least 0, else 0.
-fn pick(e: i32, v: i32) -> i32
-    ensures { λ r. ⌜ r ≡ picked e v ⌝ }
+// What a long step adds, from the strides and from twice the differences.
+fn sides_of(stride: Ordered, twice: Ordered) -> RunRoute
+    requires { ⌜ SmallOrdered stride × SmallOrdered twice ⌝ }
+    ensures { λ r. ⌜ r ≡ sides stride twice ⌝ }
 {
-    if 0 <= e { v } else { 0 }
+    let v = Side {
+        stay: Triple {
+            at: stride.u,
+            due: twice.v,
+            wv: 0,
+        },
+        go: Triple {
+            at: stride.u + stride.v,
+            due: twice.v - twice.u,
+            wv: 0 - twice.w,
+        },
+    };
+    let w = Side {
+        stay: Triple {
+            at: 0,
+            due: twice.w,
+            wv: 0,
+        },
+        go: Triple {
+            at: stride.w,
+            due: twice.w - twice.u,
+            wv: twice.v,
+        },
+    };
+    RunRoute { v: v, w: w }
 }
 
-// The slope of a route whose longest axis is `long`.
-pub fn slope_of(k: Route, long: Axis) -> Slope
-    ensures { λ r. ⌜ r ≡ slope k long ⌝ }
+// The route of the runs, the longest axis being `long`. The others follow so that the third value is one of the tripod's own.
+pub fn run_route_of(k: Route, long: Axis) -> RunRoute
+    requires { ⌜ SmallRoute k ⌝ }
+    ensures { λ r. ⌜ r ≡ run-route k long ⌝ }
 {
     let s = k.strides;
     let t = k.twice;
-    let d = k.d;
     match long {
-        Axis::X => Slope {
-            su: s.x,
-            sv: s.y,
-            sw: s.z,
-            u2: t.a2,
-            v2: t.b2,
-            w2: t.c2,
-            last: d.a,
-        },
-        Axis::Y => Slope {
-            su: s.y,
-            sv: s.x,
-            sw: s.z,
-            u2: t.b2,
-            v2: t.a2,
-            w2: t.c2,
-            last: d.b,
-        },
-        Axis::Z => Slope {
-            su: s.z,
-            sv: s.x,
-            sw: s.y,
-            u2: t.c2,
-            v2: t.a2,
-            w2: t.b2,
-            last: d.c,
-        },
+        Axis::X => sides_of(
+            Ordered {
+                u: s.x,
+                v: s.y,
+                w: s.z,
+            },
+            Ordered {
+                u: t.a2,
+                v: t.b2,
+                w: t.c2,
+            },
+        ),
+        Axis::Y => sides_of(
+            Ordered {
+                u: s.y,
+                v: s.z,
+                w: s.x,
+            },
+            Ordered {
+                u: t.b2,
+                v: t.c2,
+                w: t.a2,
+            },
+        ),
+        Axis::Z => sides_of(
+            Ordered {
+                u: s.z,
+                v: s.y,
+                w: s.x,
+            },
+            Ordered {
+                u: t.c2,
+                v: t.b2,
+                w: t.a2,
+            },
+        ),
     }
 }
 
 // A spot as a cell of a run.
-pub fn lean_of(s: Spot, d: Diffs, long: Axis) -> Lean
+pub fn run_spot_of(s: Spot, d: Diffs, long: Axis) -> RunSpot
     requires { ⌜ SmallTripod (s .e) × Short d ⌝ }
-    ensures { λ r. ⌜ r ≡ lean-from long (steps d) s ⌝ }
+    ensures { λ r. ⌜ r ≡ run-spot long (steps d) s ⌝ }
 {
     let at = s.at;
     let e = s.e;
+    let xy = e.xy;
+    let xz = e.xz;
+    let zy = e.zy;
     let a = d.a as i32;
     let b = d.b as i32;
     let c = d.c as i32;
     match long {
-        Axis::X => Lean {
+        Axis::X => RunSpot {
             at: at,
-            f: e.xy + b,
-            g: e.xz + c,
+            v: xy + b,
+            w: xz + c,
+            wv: zy,
         },
-        Axis::Y => Lean {
+        Axis::Y => RunSpot {
             at: at,
-            f: a - e.xy,
-            g: c - e.zy,
+            v: c - zy,
+            w: a - xy,
+            wv: xz,
         },
-        Axis::Z => Lean {
+        Axis::Z => RunSpot {
             at: at,
-            f: a - e.xz,
-            g: e.zy + b,
+            v: zy + b,
+            w: a - xz,
+            wv: xy,
         },
     }
 }
 
-// A shorter axis's value after a long step: `up` more, and where it moved, `down` less.
-fn swung(e: i32, up: i32, down: i32) -> i32
-    requires { ⌜ CanSwing e up down ⌝ }
-    ensures { λ r. ⌜ r ≡ swung-by e up down ⌝ }
+// A cell of a run as a spot again.
+pub fn spot_of(s: RunSpot, d: Diffs, long: Axis) -> Spot
+    requires { ⌜ SmallDue s × Short d ⌝ }
+    ensures { λ r. ⌜ r ≡ spot-back long (steps d) s ⌝ }
 {
-    e + up - pick(e, down)
+    let at = s.at;
+    let v = s.v;
+    let w = s.w;
+    let wv = s.wv;
+    let a = d.a as i32;
+    let b = d.b as i32;
+    let c = d.c as i32;
+    match long {
+        Axis::X => Spot {
+            at: at,
+            e: Tripod {
+                xy: v - b,
+                xz: w - c,
+                zy: wv,
+            },
+        },
+        Axis::Y => Spot {
+            at: at,
+            e: Tripod {
+                xy: a - w,
+                xz: wv,
+                zy: c - v,
+            },
+        },
+        Axis::Z => Spot {
+            at: at,
+            e: Tripod {
+                xy: wv,
+                xz: a - w,
+                zy: v - b,
+            },
+        },
+    }
 }
 
-// How far the place of the byte moves with a long step.
-fn strode(l: Lean, h: Slope) -> i32
-    requires { ⌜ CanLean h l ⌝ }
-    ensures { λ r. ⌜ r ≡ strode-by h l ⌝ }
+// One number where e is at least 0, else the other.
+fn by_sign(e: i32, go: i32, stay: i32) -> i32
+    ensures { λ r. ⌜ r ≡ by-sign e go stay ⌝ }
 {
-    h.su + pick(l.f, h.sv) + pick(l.g, h.sw)
+    if 0 <= e { go } else { stay }
 }
 
-// The long step.
-fn lean_step(l: Lean, h: Slope) -> Lean
-    requires { ⌜ CanLean h l ⌝ }
-    ensures { λ r. ⌜ r ≡ stepped-lean h l ⌝ }
+// What a shorter axis does to its three numbers.
+fn moved_by(t: Triple, k: Side) -> Triple
+    requires { ⌜ CanMove k t ⌝ }
+    ensures { λ r. ⌜ r ≡ moved-by k t ⌝ }
 {
-    let at = l.at + strode(l, h);
-    let f = swung(l.f, h.v2, h.u2);
-    let g = swung(l.g, h.w2, h.u2);
-    Lean { at: at, f: f, g: g }
+    let due = t.due;
+    let stay = k.stay;
+    let go = k.go;
+    let at = t.at + by_sign(due, go.at, stay.at);
+    let next = due + by_sign(due, go.due, stay.due);
+    let wv = t.wv + by_sign(due, go.wv, stay.wv);
+    Triple {
+        at: at,
+        due: next,
+        wv: wv,
+    }
+}
+
+// The long step: along u and v, then along w.
+fn long_step(s: RunSpot, k: RunRoute) -> RunSpot
+    requires { ⌜ CanStep k s ⌝ }
+    ensures { λ r. ⌜ r ≡ long-step k s ⌝ }
+{
+    let v = moved_by(
+        Triple {
+            at: s.at,
+            due: s.v,
+            wv: s.wv,
+        },
+        k.v,
+    );
+    let w = moved_by(
+        Triple {
+            at: v.at,
+            due: s.w,
+            wv: v.wv,
+        },
+        k.w,
+    );
+    RunSpot {
+        at: w.at,
+        v: v.due,
+        w: w.due,
+        wv: w.wv,
+    }
 }
 
 // The byte of a cell of a run.
-fn byte_of(cells: &[u8], l: Lean) -> u8
-    requires { ⌜ HasByte (length (now cells)) (l .at) ⌝ }
-    ensures { λ r. ⌜ r ≡ byte-there (now (cells .entry)) (l .at) ⌝ }
+fn byte_of(cells: &[u8], s: RunSpot) -> u8
+    requires { ⌜ HasByte (length (now cells)) (s .at) ⌝ }
+    ensures { λ r. ⌜ r ≡ byte-there (now (cells .entry)) (s .at) ⌝ }
 {
-    let index = l.at as usize;
+    let index = s.at as usize;
     cells[index]
 }
 
-// From a cell whose byte is 0, by long steps, to the first one whose byte is not 0, or to the last.
-pub fn clear_run(cells: &[u8], h: Slope, start: Lean, from: u32) -> Run
-    requires { ⌜ CanRun (now cells) h start from ⌝ }
-    ensures { λ r. ⌜ Ran (now (cells .entry)) h start from r ⌝ }
+// From a cell whose byte is 0, with so many long steps left, to the first one whose byte is not 0, or to the last.
+pub fn clear_run(cells: &[u8], k: RunRoute, start: RunSpot, from: u32) -> Run
+    requires { ⌜ CanRun (now cells) k start from ⌝ }
+    ensures { λ r. ⌜ Ran (now (cells .entry)) k start from r ⌝ }
 {
-    let mut l = start;
-    let mut m = from;
-    while m < h.last {
-        if byte_of(cells, l) != 0 {
-            return Run { at: l.at, m: m };
+    let mut s = start;
+    let mut left = from;
+    while 0 < left {
+        if byte_of(cells, s) != 0 {
+            return Run {
+                spot: s,
+                left: left,
+            };
         }
-        l = lean_step(l, h);
-        m += 1;
+        s = long_step(s, k);
+        left -= 1;
     }
-    Run { at: l.at, m: m }
-}
-
-// How many cells the 26-line's cell m has moved along an axis.
-fn moved_by(m: u32, d: u32, u: u32) -> u32
-    requires { ⌜ (0 < u) × (u ≤ 16383) × (m ≤ u) × (d ≤ u) ⌝ }
-    ensures { λ r. ⌜ r ≡ moved-26 u d m ⌝ }
-{
-    (2 * m * d + u) / (2 * u)
-}
-
-// One decision value.
-fn decision(b: u32, i: u32, a: u32, j: u32) -> i32
-    requires { ⌜ (b ≤ 16383) × (i ≤ 16383) × (a ≤ 16383) × (j ≤ 16383) ⌝ }
-    ensures { λ r. ⌜ r ≡ (pos (b * (2 * i + 1)) -ℤ pos (a * (2 * j + 1))) ⌝ }
-{
-    let p = (b * (2 * i + 1)) as i32;
-    let q = (a * (2 * j + 1)) as i32;
-    p - q
-}
-
-// The decision values after t steps of d.
-fn values_at(d: Diffs, t: Diffs) -> Tripod
-    requires { ⌜ Short d × Short t ⌝ }
-    ensures { λ r. ⌜ r ≡ values (steps d) (steps t) ⌝ }
-{
-    let xy = decision(d.b, t.a, d.a, t.b);
-    let xz = decision(d.c, t.a, d.a, t.c);
-    let zy = decision(d.b, t.c, d.c, t.b);
-    Tripod {
-        xy: xy,
-        xz: xz,
-        zy: zy,
+    Run {
+        spot: s,
+        left: left,
     }
-}
-
-// Where a run ended, as a spot again.
-pub fn spot_of(r: Run, d: Diffs, u: u32) -> Spot
-    requires { ⌜ Short d × (0 < u) × (u ≡ longest (steps d)) × (r .m ≤ u) ⌝ }
-    ensures { λ s. ⌜ s ≡ spot-at (steps d) r ⌝ }
-{
-    let m = r.m;
-    let at = r.at;
-    let i = moved_by(m, d.a, u);
-    let j = moved_by(m, d.b, u);
-    let k = moved_by(m, d.c, u);
-    let e = values_at(d, Diffs { a: i, b: j, c: k });
-    Spot { at: at, e: e }
 }

@@ -66,16 +66,20 @@ measured-is p q d hp hq ea eb ec = (fun-ext same, record { a = below X ea; b = b
 -- ---- the values
 
 -- at a place within short differences the values may be added
-pub place-small : (D t : Steps) → ((a : Axis) → D a ≤ 16383) → ((a : Axis) → t a ≤ D a) → SmallTripod (values D t)
-place-small D t short le = record { xy = small X Y; xz = small X Z; zy = small Z Y }
-  where
-    small : (a b : Axis) → Small (decision D t a b)
-    small a b =
-        let (lo, hi) = stays-small D t a b (short a) (short b) (le a) (le b) in
-        let l = ≤ℤ-is (negsuc 536821760) (decision D t a b) .0 lo in
-        let h = ≤ℤ-is (decision D t a b) (pos 536821761) .0 hi in
-        let o = one-sided (decision D t a b) in
-        parts-small (decision D t a b) (omega arith) (omega arith)
+module _ (D t : Steps) (short : (a : Axis) → D a ≤ 16383) (le : (a : Axis) → t a ≤ D a) where
+  pub decision-most : (a b : Axis) → (up (decision D t a b) ≤ 536821761) × (dn (decision D t a b) ≤ 536821761)
+  decision-most a b =
+      let (lo, hi) = stays-small D t a b (short a) (short b) (le a) (le b) in
+      let l = ≤ℤ-is (negsuc 536821760) (decision D t a b) .0 lo in
+      let h = ≤ℤ-is (decision D t a b) (pos 536821761) .0 hi in
+      let o = one-sided (decision D t a b) in
+      (omega arith, omega arith)
+
+  pub decision-small : (a b : Axis) → Small (decision D t a b)
+  decision-small a b = let m = decision-most a b in parts-small (decision D t a b) (omega arith) (omega arith)
+
+  pub place-small : SmallTripod (values D t)
+  place-small = record { xy = decision-small X Y; xz = decision-small X Z; zy = decision-small Z Y }
 
 pub doubled-small : (D : Steps) → ((a : Axis) → D a ≤ 16383) → SmallDoubled (doubled D)
 doubled-small D short = record { a2 = small X; b2 = small Y; c2 = small Z }

@@ -2,10 +2,8 @@
 use mathlib.Core.Path.{sym, subst}
 use native.Mathlib.Omega.{arith}
 use borrow.Author.Needs.{needs}
-use Rattle.lines.specs.Steps.{X, Y, Z}
 use Rattle.lines.specs.Lines.{differences}
 use Rattle.tripod.specs.Tripod.{LongMoves}
-use Rattle.routes.proofs.Spots.{short-at}
 use Rattle.walks.specs.declared.Walker.the-variants.{Adaptive}
 use Rattle.hits.specs.Found.{Walked, CanWalk, going}
 use Rattle.hits.proofs.Turns.{turn-small, near-faces, near-turn}
@@ -31,14 +29,11 @@ walk-faces-requires c κs =
     let l = s .args .cells .now in (
       g .plan,
       subst (CanWalk l (s .args .k) (s .args .s) (s .args .reads)) (sym (c .faces-of .ensures))
-          (record { next = going l (s .args .k) Adaptive; from = _; crossing = near-faces _ (s .args .k) (g .plan) l (s .args .m) (s .args .s) (s .args .reads) (g .at) _ (moves (c .before)) near }),
+          (record { next = going l (s .args .k) Adaptive; from = _; crossing = near-faces _ (s .args .k) (g .plan) l (s .args .left) (s .args .s) (s .args .reads) (g .at) _ (moves (c .before)) near }),
     )
 
-add-t11 : tie.Need-add-t11
-add-t11 c =
-    let s = c .before .before .before .before .before .before .before in
-    let (g, near) = s .pre in
-    record { fits = omega (arith, g .at .below, short-at _ (s .args .k) (g .plan) X, short-at _ (s .args .k) (g .plan) Y, short-at _ (s .args .k) (g .plan) Z) }
+sub-t11 : tie.Need-sub-t11
+sub-t11 c = omega (arith, c .before .before .before .before .before .before .before .pre .0 .at .some)
 
 returns : tie.Need-returns
 returns c =
@@ -46,13 +41,12 @@ returns c =
     let (g, near) = s .pre in
     let l = s .args .cells .now in
     record {
-      further = omega arith;
-      most = omega (arith, g .at .below);
+      fewer = omega (arith, g .at .some);
       came =
-          near-turn _ (s .args .k) (g .plan) l (s .args .m) (s .args .s) (s .args .reads) (g .at) _ (moves (c .before .before .before)) (c .before .walk-faces .result) near
+          near-turn _ (s .args .k) (g .plan) l (s .args .left) (s .args .s) (s .args .reads) (g .at) _ (moves (c .before .before .before)) (c .before .walk-faces .result) near
           (subst (λ f. Walked l (s .args .k) (s .args .s) (s .args .reads) f (c .before .walk-faces .result)) (c .before .before .faces-of .ensures) (c .before .walk-faces .ensures));
     }
 
 pub near-turn-spec : {M : Type 1} → statement M
 near-turn-spec =
-    tie.close (tie.spec long-moves-requires faces-of-requires walk-faces-requires add-t11 returns)
+    tie.close (tie.spec long-moves-requires faces-of-requires walk-faces-requires sub-t11 returns)

@@ -1,40 +1,54 @@
--- `runs::moved_by` meets its contract: document 01's formula, whose numbers fit. Assumes nothing.
-use mathlib.Core.Path.{_≡_, refl}
-use Prim.Native.Nat.{ℕ, zero, suc, _+_, _*_, _/_, _≤_, _<_}
-use native.Mathlib.Omega.{arith}
-use native.Mathlib.Nat.{mul-le-mul}
+-- `runs::moved_by` meets its contract: of small numbers every sum fits. Assumes nothing.
 use borrow.Author.Needs.{needs}
-use Rattle.lines.specs.Lines.{moved-26}
+use Rattle.runs.proofs.Sums.{move-fits, move-held}
 use Rattle.runs.proofs.moved_by.Statement.{statement}
 use Rattle.runs.proofs.moved_by.Tie as tie
 
-formula : (u d m : ℕ) → 0 < u → (2 * m * d + u) / (2 * u) ≡ moved-26 u d m
-unfolding moved-26
-formula zero d m some = absurd (omega arith)
-formula (suc n) d m some = refl
+by-sign-requires : tie.Need-by-sign-requires
+by-sign-requires c κs = search needs
 
--- the product
-most : (c : tie.Start) → 2 * c .args .m * c .args .d ≤ 536805378
-most c = let (some, short, m, d) = c .pre in mul-le-mul {n₂ = 32766} {m₂ = 16383} (omega arith) (omega arith)
+add-at : tie.Need-add-at
+add-at c =
+    let a = c .before .before in
+    let m = a .before .before .before .before .before .before .pre in
+    move-fits _ _ _ _ (m .from .at) (m .from .due) (m .go .at) (m .stay .at) _ (a .by-sign .ensures)
 
-mul-result : tie.Need-mul-result
-mul-result c = search needs
+by-sign-requires-2 : tie.Need-by-sign-requires-2
+by-sign-requires-2 c κs = search needs
 
-mul-result-2 : tie.Need-mul-result-2
-mul-result-2 c = record { fits = omega (arith, most c) }
+add-next : tie.Need-add-next
+add-next c =
+    let m = c .before .before .before .before .before .before .before .before .before .before .before .pre in
+    move-fits _ _ _ _ (m .from .due) (m .from .due) (m .go .due) (m .stay .due) _ (c .by-sign2 .ensures)
 
-add-result : tie.Need-add-result
-add-result c = record { fits = omega (arith, most c) }
+by-sign-requires-3 : tie.Need-by-sign-requires-3
+by-sign-requires-3 c κs = search needs
 
-mul-result-3 : tie.Need-mul-result-3
-mul-result-3 c = search needs
-
-div-result : tie.Need-div-result
-div-result c = search needs
+add-wv : tie.Need-add-wv
+add-wv c =
+    let m = c .before .before .before .before .before .before .before .before .before .before .before .before .before .before .before .before .pre in
+    move-fits _ _ _ _ (m .from .wv) (m .from .due) (m .go .wv) (m .stay .wv) _ (c .before .before .by-sign3 .ensures)
 
 returns : tie.Need-returns
-returns c = formula (c .args .u) (c .args .d) (c .args .m) (c .pre .0)
+returns c =
+    let third = c .before .before in
+    let second = third .before .before .before in
+    let first = second .before .before .before .before .before in
+    let m = first .before .before .before .before .before .before .pre in
+    λ i. record {
+      at = move-held _ _ _ _ (m .from .at) (m .from .due) (m .go .at) (m .stay .at) _ (first .by-sign .ensures) i;
+      due = move-held _ _ _ _ (m .from .due) (m .from .due) (m .go .due) (m .stay .due) _ (second .by-sign2 .ensures) i;
+      wv = move-held _ _ _ _ (m .from .wv) (m .from .due) (m .go .wv) (m .stay .wv) _ (third .by-sign3 .ensures) i;
+    }
 
 pub moved-by-spec : {M : Type 1} → statement M
 moved-by-spec =
-    tie.close (tie.spec mul-result mul-result-2 add-result mul-result-3 div-result returns)
+    tie.close
+    (tie.spec
+    by-sign-requires
+    add-at
+    by-sign-requires-2
+    add-next
+    by-sign-requires-3
+    add-wv
+    returns)

@@ -1,67 +1,86 @@
--- `runs::spot_of` meets its contract: the places moved by document 01's formula, and the values of that place. Assumes nothing.
-use mathlib.Core.Path.{_≡_, ap, _∙_, fun-ext}
-use Prim.Native.Nat.{ℕ, _≤_}
-use native.Mathlib.Omega.{arith}
+-- `runs::spot_of` meets its contract: what is due and a short difference have differences that fit. Assumes nothing.
+use mathlib.Core.Path.{sym, ap, _∙_}
 use borrow.Author.Needs.{needs}
 use Rattle.cells.proofs.Machine.{held-is}
-use Rattle.lines.specs.Steps.{Axis, X, Y, Z, at}
-use Rattle.lines.specs.Lines.{longest, place-26, moved-26}
-use Rattle.lines.specs.Decisions.{values}
-use Rattle.lines.proofs.Centres.{within-26}
-use Rattle.tripod.specs.declared.Diffs.{Diffs}
-use Rattle.tripod.specs.Tripod.{steps, Short}
-use Rattle.tripod.proofs.Laws.{short-at}
+use Rattle.tripod.specs.Tripod.{steps}
+use Rattle.runs.specs.Run.{spot-back}
+use Rattle.runs.proofs.Sums.{back-fits, back-held, less-fits, less-held}
 use Rattle.runs.proofs.spot_of.Statement.{statement}
 use Rattle.runs.proofs.spot_of.Tie as tie
 
--- what was answered is the place of cell m
-module _ (d : Diffs) (u m : ℕ) (is : u ≡ longest (steps d)) where
-  place-of : (a : Axis) {r : ℕ} → r ≡ moved-26 u (steps d a) m → r ≡ place-26 (steps d) m a
-  place-of a e = e ∙ ap (λ v. moved-26 v (steps d a) m) is
+cast-a : tie.Need-cast-a
+cast-a c = search needs
 
-  place-short : Short d → m ≤ u → (a : Axis) {r : ℕ} → r ≡ moved-26 u (steps d a) m → r ≤ 16383
-  place-short short le a e = omega (arith, place-of a e, within-26 (steps d) m (omega arith) a, short-at d short a)
+cast-b : tie.Need-cast-b
+cast-b c = search needs
 
-  places : {i j k : ℕ} → i ≡ moved-26 u (d .a) m → j ≡ moved-26 u (d .b) m → k ≡ moved-26 u (d .c) m → at i j k ≡ place-26 (steps d) m
-  places {i} {j} {k} e f g = fun-ext each
-    where
-      each : (a : Axis) → at i j k a ≡ place-26 (steps d) m a
-      each X = place-of X e
-      each Y = place-of Y f
-      each Z = place-of Z g
+cast-c : tie.Need-cast-c
+cast-c c = search needs
 
-moved-by-requires : tie.Need-moved-by-requires
-moved-by-requires c κs = search needs
+enum-told : tie.Need-enum-told
+enum-told c = search needs
 
-moved-by-requires-2 : tie.Need-moved-by-requires-2
-moved-by-requires-2 c κs = search needs
+sub-t12 : tie.Need-sub-t12
+sub-t12 c = let (e, d) = c .before .before .before .before .before .before .before .before .before .pre in search (back-fits, e, d)
 
-moved-by-requires-3 : tie.Need-moved-by-requires-3
-moved-by-requires-3 c κs = search needs
+sub-t13 : tie.Need-sub-t13
+sub-t13 c = let (e, d) = c .before .before .before .before .before .before .before .before .before .pre in search (back-fits, e, d)
 
-values-at-requires : tie.Need-values-at-requires
-values-at-requires c κs =
-    let s = c .before .before .before .before in
-    let (short, some, is, le) = s .pre in (
-      short,
-      record {
-        a = place-short (s .args .d) (s .args .u) (s .args .r .m) is short le X (c .before .before .moved-by .ensures);
-        b = place-short (s .args .d) (s .args .u) (s .args .r .m) is short le Y (c .before .moved-by2 .ensures);
-        c = place-short (s .args .d) (s .args .u) (s .args .r .m) is short le Z (c .moved-by3 .ensures);
-      },
-    )
+enum-told-2 : tie.Need-enum-told-2
+enum-told-2 c = search needs
+
+sub-t15 : tie.Need-sub-t15
+sub-t15 c = let (e, d) = c .before .before .before .before .before .before .before .before .before .pre in search (less-fits, e, d)
+
+sub-t16 : tie.Need-sub-t16
+sub-t16 c = let (e, d) = c .before .before .before .before .before .before .before .before .before .pre in search (less-fits, e, d)
+
+enum-told-3 : tie.Need-enum-told-3
+enum-told-3 c = search needs
+
+sub-t18 : tie.Need-sub-t18
+sub-t18 c = let (e, d) = c .before .before .before .before .before .before .before .before .before .pre in search (less-fits, e, d)
+
+sub-t19 : tie.Need-sub-t19
+sub-t19 c = let (e, d) = c .before .before .before .before .before .before .before .before .before .pre in search (back-fits, e, d)
 
 returns : tie.Need-returns
 returns c =
-    let s = c .before .before .before .before .before in
-    let (short, some, is, le) = s .pre in
-    let e =
-    c .values-at .ensures
-    ∙ ap (values (steps (s .args .d))) (places (s .args .d) (s .args .u) (s .args .r .m) is (c .before .before .before .moved-by .ensures) (c .before .before .moved-by2 .ensures) (c .before .moved-by3 .ensures))
-    in
-    λ i. record { at = held-is (s .args .r .at) (search needs) i; e = e i }
+    let s = c .before .before .before .before .before .before .before .before .before in
+    let (e, d) = s .pre in
+    (λ i. record { at = held-is (s .args .s .at) (search needs) i; e = record { xy = back-held _ _ (e .v) (d .b) i; xz = back-held _ _ (e .w) (d .c) i; zy = held-is (s .args .s .wv) (search needs) i } })
+    ∙ ap (λ u. spot-back u (steps (s .args .d)) (s .args .s)) (sym (c .enum-told .given .1))
+
+returns-2 : tie.Need-returns-2
+returns-2 c =
+    let s = c .before .before .before .before .before .before .before .before .before in
+    let (e, d) = s .pre in
+    (λ i. record { at = held-is (s .args .s .at) (search needs) i; e = record { xy = less-held _ _ (e .w) (d .a) i; xz = held-is (s .args .s .wv) (search needs) i; zy = less-held _ _ (e .v) (d .c) i } })
+    ∙ ap (λ u. spot-back u (steps (s .args .d)) (s .args .s)) (sym (c .enum-told2 .given .1))
+
+returns-3 : tie.Need-returns-3
+returns-3 c =
+    let s = c .before .before .before .before .before .before .before .before .before in
+    let (e, d) = s .pre in
+    (λ i. record { at = held-is (s .args .s .at) (search needs) i; e = record { xy = held-is (s .args .s .wv) (search needs) i; xz = less-held _ _ (e .w) (d .a) i; zy = back-held _ _ (e .v) (d .b) i } })
+    ∙ ap (λ u. spot-back u (steps (s .args .d)) (s .args .s)) (sym (c .enum-told3 .given .1))
 
 pub spot-of-spec : {M : Type 1} → statement M
 spot-of-spec =
     tie.close
-    (tie.spec moved-by-requires moved-by-requires-2 moved-by-requires-3 values-at-requires returns)
+    (tie.spec
+    cast-a
+    cast-b
+    cast-c
+    enum-told
+    sub-t12
+    sub-t13
+    enum-told-2
+    sub-t15
+    sub-t16
+    enum-told-3
+    sub-t18
+    sub-t19
+    returns
+    returns-2
+    returns-3)
