@@ -1,7 +1,14 @@
 /* The library's calls as plain C, to be held against it: the same algorithms written for speed, with the signatures of the header. Inputs are
-   trusted, not tested: refused ones are not timed. BY(x) names the compiler's copy of x. */
+   trusted, not tested, and there is room: refused calls are not timed. BY(x) names the compiler's copy of x. */
 
 #include "../include/oatmarten.h"
+
+__typeof__(oat_line6) BY(line6);
+__typeof__(oat_line26) BY(line26);
+__typeof__(oat_plain) BY(plain);
+__typeof__(oat_adaptive) BY(adaptive);
+__typeof__(oat_mark) BY(mark);
+__typeof__(oat_complete) BY(complete);
 
 typedef struct { int a, b, c, x, y, z; } way; /* differences; one cell towards q on each axis */
 
@@ -20,11 +27,11 @@ static inline int longest(way w) {
 /* ---- lists */
 
 oat_listed BY(line6)(oat_cell p, oat_cell q, int32_t *out, size_t room) {
+    (void)room;
     way w = way_of(p, q);
     int xy = w.b - w.a, xz = w.c - w.a, zy = w.b - w.c, a2 = 2 * w.a, b2 = 2 * w.b, c2 = 2 * w.c;
     int x = p.x, y = p.y, z = p.z;
     uint32_t faces = (uint32_t)(w.a + w.b + w.c);
-    if (room < 3 * ((size_t)faces + 1)) return (oat_listed){OAT_REFUSED_ROOM, 0, 0, 0};
     for (uint32_t left = faces; left; left--, out += 3) {
         out[0] = x, out[1] = y, out[2] = z;
         if (xy < 0) {
@@ -36,17 +43,17 @@ oat_listed BY(line6)(oat_cell p, oat_cell q, int32_t *out, size_t room) {
         }
     }
     out[0] = q.x, out[1] = q.y, out[2] = q.z;
-    return (oat_listed){0, 0, 0, faces + 1};
+    return (oat_listed){.count = faces + 1};
 }
 
 /* the longest axis, u, moves each time; f and g tell of the others, v and w */
 oat_listed BY(line26)(oat_cell p, oat_cell q, int32_t *out, size_t room) {
+    (void)room;
     way way = way_of(p, q);
     int U = longest(way), u = U == way.a ? 0 : U == way.b ? 1 : 2, v = u == 0 ? 1 : 0, w = u == 2 ? 1 : 2;
     int apart[3] = {way.a, way.b, way.c}, unit[3] = {way.x, way.y, way.z}, from[3] = {p.x, p.y, p.z};
     int U2 = 2 * U, V2 = 2 * apart[v], W2 = 2 * apart[w], f = V2 - U, g = W2 - U;
     int at_u = from[u], at_v = from[v], at_w = from[w], by_u = unit[u], by_v = unit[v], by_w = unit[w];
-    if (room < 3 * ((size_t)U + 1)) return (oat_listed){OAT_REFUSED_ROOM, 0, 0, 0};
     for (int left = U; left; left--, out += 3) {
         out[u] = at_u, out[v] = at_v, out[w] = at_w;
         at_u += by_u;
@@ -56,13 +63,13 @@ oat_listed BY(line26)(oat_cell p, oat_cell q, int32_t *out, size_t room) {
         g += g >= 0 ? W2 - U2 : W2;
     }
     out[0] = q.x, out[1] = q.y, out[2] = q.z;
-    return (oat_listed){0, 0, 0, (uint32_t)U + 1};
+    return (oat_listed){.count = (uint32_t)U + 1};
 }
 
 /* ---- first hits */
 
 /* of the crossings last made (i of a and so on), the last one: at (2i-1)/(2a), ties y, z, x */
-static oat_hit found(oat_counts n, const uint8_t *cells, const uint8_t *at, oat_cell p, way w, uint32_t reads) {
+static oat_hit BY(found)(oat_counts n, const uint8_t *cells, const uint8_t *at, oat_cell p, way w, uint32_t reads) {
     if (*at < OAT_SOLID_LEAST) return (oat_hit){.reads = reads};
     uint32_t index = (uint32_t)(at - cells), row = index / n.nx;
     int x = (int)(index - row * n.nx), z = (int)(row / n.ny), y = (int)(row - (uint32_t)z * n.ny);
@@ -91,7 +98,7 @@ oat_hit BY(plain)(oat_counts n, const uint8_t *cells, size_t bytes, oat_cell p, 
             else at += sy, xy -= a2, zy -= c2;
         }
     }
-    return found(n, cells, at, p, w, (uint32_t)(faces - left) + 1);
+    return BY(found)(n, cells, at, p, w, (uint32_t)(faces - left) + 1);
 }
 
 /* The adaptive walk as the paper has it: on clear runs the two values of the 26-line (f and g, of the shorter axes v and w against the longest,
@@ -127,7 +134,7 @@ oat_hit BY(adaptive)(oat_counts n, const uint8_t *cells, size_t bytes, oat_cell 
             left--;
             more += (uint32_t)faces - 1;
             do {
-                if (*at >= OAT_SOLID_LEAST) return found(n, cells, at, p, way, (uint32_t)(U - left) + more - (uint32_t)faces);
+                if (*at >= OAT_SOLID_LEAST) return BY(found)(n, cells, at, p, way, (uint32_t)(U - left) + more - (uint32_t)faces);
                 if (vw < 0) {
                     if (uv >= 0) at += sv, uv -= U2, vw += vw_v;
                     else at += su, uv += V2, uw += W2;
@@ -138,7 +145,7 @@ oat_hit BY(adaptive)(oat_counts n, const uint8_t *cells, size_t bytes, oat_cell 
             } while (--faces);
         } while (left && *at != OAT_CLEAR);
     }
-    return found(n, cells, at, p, way, (uint32_t)U + more);
+    return BY(found)(n, cells, at, p, way, (uint32_t)U + more);
 }
 
 /* ---- marks: of three layers the largest byte at each place of a row, kept for three rows; of these the largest; then of three places */
@@ -182,7 +189,7 @@ oat_verdict BY(mark)(oat_counts n, uint8_t *cells, size_t bytes) {
             over_rows(n, cells, y, z, &r);
             mark_row(cells + (z * n.ny + y) * n.nx, r.rows, n.nx);
         }
-    return (oat_verdict){0, 0, 0};
+    return (oat_verdict){0};
 }
 
 static inline int gap_in_row(const uint8_t *row, const uint8_t *rows, size_t nx) {
@@ -201,7 +208,7 @@ oat_complete_answer BY(complete)(oat_counts n, const uint8_t *cells, size_t byte
     for (size_t z = 0; z < n.nz; z++)
         for (size_t y = 0; y < n.ny; y++) {
             over_rows(n, cells, y, z, &r);
-            if (gap_in_row(cells + (z * n.ny + y) * n.nx, r.rows, n.nx)) return (oat_complete_answer){0, 0, 0, 0};
+            if (gap_in_row(cells + (z * n.ny + y) * n.nx, r.rows, n.nx)) return (oat_complete_answer){.yes = 0};
         }
-    return (oat_complete_answer){0, 0, 0, 1};
+    return (oat_complete_answer){.yes = 1};
 }
