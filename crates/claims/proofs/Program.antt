@@ -1,24 +1,54 @@
 -- The program's claims: what a step says of a frame it says of all that is left of the input, so the steps give the whole output. Assumes nothing.
-use Prim.Native.Nat.{ℕ, zero, suc, _+_, _≤_}
+use Prim.Native.Nat.{ℕ, zero, suc, _+_, _≤_, _<_}
 use mathlib.Core.Path.{_≡_, refl, sym, ap, ap₂, _∙_, subst}
-use mathlib.Core.List.{List, [], _++_, append-nil}
+use mathlib.Core.List.{List, [], _++_, append-nil, _∷_}
+use mathlib.Core.Bool.{Bool, true, false, cond}
+use mathlib.Core.Logic.{_⊎_, inl, inr}
 use native.Mathlib.Omega.{arith}
 use lib.ListN.{length, take, drop, replicate, length-drop}
 use lib.Seq.{take-at}
-use borrow.Author.Tests.{eq-eqb}
+use borrow.Author.Tests.{eq-eqb, ne-eqb, le-ltb}
+use Rattle.cells.specs.declared.Axis.{Axis}
+use Rattle.cells.specs.declared.Axis.the-variants.{X, Y, Z}
+use Rattle.cells.specs.declared.Cell.{Cell}
 use Rattle.cells.specs.declared.Counts.{Counts}
+use Rattle.cells.specs.declared.End.{End}
+use Rattle.cells.specs.declared.End.the-variants.{P, Q}
+use Rattle.cells.specs.declared.Refusal.the-variants.{OffGrid}
+use Rattle.cells.specs.declared.Verdict.{Verdict}
+use Rattle.cells.specs.declared.Verdict.the-variants.{Fine, Refused}
+use Rattle.cells.specs.Checks.{refuse-when, _then_}
+use Rattle.cells.specs.Refusals.{told}
+use Rattle.lines.specs.Preference.{rule-1}
+use Rattle.lines.specs.Lines.{six-cell}
+use Rattle.grids.specs.Grid.{shape}
+use Rattle.grids.specs.Inside.{off-axis, grid-check, walk-check}
+use Rattle.walks.specs.declared.Walker.{Walker}
+use Rattle.walks.specs.declared.Walker.the-variants.{Plain, Adaptive}
+use Rattle.walks.specs.declared.FirstHit.{FirstHit}
+use Rattle.walks.specs.declared.Hit.{Hit}
+use Rattle.walks.specs.declared.FirstHit.the-variants.{Clear, Hit as Blocked}
+use Rattle.walks.specs.Walks.{hit-at}
+use Rattle.walks.specs.Answers.{first-hit}
+use Rattle.walks.specs.Numbers.{end-of}
+use Rattle.walks.proofs.Story.{first-hit-is}
+use Rattle.records.specs.declared.pairs.Pair.{Pair}
+use Rattle.records.specs.declared.pairs.PairRead.the-variants.{Read as ReadPair}
+use Rattle.records.proofs.HeadTests.{pair-whole}
+use Rattle.records.proofs.RoundTrip.{record-fits}
 use Rattle.records.specs.declared.venues.Venue.{Venue}
 use Rattle.records.specs.declared.venues.VenueRead.{VenueRead}
 use Rattle.records.specs.declared.venues.VenueRead.the-variants.{Read, Refused as NoVenue}
-use Rattle.records.specs.Heads.{whole-check}
+use Rattle.records.specs.Heads.{whole-check, announced}
 use Rattle.records.specs.Venues.{venue-check, venue-read, venue-cells, start-of}
-use Rattle.records.specs.Pairs.{pair-check, pair-read}
+use Rattle.records.specs.Pairs.{pair-check, pair-read, pair-length, pair-in, pair-by}
 use Rattle.program.specs.declared.Next.{Next}
 use Rattle.program.specs.declared.Next.the-variants.{On, Over}
 use Rattle.program.specs.declared.Step.{Step}
-use Rattle.program.specs.Program.{Said, venue-most, pair-most, beyond, venue-said, pair-said, then-on, pairs, after-venue, output, frame, frame-length, after-frame, Says, text-room}
-use Rattle.program.proofs.Frames.{venue-framed, venue-on, venue-taken, read-framed, cells-framed, pair-framed, pair-on, after-same, less-left}
-use Rattle.claims.specs.Program.{Pairs, last, next, Runs, ends, begins, Writes, OneStep, example-input, Silent, GoesOn, Begins}
+use Rattle.program.specs.Program.{Said, venue-most, pair-most, beyond, venue-said, pair-said, then-on, pairs, after-venue, output, frame, frame-length, after-frame, Says, text-room, venue-refused, said-of-venue, after-refusal, answers, walk-lines, said-of-walks, after-record}
+use Rattle.program.proofs.Frames.{venue-framed, venue-on, venue-taken, read-framed, cells-framed, pair-framed, pair-on, after-same, less-left, beyond-is}
+use Rattle.claims.specs.Program.{Pairs, last, next, Runs, ends, begins, Writes, OneStep, example-input, Silent, GoesOn, Begins, Walked, AllWalked, going-on, FiveOrLines}
+use Rattle.texts.specs.Text.{pair-refused-line}
 use Rattle.claims.proofs.Starred.{example-writes}
 use denote.Ref.{RefT}
 
@@ -26,7 +56,7 @@ use denote.Ref.{RefT}
 
 -- what a step put is the text that it says
 text-of : {said : Said} {entry exit : List ℕ} {r : Step} → Says said entry r exit → take (r .long) exit ≡ said .text
-text-of {said} {entry} {exit} {r} h = ap (take (r .long)) (h .puts .holds) ∙ take-at (said .text) (drop (length (said .text)) entry) (r .long) (sym (h .puts .says))
+text-of {said} {entry} {exit} {r} h = ap (take (r .long)) (h .holds) ∙ take-at (said .text) (drop (length (said .text)) entry) (r .long) (sym (h .long))
 
 -- some step says it
 made : Said → Step
@@ -37,7 +67,7 @@ put said = said .text ++ drop (length (said .text)) (replicate text-room 0)
 
 says-so : (said : Said) → Says said (replicate text-room 0) (made said) (put said)
 unfolding made put
-says-so said = record { puts = record { says = refl; holds = refl }; next = refl }
+says-so said = record { long = refl; holds = refl; next = refl }
 
 written : (said : Said) → take (made said .long) (put said) ≡ said .text
 written said = text-of (says-so said)
@@ -160,7 +190,8 @@ module _ (s : List ℕ) where
       by (On k) (Read v) on e =
           let within = venue-on s k on in
           subst (Runs s)
-          (ap (λ a. a ++ pairs (length s) (v .counts) (venue-cells s) k (after-frame venue-most s)) (venue-wrote (says-so venue-frame)) ∙ sym (begins-with k on v e))
+          (ap (λ a. a ++ pairs (length s) (v .counts) (venue-cells s) k (after-frame venue-most s)) (venue-wrote (says-so venue-frame))
+          ∙ sym (begins-with k on v e))
           (begins
           {bytes = lent}
           {cells = record { ptr = (0, start-of (venue-read (frame venue-most s))); name = 0; now = venue-cells s }}
@@ -174,11 +205,92 @@ module _ (s : List ℕ) where
 pub writes : (s : List ℕ) → Writes s
 writes s = record { only = λ out. only-run s; some = some-run s }
 
+-- ---- a pair of an accepted venue
+
+-- fine, or refused 5
+abbrev FineOrFive : Verdict → Type 0
+FineOrFive Fine = Unit {0}
+FineOrFive (Refused r) = told r .number ≡ 5
+
+five-then : (v w : Verdict) → FineOrFive v → FineOrFive w → FineOrFive (v then w)
+five-then Fine w a b = b
+five-then (Refused r) w a b = a
+
+five-when : (t : Bool) (e : End) (a : Axis) → FineOrFive (refuse-when t (OffGrid e a))
+five-when true e a = refl
+five-when false e a = tt
+
+five-at : (e : End) (n : Counts) (c : Cell) → FineOrFive (grid-check e n c)
+five-at e n c =
+    five-then (refuse-when (off-axis (c .x) (n .nx)) (OffGrid e X)) _ (five-when (off-axis (c .x) (n .nx)) e X)
+    (five-then (refuse-when (off-axis (c .y) (n .ny)) (OffGrid e Y)) _ (five-when (off-axis (c .y) (n .ny)) e Y) (five-when (off-axis (c .z) (n .nz)) e Z))
+
+-- where the shape is fine, no test is left but those of the ends
+walk-five : (n : Counts) (bytes : ℕ) (p q : Cell) → shape n bytes ≡ Fine → FineOrFive (walk-check n bytes p q)
+unfolding walk-check
+walk-five n bytes p q fine =
+    subst (λ (v : Verdict). FineOrFive (v then grid-check P n p then grid-check Q n q)) (sym fine)
+    (five-then (grid-check P n p) _ (five-at P n p) (five-at Q n q))
+
+-- where all tests are passed, a walk is made
+walked : (w : Walker) (n : Counts) (l : List ℕ) (p q : Cell) → walk-check n (length l) p q ≡ Fine → Walked (first-hit w n l p q)
+walked w n l p q fine = subst Walked (sym (first-hit-is n l p q w)) (rw fine (by (hit-at n l (six-cell rule-1 p q (end-of n l p q w))) _ _))
+  where
+    by : (b : Bool) (h : Hit) (reads : ℕ) → Walked (cond b (Blocked h) (Clear reads))
+    by true h reads = tt
+    by false h reads = tt
+
+-- a pair that is read is neither empty nor beyond the most
+pair-fine : (v : Verdict) (a e : Pair) → pair-by v a ≡ ReadPair e → v ≡ Fine
+pair-fine Fine a e h = refl
+pair-fine (Refused r) a e h = absurd (let z : _≡_ {A = ℕ} 0 1 = cc in omega arith)
+
+read-said : (n : Counts) (cells : List ℕ) (k : ℕ) (t : List ℕ) (e : Pair) → pair-read t ≡ ReadPair e
+    → pair-said n cells k t ≡ said-of-walks k (walk-check n (length cells) (e .p) (e .q)) (answers n cells (e .p) (e .q))
+unfolding pair-said pair-read pair-length
+read-said n cells k t e read =
+    let w = pair-whole t (pair-fine (pair-check t) (pair-in t) e read) in
+    let there = w .there in
+    let long : announced t ≡ 13 = w .long in
+    rw (
+      ne-eqb (length t) 0 (λ none. omega arith),
+      beyond-is pair-most t (omega arith),
+      le-ltb pair-most (announced t) (omega arith),
+      read,
+    )
+
+pub five-or-lines : (s cells t : List ℕ) (v : Venue) (e : Pair) → FiveOrLines s cells t v e
+five-or-lines s cells t v e =
+    record {
+      pair = λ venue given read k.
+          by k (rw given (record-fits s v (sym venue) .fine)) (read-said n cells k t e (sym read)) (walk-check n (length cells) p q) refl;
+    }
+  where
+    n : Counts
+    n = v .counts
+
+    p : Cell
+    p = e .p
+
+    q : Cell
+    q = e .q
+
+    found : List (ℕ × FirstHit)
+    found = answers n cells p q
+
+    by : (k : ℕ) → shape n (length cells) ≡ Fine → {said : Said} → said ≡ said-of-walks k (walk-check n (length cells) p q) found
+        → (w : Verdict) → walk-check n (length cells) p q ≡ w
+        → (said ≡ going-on k (pair-refused-line k 5)) ⊎ ((said ≡ going-on k (walk-lines k found)) × AllWalked found)
+    by k fine is Fine w = inr (is ∙ ap (λ u. said-of-walks k u found) w, (walked Plain n cells p q w, (walked Adaptive n cells p q w, tt)))
+    by k fine is (Refused r) w =
+        let five : told r .number ≡ 5 = subst FineOrFive w (walk-five n (length cells) p q fine) in
+        inl (is ∙ ap (λ u. said-of-walks k u found) w ∙ ap (λ number. record { text = pair-refused-line k number; next = after-refusal k number }) five)
+
 -- ---- one answer, and wrong ones
 
 one : {said : Said} {entry x y : List ℕ} {r t : Step} → Says said entry r x → Says said entry t y → (r ≡ t) × (x ≡ y)
 one a b =
-    (ap₂ (λ long next. record { long = long; next = next }) (a .puts .says ∙ sym (b .puts .says)) (a .next ∙ sym (b .next)), a .puts .holds ∙ sym (b .puts .holds))
+    (ap₂ (λ long next. record { long = long; next = next }) (a .long ∙ sym (b .long)) (a .next ∙ sym (b .next)), a .holds ∙ sym (b .holds))
 
 pub one-step : (entry : List ℕ) → OneStep entry
 one-step entry = record { venue = λ frame r t x y. one; pair = λ n cells k frame r t x y. one }

@@ -1,5 +1,5 @@
 -- The claims about the program's lines. Assumes nothing.
-use mathlib.Core.Path.{_≡_, refl, sym, _∙_, subst}
+use mathlib.Core.Path.{_≡_, refl, sym, ap, _∙_, subst}
 use mathlib.Core.Bool.{Bool, true, false, cond}
 use mathlib.Core.List.{List, [], _∷_, _++_}
 use Prim.Native.Nat.{ℕ, zero, suc, _+_, _-_, _*_, _/_, _%_, _≤_, _<_}
@@ -7,9 +7,10 @@ use native.Mathlib.Omega.{arith}
 use lib.Dec.{ltb}
 use lib.ListN.{length, getD, length-append, List·getD-append}
 use lib.Seq.{getD-append-seam}
-use borrow.Author.Tests.{ltb-true, ltb-false}
-use Rattle.texts.specs.Text.{digit, decimal-in, decimal, hit-line, clear-line, pair-refused-line, venue-refused-line}
-use Rattle.claims.specs.Texts.{value-after, Decimal, OneLine, Examples}
+use lib.IntN.{ℤ, pos, negsuc, negℤ}
+use borrow.Author.Tests.{ltb-true, ltb-false, ne-eqb}
+use Rattle.texts.specs.Text.{digit, decimal-in, decimal, signed-decimal, hit-line, clear-line, pair-refused-line, venue-refused-line}
+use Rattle.claims.specs.Texts.{value-after, signed-value, Decimal, Signed, OneLine, Examples}
 
 -- one digit more
 value-more : (n : ℕ) (l : List ℕ) (d : ℕ) → value-after n (l ++ (digit d ∷ [])) ≡ 10 * value-after n l + d
@@ -75,9 +76,22 @@ decimal-right n =
     let r = in-turns (suc n) n (omega arith) in
     record { says = r .says; digits = r .digits; no-leading-zero = λ two. r .no-leading-zero (more-than-one n two); some = r .some }
 
-pub one-line : (line entry : List ℕ) → OneLine line entry
-one-line line entry = record { one = λ r t x y e f. (e .says ∙ sym (f .says), e .holds ∙ sym (f .holds)) }
+-- a text that begins with a digit has no minus
+unsigned : (l : List ℕ) → 1 ≤ length l → 48 ≤ getD l 0 0 → signed-value l ≡ pos (value-after 0 l)
+unsigned [] some least = absurd (omega arith)
+unsigned (b ∷ l) some least = rw (ne-eqb b 45 (λ e. omega arith))
+
+pub signed-right : (z : ℤ) → Signed z
+unfolding signed-decimal
+signed-right (pos n) =
+    let r = decimal-right n in
+    record { says = unsigned (decimal n) (r .some) (r .digits 0 (r .some) .0) ∙ ap pos (r .says); no-minus = λ m e. ap signed-decimal e }
+signed-right (negsuc n) =
+    record { says = ap (λ m. negℤ (pos m)) (decimal-right (suc n) .says); no-minus = λ m e. ap signed-decimal e }
+
+pub one-line : (line : List ℕ) (at : ℕ) (entry : List ℕ) → OneLine line at entry
+one-line line at entry = record { one = λ r t x y e f. (e .says ∙ sym (f .says), e .holds ∙ sym (f .holds)) }
 
 pub examples : Examples
-unfolding decimal-in decimal hit-line clear-line pair-refused-line venue-refused-line
-examples = record { hit = refl; clear = refl; pair = refl; venue = refl }
+unfolding decimal-in decimal signed-decimal hit-line clear-line pair-refused-line venue-refused-line
+examples = record { hit = refl; below-zero = refl; clear = refl; pair = refl; venue = refl }

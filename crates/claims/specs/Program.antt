@@ -1,18 +1,25 @@
 -- What is claimed of the program `sightlines`: for all steps that meet their contracts. Assumes nothing.
-use Prim.Native.Nat.{ℕ}
+use Prim.Native.Nat.{ℕ, _+_}
 use mathlib.Core.Path.{_≡_}
 use mathlib.Core.List.{List, [], _∷_, _++_}
+use mathlib.Core.Logic.{_⊎_}
 use lib.ListN.{take}
 use Rattle.cells.specs.declared.Counts.{Counts}
 use denote.Ref.{RefT}
 use Rattle.records.specs.declared.venues.Venue.{Venue}
 use Rattle.records.specs.declared.venues.VenueRead.the-variants.{Read}
 use Rattle.records.specs.Venues.{ReadsVenue, GivesCells}
+use Rattle.walks.specs.declared.FirstHit.{FirstHit}
+use Rattle.walks.specs.declared.FirstHit.the-variants.{Clear, Hit as Blocked, Refused as NotWalked}
+use Rattle.records.specs.declared.pairs.Pair.{Pair}
+use Rattle.records.specs.declared.pairs.PairRead.the-variants.{Read as ReadPair}
+use Rattle.texts.specs.Text.{pair-refused-line}
 use Rattle.program.specs.declared.Next.the-variants.{On, Over}
 use Rattle.program.specs.declared.Step.{Step}
-use Rattle.program.specs.Program.{venue-most, pair-most, venue-said, pair-said, output, frame, after-frame, Says}
+use Rattle.program.specs.Program.{Said, venue-most, pair-most, venue-said, answers, walk-lines, pair-said, output, frame, after-frame, Says}
 use Rattle.claims.specs.Example.{marked-cells}
 use Rattle.claims.specs.Records.{example-venue, example-pair}
+use Rattle.records.specs.Pairs.{ReadsPair}
 
 -- ---- a run of the program
 
@@ -42,6 +49,27 @@ pub record OneStep (entry : List ℕ) : Type 0 where
   pub venue : (frame : List ℕ) (r t : Step) (x y : List ℕ) → Says (venue-said frame) entry r x → Says (venue-said frame) entry t y → (r ≡ t) × (x ≡ y)
   pub pair : (n : Counts) (cells : List ℕ) (k : ℕ) (frame : List ℕ) (r t : Step) (x y : List ℕ) → Says (pair-said n cells k frame) entry r x
       → Says (pair-said n cells k frame) entry t y → (r ≡ t) × (x ≡ y)
+
+-- a walk was made: its answer is no refusal, and so it has a line
+abbrev pub Walked : FirstHit → Type 0
+Walked (Clear reads) = Unit {0}
+Walked (Blocked h) = Unit {0}
+Walked (NotWalked r) = ⊥
+
+abbrev pub AllWalked : List (ℕ × FirstHit) → Type 0
+AllWalked [] = Unit {0}
+AllWalked (a ∷ more) = Walked (a .1) × AllWalked more
+
+-- what is said of pair k, and on to the next
+abbrev pub going-on : ℕ → List ℕ → Said
+going-on k text = record { text = text; next = On (k + 1) }
+
+-- Of an accepted venue, a pair that is read is refused 5 or not at all; then each walk was made and has its line. Either way the program goes on.
+pub record FiveOrLines (s cells t : List ℕ) (v : Venue) (e : Pair) : Type 0 where
+  pub pair : ReadsVenue s (Read v) → GivesCells s cells → ReadsPair t (ReadPair e) → (k : ℕ) →
+      let found : List (ℕ × FirstHit) = answers (v .counts) cells (e .p) (e .q) in
+      (pair-said (v .counts) cells k t ≡ going-on k (pair-refused-line k 5))
+      ⊎ ((pair-said (v .counts) cells k t ≡ going-on k (walk-lines k found)) × AllWalked found)
 
 -- ---- named inputs and outputs
 

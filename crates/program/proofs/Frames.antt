@@ -129,7 +129,7 @@ cells-framed s = framed venue-most s venue-cells cells-unread
 -- ---- a pair
 
 module _ (n : Counts) (cells : List ℕ) (k : ℕ) where
-  pair-beyond : (s : List ℕ) → beyond pair-most s ≡ true → pair-said n cells k s ≡ pair-refused k Record Over
+  pair-beyond : (s : List ℕ) → beyond pair-most s ≡ true → pair-said n cells k s ≡ pair-refused k Record
   unfolding pair-said
   pair-beyond s h = let four = beyond-four pair-most s h in rw (ne-eqb (length s) 0 (λ e. omega arith), h)
 
@@ -156,7 +156,7 @@ module _ (n : Counts) (cells : List ℕ) (k : ℕ) where
   pair-on s j = go (eqb (length s) 0) (beyond pair-most s) refl
     where
       go : (a b : Bool) → eqb (length s) 0 ≡ a
-          → cond a (record { text = []; next = Over }) (cond b (pair-refused k Record Over) (said-of-pair n cells k (pair-read s))) .next ≡ On j
+          → cond a (record { text = []; next = Over }) (cond b (pair-refused k Record) (said-of-pair n cells k (pair-read s))) .next ≡ On j
           → (length s ≡ 0 → ⊥) × (b ≡ false)
       go true b e h = absurd (let z : _≡_ {A = ℕ} 0 1 = cc in omega arith)
       go false true e h = absurd (let z : _≡_ {A = ℕ} 0 1 = cc in omega arith)

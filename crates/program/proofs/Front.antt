@@ -1,46 +1,36 @@
 -- Text at the front of lent bytes. Assumes nothing.
-use mathlib.Core.Path.{_≡_, refl, sym, ap, ap₂, _∙_}
-use mathlib.Core.List.{List, [], _++_, append-assoc, append-nil}
-use Prim.Native.Nat.{ℕ, _+_, _-_, _≤_}
+use mathlib.Core.Path.{_≡_, refl, sym, ap, _∙_}
+use mathlib.Core.List.{List, [], _++_}
+use Prim.Native.Nat.{ℕ, _+_, _≤_}
+use native.Mathlib.Nat.{add-zero}
 use native.Mathlib.Omega.{arith}
-use lib.ListN.{length, take, drop, length-append, length-take, length-drop, drop-of-length-le}
-use lib.Seq.{take-all, take-at, drop-at, drop-drop}
+use lib.ListN.{length, take, drop, length-append, length-take, take-append-drop}
 use Rattle.io.specs.Counts.{Counts}
-use Rattle.texts.specs.Text.{PutsLine}
+use Rattle.buffers.specs.Over.{over}
+use Rattle.texts.specs.Text.{Puts}
+use Rattle.texts.proofs.Pieces.{front-long, front-holds}
+use Rattle.program.specs.declared.Next.{Next}
+use Rattle.program.specs.declared.Step.{Step}
+use Rattle.program.specs.Program.{Said, Says}
 
--- no text: nothing is written
-pub no-text : (s : List ℕ) → PutsLine [] s 0 s
-no-text s = record { says = refl; holds = refl }
+-- nothing put
+pub nothing-put : (at : ℕ) (s : List ℕ) → Puts [] at s at s
+unfolding over
+nothing-put at s = record { says = sym (add-zero at); holds = sym (take-append-drop at s) ∙ ap (λ k. take at s ++ drop k s) (sym (add-zero at)) }
+
+-- a step that put its text from the front on, and says what comes next
+pub front : {text entry exit : List ℕ} {long : ℕ} {next x : Next} → Puts text 0 entry long exit → x ≡ next
+    → Says (record { text = text; next = next }) entry (record { long = long; next = x }) exit
+front h e = record { long = front-long h; holds = front-holds h; next = e }
+
+-- one that put nothing
+pub silent : {next : Next} (s : List ℕ) → Says (record { text = []; next = next }) s (record { long = 0; next = next }) s
+silent s = record { long = refl; holds = refl; next = refl }
 
 -- the text lies within the lent bytes
-pub counts : {l s : List ℕ} {r : ℕ} {x : List ℕ} → PutsLine l s r x → Counts r x
-counts {l} {s} {r} {x} h =
-    let long : length x ≡ length l + length (drop (length l) s) = ap length (h .holds) ∙ length-append l (drop (length l) s) in
-    let within : r ≤ length x = omega (arith, h .says) in
+pub counts : {said : Said} {s x : List ℕ} {r : Step} → Says said s r x → Counts (r .long) x
+counts {said} {s} {x} {r} h =
+    let text = said .text in
+    let long : length x ≡ length text + length (drop (length text) s) = ap length (h .holds) ∙ length-append text (drop (length text) s) in
+    let within : r .long ≤ length x = omega (arith, h .long) in
     (within, simp length-take (omega arith))
-
--- a line and, in the bytes behind it, another
-pub then-line : {p q s m y x : List ℕ} {a b k : ℕ} → PutsLine p s a m → k ≡ length m - a → PutsLine q (take k (drop a m)) b y → x ≡ take a m ++ (y ++ drop k (drop a m))
-    → PutsLine (p ++ q) s (a + b) x
-then-line {p} {q} {s} {m} {y} {x} {a} {b} {k} first e second back = record { says = omega (arith, first .says, second .says, length-append p q); holds = both }
-  where
-    front : take a m ≡ p
-    front = ap (take a) (first .holds) ∙ take-at p (drop (length p) s) a (sym (first .says))
-
-    rest : drop a m ≡ drop (length p) s
-    rest = ap (drop a) (first .holds) ∙ drop-at p (drop (length p) s) a (sym (first .says))
-
-    -- nothing of the bytes lies behind the part
-    none : drop k (drop a m) ≡ []
-    none = let short : length (drop a m) ≤ k = omega (arith, length-drop a m) in drop-of-length-le (drop a m) short
-
-    whole : take k (drop a m) ≡ drop a m
-    whole = let short : length (drop a m) ≤ k = omega (arith, length-drop a m) in take-all k (drop a m) short
-
-    behind : drop (length q) (take k (drop a m)) ≡ drop (length (p ++ q)) s
-    behind = ap (drop (length q)) (whole ∙ rest) ∙ drop-drop (length q) (length p) s ∙ ap (λ i. drop i s) (sym (length-append p q))
-
-    both : x ≡ (p ++ q) ++ drop (length (p ++ q)) s
-    both =
-        back ∙ ap₂ (λ u v. u ++ v) front (ap₂ (λ u v. u ++ v) (second .holds) none ∙ append-nil _ ∙ ap (λ u. q ++ u) behind)
-        ∙ sym (append-assoc p q (drop (length (p ++ q)) s))

@@ -1,11 +1,11 @@
 -- Document 01, "Records and the program": what the program writes, from all the bytes of its input. Assumes nothing.
-use Prim.Native.Nat.{ℕ, zero, suc, _+_}
+use Prim.Native.Nat.{ℕ, zero, suc, _+_, _*_}
 use mathlib.Core.Path.{_≡_}
-use mathlib.Core.Bool.{Bool, false, cond}
-use mathlib.Core.List.{List, [], _++_}
+use mathlib.Core.Bool.{Bool, false, cond, _||_}
+use mathlib.Core.List.{List, [], _∷_, _++_}
 use lib.Dec.{ltb, eqb}
-use lib.IntN.{ℤ, pos, negsuc}
 use lib.ListN.{length, take, drop}
+use Rattle.cells.specs.declared.Cell.{Cell}
 use Rattle.cells.specs.declared.Counts.{Counts}
 use Rattle.cells.specs.declared.Refusal.{Refusal}
 use Rattle.cells.specs.declared.Refusal.the-variants.{Room, Record}
@@ -23,9 +23,8 @@ use Rattle.records.specs.declared.pairs.PairRead.the-variants.{Read as ReadPair
 use Rattle.records.specs.Heads.{length-field, announced}
 use Rattle.records.specs.Venues.{venue-read, venue-cells}
 use Rattle.records.specs.Pairs.{pair-read}
-use Rattle.walks.specs.declared.Walker.{Walker}
 use Rattle.walks.specs.declared.Walker.the-variants.{Plain, Adaptive}
-use Rattle.texts.specs.Text.{hit-line, clear-line, pair-refused-line, venue-refused-line, line-room, PutsLine}
+use Rattle.texts.specs.Text.{hit-line, clear-line, pair-refused-line, venue-refused-line, line-room}
 use Rattle.program.specs.declared.Next.{Next}
 use Rattle.program.specs.declared.Next.the-variants.{On, Over}
 use Rattle.program.specs.declared.Step.{Step}
@@ -65,38 +64,52 @@ venue-said s = cond (beyond venue-most s) (venue-refused Room) (said-of-venue (v
 
 -- ---- a pair
 
--- "prints `K refused N`"
-abbrev pub pair-refused : ℕ → Refusal → Next → Said
-pair-refused k r next = record { text = pair-refused-line k (told r .number); next = next }
+-- "after 10 or 11 the program ends, after 5 it goes on"
+abbrev pub after-refusal : ℕ → ℕ → Next
+after-refusal k number = cond (eqb number 10 || eqb number 11) Over (On (k + 1))
 
--- a coordinate of a hit: it lies in the grid, so none is negative
-abbrev pub coordinate : ℤ → ℕ
-coordinate (pos v) = v
-coordinate (negsuc v) = 0
+-- "A pair refused prints `K refused N`"
+abbrev pub pair-refused : ℕ → Refusal → Said
+pair-refused k r = record { text = pair-refused-line k (told r .number); next = after-refusal k (told r .number) }
 
--- "K, P (plain) or A (adaptive), then `hit x y z code reads` or `clear reads`"
-unfoldable pub walk-line : ℕ → Walker → FirstHit → List ℕ
-walk-line k w (Clear reads) = clear-line k w reads
-walk-line k w (Blocked h) = hit-line k w (coordinate (h .cell .x)) (coordinate (h .cell .y)) (coordinate (h .cell .z)) (h .code) (h .reads)
-walk-line k w (NotWalked r) = []
+-- the line of one walk: "`hit x y z code reads` or `clear reads`"; none where it is refused, and no walk of a pair is (claim `FiveOrLines`)
+unfoldable pub walk-line : ℕ → ℕ → FirstHit → List ℕ
+walk-line k letter (Clear reads) = clear-line k letter reads
+walk-line k letter (Blocked h) = hit-line k letter (h .cell) (h .code) (h .reads)
+walk-line k letter (NotWalked r) = []
 
--- "after 5 it goes on"; "Otherwise two lines a pair". An accepted venue leaves no refusal but 5.
-abbrev pub said-of-walks : ℕ → Verdict → FirstHit → FirstHit → Said
-said-of-walks k (Refused r) a b = pair-refused k r (On (k + 1))
-said-of-walks k Fine a b = record { text = walk-line k Plain a ++ walk-line k Adaptive b; next = On (k + 1) }
+-- `P` and `A`
+abbrev pub plain-letter : ℕ
+plain-letter = 80
+
+abbrev pub adaptive-letter : ℕ
+adaptive-letter = 65
+
+-- "P (plain) or A (adaptive)": the letter of each walk and what it answers, in the order of the lines
+abbrev pub answers : Counts → List ℕ → Cell → Cell → List (ℕ × FirstHit)
+answers n cells p q = (plain-letter, first-hit Plain n cells p q) ∷ (adaptive-letter, first-hit Adaptive n cells p q) ∷ []
+
+-- a line for each
+abbrev pub walk-lines : ℕ → List (ℕ × FirstHit) → List ℕ
+walk-lines k [] = []
+walk-lines k (a ∷ more) = walk-line k (a .0) (a .1) ++ walk-lines k more
+
+-- refused, or "two lines a pair"
+abbrev pub said-of-walks : ℕ → Verdict → List (ℕ × FirstHit) → Said
+said-of-walks k (Refused r) found = pair-refused k r
+said-of-walks k Fine found = record { text = walk-lines k found; next = On (k + 1) }
 
 module _ (n : Counts) (cells : List ℕ) (k : ℕ) where
-  -- "after 10 or 11 the program ends"
   abbrev pub said-of-pair : PairRead → Said
-  said-of-pair (NoPair r) = pair-refused k r Over
-  said-of-pair (ReadPair e) = said-of-walks k (walk-check n (length cells) (e .p) (e .q)) (first-hit Plain n cells (e .p) (e .q)) (first-hit Adaptive n cells (e .p) (e .q))
+  said-of-pair (NoPair r) = pair-refused k r
+  said-of-pair (ReadPair e) = said-of-walks k (walk-check n (length cells) (e .p) (e .q)) (answers n cells (e .p) (e .q))
 
   -- "Input that ends where a pair would begin ends it silently"; "a pair length above 255 is refused 10"
   unfoldable pub pair-said : List ℕ → Said
   unfolding walk-line
   pair-said s =
       cond (eqb (length s) 0) (record { text = []; next = Over })
-      (cond (beyond pair-most s) (pair-refused k Record Over) (said-of-pair (pair-read s)))
+      (cond (beyond pair-most s) (pair-refused k Record) (said-of-pair (pair-read s)))
 
 -- ---- the whole output
 
@@ -142,9 +155,10 @@ frame most s = take (frame-length most s) s
 abbrev pub after-frame : ℕ → List ℕ → List ℕ
 after-frame most s = drop (frame-length most s) s
 
--- the contract of a step: the text stands at the front of the lent bytes, and the rest is as it was
+-- the contract of a step: the text stands at the front of the lent bytes, the rest is as it was, and the answer says how long it is
 pub record Says (said : Said) (entry : List ℕ) (r : Step) (exit : List ℕ) : Type 0 where
-  pub puts : PutsLine (said .text) entry (r .long) exit
+  pub long : r .long ≡ length (said .text)
+  pub holds : exit ≡ said .text ++ drop (length (said .text)) entry
   pub next : r .next ≡ said .next
 
 -- after pair k comes pair k + 1, or nothing
@@ -152,6 +166,6 @@ abbrev pub Follows : ℕ → Next → Type 0
 Follows k (On j) = j ≡ k + 1
 Follows k Over = Unit {0}
 
--- room for two lines
+-- room for the lines of a pair
 abbrev pub text-room : ℕ
-text-room = line-room + line-room
+text-room = 2 * line-room

@@ -1,14 +1,12 @@
 // The program's steps: each takes the next frame of the input, and gives the text and what comes next.
 ghost use mathlib.Core.Path.{_≡_};
-ghost use mathlib.Core.List.{_++_};
-ghost use Prim.Native.Nat.{_-_, _^_, _≤_, _<_};
+ghost use Prim.Native.Nat.{_+_, _-_, _^_, _≤_, _<_};
 ghost use lib.ListN.{length};
 ghost use Rattle.io.specs.Counts.{Counts as Count};
-ghost use Rattle.walks.specs.declared.FirstHit.the-variants.{Hit as Blocked};
 ghost use Rattle.records.specs.declared.pairs.PairRead.the-variants.{Read as ReadPair};
-ghost use Rattle.walks.specs.declared.Walker.the-variants.{Plain, Adaptive};
-ghost use Rattle.texts.specs.Text.{line-room, PutsLine};
-ghost use Rattle.program.specs.Program.{beyond, venue-refused, venue-said, pair-refused, coordinate, walk-line, said-of-pair, pair-said, text-room, Says, Follows};
+ghost use Rattle.texts.specs.Text.{line-room, Puts};
+ghost use Rattle.program.specs.Program.{beyond, venue-refused, venue-said, after-refusal, pair-refused, walk-line, answers, walk-lines, said-of-pair, pair-said, text-room, Says, Follows};
+use cells::Cell;
 use cells::Counts;
 use cells::Refusal;
 use cells::Verdict;
@@ -16,13 +14,14 @@ use records::Pair;
 use records::PairRead;
 use records::VenueRead;
 use walks::FirstHit;
-use walks::Hit;
-use walks::Walker;
 
 // The longest venue and the longest pair that the program reads, as their four bytes announce them.
 pub const VENUE_MOST: usize = 65532;
 
 pub const PAIR_MOST: usize = 255;
+
+// Room for what a step writes: a line for each walk, of at most 160 bytes.
+pub const TEXT_ROOM: usize = 320;
 
 // What comes next: the pair of a number, or nothing any more.
 pub enum Next {
@@ -54,7 +53,7 @@ fn venue_refused(r: Refusal, text: &mut [u8]) -> Step
     ensures { λ s. ⌜ Says (venue-refused r) (now (text .entry)) s (now (text .exit)) ⌝ }
 {
     Step {
-        long: texts::put_venue_refused(text, cells::number(r)),
+        long: texts::put_venue_refused(text, 0, cells::number(r)),
         next: Next::Over,
     }
 }
@@ -79,88 +78,74 @@ pub fn venue_step(frame: &[u8], text: &mut [u8]) -> Step
 
 // ---- a pair
 
-// `K refused N`, and what comes next.
-fn pair_refused(k: u64, r: Refusal, next: Next, text: &mut [u8]) -> Step
-    requires { ⌜ line-room ≤ length (now text) ⌝ }
-    ensures { λ s. ⌜ Says (pair-refused k r next) (now (text .entry)) s (now (text .exit)) ⌝ }
+// What comes after a pair that is refused by this number: nothing after 10 or 11.
+fn after_refusal(k: u64, number: u32) -> Next
+    requires { ⌜ k < 2 ^ 64 - 1 ⌝ }
+    ensures { λ r. ⌜ r ≡ after-refusal k number ⌝ }
 {
+    if number == 10 {
+        return Next::Over;
+    }
+    if number == 11 {
+        return Next::Over;
+    }
+    Next::On(k + 1)
+}
+
+// `K refused N`, and what comes next.
+fn pair_refused(k: u64, r: Refusal, text: &mut [u8]) -> Step
+    requires { ⌜ (k < 2 ^ 64 - 1) × (line-room ≤ length (now text)) ⌝ }
+    ensures { λ s. ⌜ Says (pair-refused k r) (now (text .entry)) s (now (text .exit)) ⌝ }
+{
+    let number = cells::number(r);
     Step {
-        long: texts::put_pair_refused(text, k, cells::number(r)),
-        next: next,
+        long: texts::put_pair_refused(text, 0, k, number),
+        next: after_refusal(k, number),
     }
 }
 
-// A coordinate of a hit: none is negative.
-fn coordinate(v: i32) -> u32
-    ensures { λ r. ⌜ r ≡ coordinate v ⌝ }
-{
-    if v < 0 { 0 } else { v as u32 }
-}
-
-// `K P hit x y z code reads`, or with A.
-fn hit_line(k: u64, w: Walker, h: Hit, text: &mut [u8]) -> usize
-    requires { ⌜ line-room ≤ length (now text) ⌝ }
-    ensures { λ r. ⌜ PutsLine (walk-line k w (Blocked h)) (now (text .entry)) r (now (text .exit)) ⌝ }
-    ensures { λ r. ⌜ r ≤ line-room ⌝ }
-{
-    let c = h.cell;
-    texts::put_hit(
-        text,
-        k,
-        w,
-        coordinate(c.x),
-        coordinate(c.y),
-        coordinate(c.z),
-        h.code,
-        h.reads,
-    )
-}
-
-// The line of one walk.
-fn walk_line(k: u64, w: Walker, a: FirstHit, text: &mut [u8]) -> usize
-    requires { ⌜ line-room ≤ length (now text) ⌝ }
-    ensures { λ r. ⌜ PutsLine (walk-line k w a) (now (text .entry)) r (now (text .exit)) ⌝ }
-    ensures { λ r. ⌜ r ≤ line-room ⌝ }
+// The line of one walk, from a place on; answers the place after it.
+fn walk_line(text: &mut [u8], at: usize, k: u64, letter: u8, a: FirstHit) -> usize
+    requires { ⌜ at + line-room ≤ length (now text) ⌝ }
+    ensures { λ r. ⌜ Puts (walk-line k letter a) at (now (text .entry)) r (now (text .exit)) ⌝ }
+    ensures { λ r. ⌜ r ≤ at + line-room ⌝ }
 {
     match a {
-        FirstHit::Clear(reads) => texts::put_clear(text, k, w, reads),
-        FirstHit::Hit(h) => hit_line(k, w, h, text),
-        FirstHit::Refused(_) => 0,
+        FirstHit::Clear(reads) => texts::put_clear(text, at, k, letter, reads),
+        FirstHit::Hit(h) => {
+            let c = h.cell;
+            texts::put_hit(text, at, k, letter, c, h.code, h.reads)
+        }
+        FirstHit::Refused(_) => at,
     }
 }
 
-// Both lines, one behind the other.
-fn walk_lines(k: u64, plain: FirstHit, adaptive: FirstHit, text: &mut [u8]) -> usize
+// A line for each walk between two cells, one behind the other.
+fn walk_lines(n: Counts, cells: &[u8], k: u64, p: Cell, q: Cell, text: &mut [u8]) -> usize
     requires { ⌜ text-room ≤ length (now text) ⌝ }
-    ensures { λ r. ⌜ PutsLine (walk-line k Plain plain ++ walk-line k Adaptive adaptive) (now (text .entry)) r (now (text .exit)) ⌝ }
+    ensures { λ r. ⌜ Puts (walk-lines k (answers n (now (cells .entry)) p q)) 0 (now (text .entry)) r (now (text .exit)) ⌝ }
 {
-    let first = walk_line(k, Walker::Plain, plain, text);
-    let second = walk_line(k, Walker::Adaptive, adaptive, &mut text[first..]);
-    first + second
+    let plain = walk_line(text, 0, k, b'P', hits::first_plain(n, cells, p, q));
+    walk_line(text, plain, k, b'A', hits::first_adaptive(n, cells, p, q))
 }
 
-// Both walks between the ends of a pair.
+// The walks between the ends of a pair.
 fn pair_said(n: Counts, cells: &[u8], k: u64, e: Pair, text: &mut [u8]) -> Step
     requires { ⌜ (k < 2 ^ 64 - 1) × (text-room ≤ length (now text)) ⌝ }
     ensures { λ s. ⌜ Says (said-of-pair n (now (cells .entry)) k (ReadPair e)) (now (text .entry)) s (now (text .exit)) ⌝ }
 {
     let p = e.p;
     let q = e.q;
-    let next = Next::On(k + 1);
     match grids::check_walk(n, cells.len(), p, q) {
-        Verdict::Refused(r) => pair_refused(k, r, next, text),
-        Verdict::Fine => {
-            let plain = hits::first_plain(n, cells, p, q);
-            let adaptive = hits::first_adaptive(n, cells, p, q);
-            Step {
-                long: walk_lines(k, plain, adaptive, text),
-                next: next,
-            }
-        }
+        Verdict::Refused(r) => pair_refused(k, r, text),
+        Verdict::Fine => Step {
+            long: walk_lines(n, cells, k, p, q, text),
+            next: Next::On(k + 1),
+        },
     }
 }
 
-// The frame of pair k: two lines or `K refused N`, and on to the next or the end.
+// The frame of pair k: a line for each walk or `K refused N`, and on to the next or the end.
 pub fn pair_step(n: Counts, cells: &[u8], k: u64, frame: &[u8], text: &mut [u8]) -> Step
     requires { ⌜ (k < 2 ^ 64 - 1) × (text-room ≤ length (now text)) ⌝ }
     ensures { λ s. ⌜ Says (pair-said n (now (cells .entry)) k (now (frame .entry))) (now (text .entry)) s (now (text .exit)) ⌝ }
@@ -173,10 +158,10 @@ pub fn pair_step(n: Counts, cells: &[u8], k: u64, frame: &[u8], text: &mut [u8])
         };
     }
     if beyond(frame, PAIR_MOST) {
-        return pair_refused(k, Refusal::Record, Next::Over, text);
+        return pair_refused(k, Refusal::Record, text);
     }
     match records::read_pair(frame) {
         PairRead::Read(e) => pair_said(n, cells, k, e, text),
-        PairRead::Refused(r) => pair_refused(k, r, Next::Over, text),
+        PairRead::Refused(r) => pair_refused(k, r, text),
     }
 }

@@ -42,7 +42,7 @@ fn written(text: &[u8], next: Next) -> Next
 
 // Writes what the venue's step says.
 fn answer_venue(frame: &[u8]) -> Next {
-    let mut text = [0u8; 320];
+    let mut text = [0u8; program::TEXT_ROOM];
     let step = program::venue_step(frame, &mut text);
     let next = step.next;
     written(&text[..step.long], next)
@@ -54,7 +54,7 @@ fn answer_pair(n: Counts, cells: &[u8], k: u64) -> Next
     ensures { λ r. ⌜ Follows k r ⌝ }
 {
     let mut space = [0u8; 259];
-    let mut text = [0u8; 320];
+    let mut text = [0u8; program::TEXT_ROOM];
     let got = read_frame(&mut space, program::PAIR_MOST);
     let step = program::pair_step(n, cells, k, &space[..got], &mut text);
     let next = step.next;

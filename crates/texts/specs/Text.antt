@@ -5,10 +5,10 @@ use mathlib.Core.Bool.{cond}
 use mathlib.Core.Path.{_≡_}
 use mathlib.Core.List.{List, [], _∷_, _++_}
 use lib.Dec.{ltb}
-use lib.ListN.{length, drop}
+use lib.IntN.{ℤ, pos, negsuc}
+use lib.ListN.{length}
 use Rattle.buffers.specs.Over.{over}
-use Rattle.walks.specs.declared.Walker.{Walker}
-use Rattle.walks.specs.declared.Walker.the-variants.{Plain, Adaptive}
+use Rattle.cells.specs.declared.Cell.{Cell}
 
 -- ---- fields
 
@@ -26,10 +26,14 @@ unfoldable pub decimal : ℕ → List ℕ
 unfolding decimal-in
 decimal n = decimal-in (suc n) n
 
--- "P (plain) or A (adaptive)"
-abbrev pub letter : Walker → ℕ
-letter Plain = 80
-letter Adaptive = 65
+-- `-`, before a number below 0
+abbrev pub minus : ℕ
+minus = 45
+
+-- a whole number: one below 0 is a minus and then its size
+unfoldable pub signed-decimal : ℤ → List ℕ
+signed-decimal (pos n) = decimal n
+signed-decimal (negsuc n) = minus ∷ decimal (suc n)
 
 -- `hit`
 abbrev pub hit-word : List ℕ
@@ -70,14 +74,20 @@ abbrev pub line : List ℕ → List (List ℕ) → List ℕ
 line f [] = ended f
 line f (g ∷ fields) = parted f ++ line g fields
 
--- `K P hit x y z code reads`
-unfoldable pub hit-line : ℕ → Walker → ℕ → ℕ → ℕ → ℕ → ℕ → List ℕ
-hit-line k w x y z code reads =
-    line (decimal k) ((letter w ∷ []) ∷ hit-word ∷ decimal x ∷ decimal y ∷ decimal z ∷ decimal code ∷ decimal reads ∷ [])
+-- what the line of a walk begins with: K, and the letter of the walk
+abbrev pub walk-fields : ℕ → ℕ → List (List ℕ) → List ℕ
+walk-fields k letter fields = line (decimal k) ((letter ∷ []) ∷ fields)
 
--- `K A clear reads`
-unfoldable pub clear-line : ℕ → Walker → ℕ → List ℕ
-clear-line k w reads = line (decimal k) ((letter w ∷ []) ∷ clear-word ∷ decimal reads ∷ [])
+-- `K LETTER hit x y z code reads`
+unfoldable pub hit-line : ℕ → ℕ → Cell → ℕ → ℕ → List ℕ
+unfolding signed-decimal
+hit-line k letter c code reads =
+    walk-fields k letter
+    (hit-word ∷ signed-decimal (c .x) ∷ signed-decimal (c .y) ∷ signed-decimal (c .z) ∷ decimal code ∷ decimal reads ∷ [])
+
+-- `K LETTER clear reads`
+unfoldable pub clear-line : ℕ → ℕ → ℕ → List ℕ
+clear-line k letter reads = walk-fields k letter (clear-word ∷ decimal reads ∷ [])
 
 -- `K refused N`
 unfoldable pub pair-refused-line : ℕ → ℕ → List ℕ
@@ -89,14 +99,13 @@ venue-refused-line number = line venue-word (refused-word ∷ decimal number ∷
 
 -- ---- contracts
 
--- room for every line
+-- room for every line: the longest, that of a hit, is at most 135 bytes long, with twenty digits for each number
 abbrev pub line-room : ℕ
 line-room = 160
 
--- a line at the front of the lent bytes, the rest as it was; the answer is its length
-pub record PutsLine (l entry : List ℕ) (r : ℕ) (exit : List ℕ) : Type 0 where
-  pub says : r ≡ length l
-  pub holds : exit ≡ l ++ drop (length l) entry
+-- the piece of a cell's three numbers
+abbrev pub cell-fields : Cell → List ℕ
+cell-fields c = parted (signed-decimal (c .x)) ++ parted (signed-decimal (c .y)) ++ parted (signed-decimal (c .z))
 
 -- a piece from a place on; the answer is the place after it
 pub record Puts (piece : List ℕ) (at : ℕ) (entry : List ℕ) (next : ℕ) (exit : List ℕ) : Type 0 where

@@ -1,23 +1,17 @@
-// The program's lines as bytes, at the front of a lent slice.
+// The program's lines as bytes, from a place of a lent slice on.
 ghost use mathlib.Core.Path.{_≡_};
 ghost use mathlib.Core.List.{[], _∷_, _++_};
 ghost use Prim.Native.Nat.{_+_, _≤_, _<_};
+ghost use lib.IntN.{natAbs};
 ghost use lib.ListN.{length};
-ghost use Rattle.texts.specs.Text.{decimal, letter, parted, ended, line-room, hit-line, clear-line, pair-refused-line, venue-refused-line, PutsLine, Puts};
-use walks::Walker;
+ghost use Rattle.texts.specs.Text.{decimal, signed-decimal, parted, ended, cell-fields, line-room, hit-line, clear-line, pair-refused-line, venue-refused-line, Puts};
+use cells::Cell;
 
 const SPACE: u8 = 32;
 
 const LINE_FEED: u8 = 10;
 
-fn letter(w: Walker) -> u8
-    ensures { λ r. ⌜ r ≡ letter w ⌝ }
-{
-    match w {
-        Walker::Plain => b'P',
-        Walker::Adaptive => b'A',
-    }
-}
+// ---- fields
 
 // A word and the byte that parts it from the next.
 fn put_word(out: &mut [u8], at: usize, word: &[u8], after: u8) -> usize
@@ -41,48 +35,50 @@ fn put_number(out: &mut [u8], at: usize, n: u64, after: u8) -> usize
     put_word(out, at, &text[..k], after)
 }
 
-// What the lines of a walk begin with: `K P ` or `K A `.
-fn put_walk(out: &mut [u8], k: u64, w: Walker) -> usize
-    requires { ⌜ line-room ≤ length (now out) ⌝ }
-    ensures { λ r. ⌜ Puts (parted (decimal k) ++ parted (letter w ∷ [])) 0 (now (out .entry)) r (now (out .exit)) ⌝ }
-    ensures { λ r. ⌜ r ≤ 23 ⌝ }
+// A number without its sign, in 64 bits: in 32 the least has no opposite.
+fn size(v: i32) -> u64
+    ensures { λ r. ⌜ r ≡ natAbs v ⌝ }
 {
-    let at = put_number(out, 0, k, SPACE);
-    let name = [letter(w)];
-    put_word(out, at, &name, SPACE)
+    if v < 0 {
+        (0 - v as i64) as u64
+    } else {
+        v as u64
+    }
+}
+
+// A number that may be below 0, and the byte that parts it from the next.
+fn put_signed(out: &mut [u8], at: usize, v: i32, after: u8) -> usize
+    requires { ⌜ at + 21 < length (now out) ⌝ }
+    ensures { λ r. ⌜ Puts (signed-decimal v ++ (after ∷ [])) at (now (out .entry)) r (now (out .exit)) ⌝ }
+    ensures { λ r. ⌜ r ≤ at + 22 ⌝ }
+{
+    if v < 0 {
+        buffers::put_byte(out, at, b'-');
+        return put_number(out, at + 1, size(v), after);
+    }
+    put_number(out, at, size(v), after)
 }
 
 // The three numbers of a cell.
-fn put_cell(out: &mut [u8], at: usize, x: u32, y: u32, z: u32) -> usize
-    requires { ⌜ at + 62 < length (now out) ⌝ }
-    ensures { λ r. ⌜ Puts (parted (decimal x) ++ parted (decimal y) ++ parted (decimal z)) at (now (out .entry)) r (now (out .exit)) ⌝ }
-    ensures { λ r. ⌜ r ≤ at + 63 ⌝ }
+fn put_cell(out: &mut [u8], at: usize, c: Cell) -> usize
+    requires { ⌜ at + 65 < length (now out) ⌝ }
+    ensures { λ r. ⌜ Puts (cell-fields c) at (now (out .entry)) r (now (out .exit)) ⌝ }
+    ensures { λ r. ⌜ r ≤ at + 66 ⌝ }
 {
-    let after_x = put_number(out, at, x as u64, SPACE);
-    let after_y = put_number(out, after_x, y as u64, SPACE);
-    put_number(out, after_y, z as u64, SPACE)
+    let after_x = put_signed(out, at, c.x, SPACE);
+    let after_y = put_signed(out, after_x, c.y, SPACE);
+    put_signed(out, after_y, c.z, SPACE)
 }
 
-// `K P hit x y z code reads`, or with A.
-pub fn put_hit(
-    out: &mut [u8],
-    k: u64,
-    w: Walker,
-    x: u32,
-    y: u32,
-    z: u32,
-    code: u8,
-    reads: u32,
-) -> usize
-    requires { ⌜ line-room ≤ length (now out) ⌝ }
-    ensures { λ r. ⌜ PutsLine (hit-line k w x y z code reads) (now (out .entry)) r (now (out .exit)) ⌝ }
-    ensures { λ r. ⌜ r ≤ line-room ⌝ }
+// What the line of a walk begins with: `K LETTER `.
+fn put_walk(out: &mut [u8], at: usize, k: u64, letter: u8) -> usize
+    requires { ⌜ at + 22 < length (now out) ⌝ }
+    ensures { λ r. ⌜ Puts (parted (decimal k) ++ parted (letter ∷ [])) at (now (out .entry)) r (now (out .exit)) ⌝ }
+    ensures { λ r. ⌜ r ≤ at + 23 ⌝ }
 {
-    let said = put_walk(out, k, w);
-    let hit = put_word(out, said, b"hit", SPACE);
-    let cell = put_cell(out, hit, x, y, z);
-    let coded = put_number(out, cell, code as u64, SPACE);
-    put_number(out, coded, reads as u64, LINE_FEED)
+    let next = put_number(out, at, k, SPACE);
+    let name = [letter];
+    put_word(out, next, &name, SPACE)
 }
 
 // The last two fields of a line: a word, and the number that ends the line.
@@ -95,30 +91,53 @@ fn put_last(out: &mut [u8], at: usize, word: &[u8], n: u32) -> usize
     put_number(out, next, n as u64, LINE_FEED)
 }
 
-// `K A clear reads`, or with P.
-pub fn put_clear(out: &mut [u8], k: u64, w: Walker, reads: u32) -> usize
-    requires { ⌜ line-room ≤ length (now out) ⌝ }
-    ensures { λ r. ⌜ PutsLine (clear-line k w reads) (now (out .entry)) r (now (out .exit)) ⌝ }
-    ensures { λ r. ⌜ r ≤ line-room ⌝ }
+// ---- lines
+
+// `K LETTER hit x y z code reads`.
+pub fn put_hit(
+    out: &mut [u8],
+    at: usize,
+    k: u64,
+    letter: u8,
+    c: Cell,
+    code: u8,
+    reads: u32,
+) -> usize
+    requires { ⌜ at + line-room ≤ length (now out) ⌝ }
+    ensures { λ r. ⌜ Puts (hit-line k letter c code reads) at (now (out .entry)) r (now (out .exit)) ⌝ }
+    ensures { λ r. ⌜ r ≤ at + line-room ⌝ }
 {
-    let at = put_walk(out, k, w);
-    put_last(out, at, b"clear", reads)
+    let said = put_walk(out, at, k, letter);
+    let hit = put_word(out, said, b"hit", SPACE);
+    let cell = put_cell(out, hit, c);
+    let coded = put_number(out, cell, code as u64, SPACE);
+    put_number(out, coded, reads as u64, LINE_FEED)
+}
+
+// `K LETTER clear reads`.
+pub fn put_clear(out: &mut [u8], at: usize, k: u64, letter: u8, reads: u32) -> usize
+    requires { ⌜ at + line-room ≤ length (now out) ⌝ }
+    ensures { λ r. ⌜ Puts (clear-line k letter reads) at (now (out .entry)) r (now (out .exit)) ⌝ }
+    ensures { λ r. ⌜ r ≤ at + line-room ⌝ }
+{
+    let said = put_walk(out, at, k, letter);
+    put_last(out, said, b"clear", reads)
 }
 
 // `K refused N`.
-pub fn put_pair_refused(out: &mut [u8], k: u64, number: u32) -> usize
-    requires { ⌜ line-room ≤ length (now out) ⌝ }
-    ensures { λ r. ⌜ PutsLine (pair-refused-line k number) (now (out .entry)) r (now (out .exit)) ⌝ }
+pub fn put_pair_refused(out: &mut [u8], at: usize, k: u64, number: u32) -> usize
+    requires { ⌜ at + line-room ≤ length (now out) ⌝ }
+    ensures { λ r. ⌜ Puts (pair-refused-line k number) at (now (out .entry)) r (now (out .exit)) ⌝ }
 {
-    let at = put_number(out, 0, k, SPACE);
-    put_last(out, at, b"refused", number)
+    let counted = put_number(out, at, k, SPACE);
+    put_last(out, counted, b"refused", number)
 }
 
 // `G refused N`.
-pub fn put_venue_refused(out: &mut [u8], number: u32) -> usize
-    requires { ⌜ line-room ≤ length (now out) ⌝ }
-    ensures { λ r. ⌜ PutsLine (venue-refused-line number) (now (out .entry)) r (now (out .exit)) ⌝ }
+pub fn put_venue_refused(out: &mut [u8], at: usize, number: u32) -> usize
+    requires { ⌜ at + line-room ≤ length (now out) ⌝ }
+    ensures { λ r. ⌜ Puts (venue-refused-line number) at (now (out .entry)) r (now (out .exit)) ⌝ }
 {
-    let at = put_word(out, 0, b"G", SPACE);
-    put_last(out, at, b"refused", number)
+    let said = put_word(out, at, b"G", SPACE);
+    put_last(out, said, b"refused", number)
 }

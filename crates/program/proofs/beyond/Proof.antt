@@ -1,4 +1,4 @@
--- The definition's two tests. Assumes nothing.
+-- `program::beyond` meets its contract: its two tests are the definition's. Assumes nothing.
 use mathlib.Core.Path.{sym}
 use borrow.Author.Tests.{lt-ltb, le-ltb}
 use Rattle.program.specs.Program.{beyond}

@@ -1,11 +1,11 @@
--- Each test is the definition's, in its order. Assumes nothing.
+-- `program::pair_step` meets its contract: each test is the definition's, in its order. Assumes nothing.
 use mathlib.Core.Path.{_≡_, refl, sym, _∙_}
 use mathlib.Core.Bool.{Bool}
 use denote.Ref.{now}
 use borrow.Author.Tests.{eq-eqb, ne-eqb}
 use Rattle.records.specs.declared.pairs.PairRead.{PairRead}
 use Rattle.program.specs.Program.{pair-most, beyond, said-of-pair, pair-said}
-use Rattle.program.proofs.Front.{no-text}
+use Rattle.program.proofs.Front.{silent}
 use Rattle.program.proofs.Following.{whole-step}
 use borrow.Author.Needs.{needs}
 use Rattle.program.proofs.pair_step.Statement.{statement}
@@ -26,7 +26,7 @@ returns : tie.Need-returns
 unfolding pair-said
 returns c =
     let a = c .before .before .before .before .args in
-    whole-step (a .n) (now (a .cells)) (a .k) (now (a .frame)) (rw (eq-eqb _ _ (c .if1 .taken)) (record { puts = no-text _; next = refl }))
+    whole-step (a .n) (now (a .cells)) (a .k) (now (a .frame)) (rw (eq-eqb _ _ (c .if1 .taken)) (silent _))
 
 beyond-requires : tie.Need-beyond-requires
 beyond-requires c κs = search needs
@@ -67,7 +67,8 @@ returns-3 : tie.Need-returns-3
 returns-3 c =
     let tested = c .before .before .before .before .before .before .before in
     let a = tested .before .before .before .before .before .before .before .args in
-    whole-step (a .n) (now (a .cells)) (a .k) (now (a .frame)) (rw (read tested (c .before .before .before .before .before .e .given .1)) (c .before .before .pair-said .ensures))
+    whole-step (a .n) (now (a .cells)) (a .k) (now (a .frame))
+    (rw (read tested (c .before .before .before .before .before .e .given .1)) (c .before .before .pair-said .ensures))
 
 same-length-3 : tie.Need-same-length-3
 same-length-3 c = search needs
@@ -76,7 +77,8 @@ returns-4 : tie.Need-returns-4
 returns-4 c =
     let tested = c .before .before .before .before .before .before .before in
     let a = tested .before .before .before .before .before .before .before .args in
-    whole-step (a .n) (now (a .cells)) (a .k) (now (a .frame)) (rw (read tested (c .before .before .before .before .before .r .given .1)) (c .before .before .pair-refused2 .ensures))
+    whole-step (a .n) (now (a .cells)) (a .k) (now (a .frame))
+    (rw (read tested (c .before .before .before .before .before .r .given .1)) (c .before .before .pair-refused2 .ensures))
 
 pub pair-step-spec : {M : Type 1} → statement M
 pair-step-spec =

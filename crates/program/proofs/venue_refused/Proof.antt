@@ -1,5 +1,6 @@
--- The line of the refusal's number. Assumes nothing.
-use mathlib.Core.Path.{_≡_, refl, subst}
+-- `program::venue_refused` meets its contract: the line of the refusal's number, and the end. Assumes nothing.
+use mathlib.Core.Path.{refl, sym}
+use Rattle.program.proofs.Front.{front}
 use borrow.Author.Needs.{needs}
 use Rattle.program.proofs.venue_refused.Statement.{statement}
 use Rattle.program.proofs.venue_refused.Tie as tie
@@ -14,7 +15,7 @@ same-length : tie.Need-same-length
 same-length c = search needs
 
 returns : tie.Need-returns
-returns c = record { puts = rw (c .before .before .before .number .ensures .says) at (c .before .before .put-venue-refused .ensures); next = refl }
+returns c = rw (sym (c .before .before .before .number .ensures .says)) (front (c .before .before .put-venue-refused .ensures) refl)
 
 pub venue-refused-spec : {M : Type 1} → statement M
 venue-refused-spec =

@@ -1,11 +1,11 @@
--- The test of the length, then the answer of the reading, as the definition has them. Assumes nothing.
+-- `program::venue_step` meets its contract: the test of the length, then the answer of the reading, as the definition has them. Assumes nothing.
 use mathlib.Core.Path.{_≡_, refl, sym, _∙_}
 use mathlib.Core.Bool.{Bool}
 use denote.Ref.{now}
 use native.Mathlib.Omega.{arith}
 use Rattle.records.specs.declared.venues.VenueRead.{VenueRead}
 use Rattle.program.specs.Program.{venue-most, beyond, said-of-venue, venue-said}
-use Rattle.program.proofs.Front.{no-text, counts}
+use Rattle.program.proofs.Front.{silent, counts}
 use borrow.Author.Needs.{needs}
 use Rattle.program.proofs.venue_step.Statement.{statement}
 use Rattle.program.proofs.venue_step.Tie as tie
@@ -15,7 +15,8 @@ judged : (c : tie.After-beyond) {t : Bool} → c .beyond .result ≡ t → beyon
 judged c h = sym (c .beyond .ensures) ∙ h
 
 -- past the test, what is said is said of the venue
-read : (c : tie.After-read-venue) {r : VenueRead} → c .read-venue .result ≡ r → venue-said (now (c .before .before .before .before .before .args .frame)) ≡ said-of-venue r
+read : (c : tie.After-read-venue) {r : VenueRead} → c .read-venue .result ≡ r
+    → venue-said (now (c .before .before .before .before .before .args .frame)) ≡ said-of-venue r
 unfolding venue-said
 read c e = rw (judged (c .before .before) (c .before .if1 .left), sym (c .read-venue .ensures .says) ∙ e)
 
@@ -32,7 +33,7 @@ returns : tie.Need-returns
 unfolding venue-said
 returns c =
     let said = c .before .before .venue-refused .ensures in
-    rw (judged (c .before .before .before .before .before) (c .before .before .before .before .if1 .taken)) (said, counts (said .puts))
+    rw (judged (c .before .before .before .before .before) (c .before .before .before .before .if1 .taken)) (said, counts said)
 
 read-venue-requires : tie.Need-read-venue-requires
 read-venue-requires c κs = search needs
@@ -47,7 +48,7 @@ venue-refused-requires-2 : tie.Need-venue-refused-requires-2
 venue-refused-requires-2 c κs = search needs
 
 returns-2 : tie.Need-returns-2
-returns-2 c = rw (read (c .before .before) (c .enum-told .given .1)) (record { puts = no-text _; next = refl }, (omega arith, refl))
+returns-2 c = rw (read (c .before .before) (c .enum-told .given .1)) (silent _, (omega arith, refl))
 
 same-length-2 : tie.Need-same-length-2
 same-length-2 c = search needs
@@ -55,7 +56,7 @@ same-length-2 c = search needs
 returns-3 : tie.Need-returns-3
 returns-3 c =
     let said = c .before .before .venue-refused2 .ensures in
-    rw (read (c .before .before .before .before .before .before .before) (c .before .before .before .before .before .r .given .1)) (said, counts (said .puts))
+    rw (read (c .before .before .before .before .before .before .before) (c .before .before .before .before .before .r .given .1)) (said, counts said)
 
 pub venue-step-spec : {M : Type 1} → statement M
 venue-step-spec =

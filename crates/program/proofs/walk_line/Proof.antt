@@ -1,7 +1,7 @@
--- By the case of the answer. Assumes nothing.
-use Rattle.program.specs.Program.{walk-line}
-use Rattle.program.proofs.Front.{no-text}
+-- `program::walk_line` meets its contract: by the case of the answer; a refused walk has no line. Assumes nothing.
 use native.Mathlib.Omega.{arith}
+use Rattle.program.specs.Program.{walk-line}
+use Rattle.program.proofs.Front.{nothing-put}
 use borrow.Author.Needs.{needs}
 use Rattle.program.proofs.walk_line.Statement.{statement}
 use Rattle.program.proofs.walk_line.Tie as tie
@@ -15,8 +15,8 @@ put-clear-requires c κs = search needs
 enum-known-a-2 : tie.Need-enum-known-a-2
 enum-known-a-2 c = search needs
 
-hit-line-requires : tie.Need-hit-line-requires
-hit-line-requires c κs = search needs
+put-hit-requires : tie.Need-put-hit-requires
+put-hit-requires c κs = search needs
 
 enum-told : tie.Need-enum-told
 enum-told c = search needs
@@ -33,11 +33,11 @@ same-length-2 c = search needs
 
 returns-2 : tie.Need-returns-2
 unfolding walk-line
-returns-2 c = rw (c .before .before .before .before .before .a2 .given .1) (c .before .before .hit-line .ensures)
+returns-2 c = rw (c .before .before .before .before .before .before .a2 .given .1) (c .before .before .put-hit .ensures)
 
 returns-3 : tie.Need-returns-3
 unfolding walk-line
-returns-3 c = rw (c .enum-told .given .1) (no-text _, omega arith)
+returns-3 c = rw (c .enum-told .given .1) (nothing-put (c .before .before .before .args .at) _, omega arith)
 
 pub walk-line-spec : {M : Type 1} → statement M
 walk-line-spec =
@@ -46,7 +46,7 @@ walk-line-spec =
     enum-known-a
     put-clear-requires
     enum-known-a-2
-    hit-line-requires
+    put-hit-requires
     enum-told
     same-length
     returns

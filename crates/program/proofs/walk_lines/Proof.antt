@@ -1,43 +1,43 @@
--- The second line stands in the bytes behind the first. Assumes nothing.
-use mathlib.Core.Path.{refl}
-use Rattle.program.proofs.Front.{then-line}
+-- `program::walk_lines` meets its contract: each line stands right behind the one before it. Assumes nothing.
+use mathlib.Core.Path.{sym}
+use mathlib.Core.List.{append-nil}
+use native.Mathlib.Omega.{arith}
+use Rattle.texts.proofs.Pieces.{then-puts}
 use borrow.Author.Needs.{needs}
 use Rattle.program.proofs.walk_lines.Statement.{statement}
 use Rattle.program.proofs.walk_lines.Tie as tie
 
+first-plain-requires : tie.Need-first-plain-requires
+first-plain-requires c κs = search needs
+
 walk-line-requires : tie.Need-walk-line-requires
 walk-line-requires c κs = search needs
 
-sub-walk-line : tie.Need-sub-walk-line
-sub-walk-line c = search needs
-
-part-walk-line-start : tie.Need-part-walk-line-start
-part-walk-line-start c = search needs
-
-part-walk-line-end : tie.Need-part-walk-line-end
-part-walk-line-end c = search needs
+first-adaptive-requires : tie.Need-first-adaptive-requires
+first-adaptive-requires c κs = search needs
 
 walk-line-requires-2 : tie.Need-walk-line-requires-2
 walk-line-requires-2 c κs = search needs
-
-add-result : tie.Need-add-result
-add-result c = search needs
 
 same-length : tie.Need-same-length
 same-length c = search needs
 
 returns : tie.Need-returns
-returns c = then-line (c .before .before .before .before .before .before .walk-line .ensures .0) refl (c .before .before .walk-line2 .ensures .0) refl
+returns c =
+    let adaptive = c .before .before in
+    let plain = adaptive .before .before .before .before .before in
+    let room = plain .before .before .before .before .before .pre in
+    let after-plain = plain .walk-line .ensures .1 in
+    rw (sym (plain .before .first-plain .ensures .says), sym (adaptive .before .first-adaptive .ensures .says), append-nil)
+    (then-puts (omega arith) (plain .walk-line .ensures .0) (adaptive .walk-line2 .ensures .0))
 
 pub walk-lines-spec : {M : Type 1} → statement M
 walk-lines-spec =
     tie.close
     (tie.spec
+    first-plain-requires
     walk-line-requires
-    sub-walk-line
-    part-walk-line-start
-    part-walk-line-end
+    first-adaptive-requires
     walk-line-requires-2
-    add-result
     same-length
     returns)

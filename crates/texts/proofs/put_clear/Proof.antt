@@ -1,4 +1,4 @@
--- What the line begins with, then the word and the number that end it. Assumes nothing.
+-- `texts::put_clear` meets its contract: what the line begins with, then the word and the number that end it. Assumes nothing.
 use native.Mathlib.Omega.{arith}
 use Rattle.texts.proofs.Pieces.{ends-line, clear-pieces}
 use borrow.Author.Needs.{needs}
@@ -25,7 +25,8 @@ returns c =
     let a = start .args in
     let room = start .pre in
     let said = walked .put-walk .ensures .1 in
-    (ends-line (clear-pieces (a .k) (a .w) (a .reads)) (omega arith) (walked .put-walk .ensures .0) (ended .put-last .ensures .0), omega (arith, ended .put-last .ensures .1))
+    let whole = ends-line (clear-pieces (a .k) (a .letter) (a .reads)) (omega arith) (walked .put-walk .ensures .0) (ended .put-last .ensures .0) in
+    (whole, omega (arith, ended .put-last .ensures .1))
 
 pub put-clear-spec : {M : Type 1} → statement M
 put-clear-spec =

@@ -1,4 +1,4 @@
--- What the line begins with, the word, the cell, the code, and the number that ends it. Assumes nothing.
+-- `texts::put_hit` meets its contract: what the line begins with, the word, the cell, the code, and the number that ends it. Assumes nothing.
 use native.Mathlib.Omega.{arith}
 use Rattle.texts.proofs.Pieces.{then-puts, ends-line, hit-pieces}
 use borrow.Author.Needs.{needs}
@@ -40,7 +40,7 @@ returns c =
     let after-word = worded .put-word .ensures .says in
     let after-cell = celled .put-cell .ensures .1 in
     let after-code = coded .put-number .ensures .1 in (
-      ends-line (hit-pieces (a .k) (a .w) (a .x) (a .y) (a .z) (a .code) (a .reads))
+      ends-line (hit-pieces (a .k) (a .letter) (a .c) (a .code) (a .reads))
           (omega arith)
           (then-puts (omega arith)
           (then-puts (omega arith)

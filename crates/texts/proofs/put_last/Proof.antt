@@ -1,4 +1,4 @@
--- The word with its space, then the number with its line feed. Assumes nothing.
+-- `texts::put_last` meets its contract: the word with its space, then the number with its line feed. Assumes nothing.
 use mathlib.Core.Path.{_≡_}
 use mathlib.Core.List.{[], _∷_}
 use Prim.Native.Nat.{_+_}
@@ -12,8 +12,10 @@ use Rattle.texts.proofs.put_last.Statement.{statement}
 use Rattle.texts.proofs.put_last.Tie as tie
 
 -- where the number stands
-after-word : (c : tie.After-put-word) → c .put-word .result ≡ c .before .before .before .before .args .at + length (now (c .before .before .before .before .args .word)) + 1
-after-word c = omega (arith, c .put-word .ensures .says, length-append (now (c .before .before .before .before .args .word)) (space ∷ []))
+after-word : (c : tie.After-put-word) → let a = c .before .before .before .before .args in c .put-word .result ≡ a .at + length (now (a .word)) + 1
+after-word c =
+    let a = c .before .before .before .before .args in
+    omega (arith, c .put-word .ensures .says, length-append (now (a .word)) (space ∷ []))
 
 put-word-requires : tie.Need-put-word-requires
 put-word-requires c κs = search needs

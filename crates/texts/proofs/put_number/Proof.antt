@@ -1,4 +1,4 @@
--- The digits are the fewest that hold the number, so they are its decimal text. Assumes nothing.
+-- `texts::put_number` meets its contract: the digits are the fewest that hold the number, so they are its decimal text. Assumes nothing.
 use mathlib.Core.Path.{_≡_, ap, _∙_}
 use Prim.Native.Nat.{_+_, _<_}
 use mathlib.Core.List.{[], _∷_, _++_}
@@ -28,7 +28,8 @@ put-word-requires c κs =
     let few = at-most-twenty _ (c .before .before .decimal .result) (start .fits .n .fits) (d .1 .0) in
     let long = d .0 .1 in
     let room = start .pre in
-    let h : start .args .at + length (take (c .before .before .decimal .result) (c .before .before .decimal .last .1 .0)) < length (now (start .args .out)) = omega arith in
+    let digits = take (c .before .before .decimal .result) (c .before .before .decimal .last .1 .0) in
+    let h : start .args .at + length digits < length (now (start .args .out)) = omega arith in
     search needs
 
 same-length : tie.Need-same-length
@@ -42,9 +43,10 @@ returns c =
     let few = at-most-twenty _ (made .decimal .result) (start .fits .n .fits) (d .1 .0) in
     let long = d .0 .1 in
     let puts = c .before .before .put-word .ensures in
-    let text : take (made .decimal .result) (made .decimal .last .1 .0) ≡ decimal (start .args .n) = d .1 .1 ∙ fewest-digits (start .args .n) (made .decimal .result) (d .1 .0) in (
+    let digits = take (made .decimal .result) (made .decimal .last .1 .0) in
+    let text : digits ≡ decimal (start .args .n) = d .1 .1 ∙ fewest-digits (start .args .n) (made .decimal .result) (d .1 .0) in (
       same-piece (ap (λ l. l ++ (start .args .after ∷ [])) text) puts,
-      omega (arith, puts .says, length-append (take (made .decimal .result) (made .decimal .last .1 .0)) (start .args .after ∷ [])),
+      omega (arith, puts .says, length-append digits (start .args .after ∷ [])),
     )
 
 pub put-number-spec : {M : Type 1} → statement M

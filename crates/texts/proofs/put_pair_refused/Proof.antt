@@ -1,4 +1,4 @@
--- The number, then what is said of a refusal. Assumes nothing.
+-- `texts::put_pair_refused` meets its contract: the pair's number, then what is said of a refusal. Assumes nothing.
 use native.Mathlib.Omega.{arith}
 use Rattle.texts.proofs.Pieces.{ends-line, pair-pieces}
 use borrow.Author.Needs.{needs}
@@ -22,7 +22,8 @@ returns c =
     let numbered = c .before .before .before .before .before .before .before in
     let start = numbered .before .before .before in
     let room = start .pre in
-    ends-line (pair-pieces (start .args .k) (start .args .number)) (omega (arith, numbered .put-number .ensures .1)) (numbered .put-number .ensures .0) (c .before .before .put-last .ensures .0)
+    let ended = c .before .before .put-last .ensures .0 in
+    ends-line (pair-pieces (start .args .k) (start .args .number)) (omega (arith, numbered .put-number .ensures .1)) (numbered .put-number .ensures .0) ended
 
 pub put-pair-refused-spec : {M : Type 1} → statement M
 put-pair-refused-spec =

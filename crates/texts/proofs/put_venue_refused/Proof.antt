@@ -1,4 +1,4 @@
--- The letter G, then what is said of a refusal. Assumes nothing.
+-- `texts::put_venue_refused` meets its contract: the letter G, then what is said of a refusal. Assumes nothing.
 use native.Mathlib.Omega.{arith}
 use Rattle.texts.proofs.Pieces.{ends-line, venue-pieces}
 use borrow.Author.Needs.{needs}
@@ -25,7 +25,8 @@ returns c =
     let worded = c .before .before .before .before .before .before .before in
     let start = worded .before .before .before .before in
     let room = start .pre in
-    ends-line (venue-pieces (start .args .number)) (omega (arith, worded .put-word .ensures .says)) (worded .put-word .ensures) (c .before .before .put-last .ensures .0)
+    let ended = c .before .before .put-last .ensures .0 in
+    ends-line (venue-pieces (start .args .number)) (omega (arith, worded .put-word .ensures .says)) (worded .put-word .ensures) ended
 
 pub put-venue-refused-spec : {M : Type 1} → statement M
 put-venue-refused-spec =

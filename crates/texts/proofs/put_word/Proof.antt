@@ -1,4 +1,4 @@
--- The word and the byte after it are stored one behind the other. Assumes nothing.
+-- `texts::put_word` meets its contract: the word and the byte after it are stored one behind the other. Assumes nothing.
 use mathlib.Core.Path.{refl}
 use mathlib.Core.List.{[], _∷_}
 use native.Mathlib.Omega.{arith}
