@@ -9,6 +9,7 @@ pub mod Sights
 pub mod Records
 pub mod Texts
 pub mod Program
+pub mod ProgramRows
 pub mod Exports
 pub mod Ties
 pub mod Witnesses

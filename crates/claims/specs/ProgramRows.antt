@@ -1,0 +1,72 @@
+-- Document 01, "Records and the program": the program's limits, its refusals, and what it does after them, as rows: its whole input and output.
+-- Beside the starred cases. Assumes nothing.
+use Prim.Native.Nat.{ℕ}
+use mathlib.Core.List.{List, [], _∷_, _++_}
+use lib.ListN.{replicate}
+use Rattle.claims.specs.Records.{example-venue, example-pair}
+use Rattle.claims.specs.Starred.{Row, writes}
+
+-- ---- records
+
+-- from (0,0,0) to (4,1,0), outside the example's venue
+abbrev pub off-pair : List ℕ
+off-pair = 0 ∷ 0 ∷ 0 ∷ 13 ∷ 1 ∷ 0 ∷ 0 ∷ 0 ∷ 0 ∷ 0 ∷ 0 ∷ 0 ∷ 4 ∷ 0 ∷ 1 ∷ 0 ∷ 0 ∷ []
+
+-- the example's pair, called version 2
+abbrev pub other-version : List ℕ
+other-version = 0 ∷ 0 ∷ 0 ∷ 13 ∷ 2 ∷ 0 ∷ 0 ∷ 0 ∷ 0 ∷ 0 ∷ 0 ∷ 0 ∷ 3 ∷ 0 ∷ 1 ∷ 0 ∷ 0 ∷ []
+
+-- a whole record of version 1 and length 12
+abbrev pub twelve-long : List ℕ
+twelve-long = 0 ∷ 0 ∷ 0 ∷ 12 ∷ 1 ∷ replicate 11 0
+
+-- whole records of length 255 and 256, of no version that there is
+abbrev pub long-255 : List ℕ
+long-255 = 0 ∷ 0 ∷ 0 ∷ 255 ∷ replicate 255 9
+
+abbrev pub long-256 : List ℕ
+long-256 = 0 ∷ 0 ∷ 1 ∷ 0 ∷ replicate 256 9
+
+-- ---- lines
+
+-- ` refused `, between K or G and the number
+abbrev pub refused : List ℕ
+refused = 32 ∷ 114 ∷ 101 ∷ 102 ∷ 117 ∷ 115 ∷ 101 ∷ 100 ∷ 32 ∷ []
+
+-- `5`, `6`, `10` and `11`, each with its line feed
+abbrev pub five : List ℕ
+five = 53 ∷ 10 ∷ []
+
+abbrev pub six : List ℕ
+six = 54 ∷ 10 ∷ []
+
+abbrev pub ten : List ℕ
+ten = 49 ∷ 48 ∷ 10 ∷ []
+
+abbrev pub eleven : List ℕ
+eleven = 49 ∷ 49 ∷ 10 ∷ []
+
+-- `2 P hit 1 1 0 2 3` and `2 A clear 4`
+abbrev pub second-lines : List ℕ
+second-lines =
+    (50 ∷ 32 ∷ 80 ∷ 32 ∷ 104 ∷ 105 ∷ 116 ∷ 32 ∷ 49 ∷ 32 ∷ 49 ∷ 32 ∷ 48 ∷ 32 ∷ 50 ∷ 32 ∷ 51 ∷ 10 ∷ [])
+    ++ (50 ∷ 32 ∷ 65 ∷ 32 ∷ 99 ∷ 108 ∷ 101 ∷ 97 ∷ 114 ∷ 32 ∷ 52 ∷ 10 ∷ [])
+
+-- ---- the rows
+
+abbrev pub more-program-rows : List Row
+more-program-rows =
+    -- a venue length of 65,533 is refused 6 straight after the four bytes; one of 65,532 is not, and is cut short here
+    writes (0 ∷ 0 ∷ 255 ∷ 253 ∷ []) (71 ∷ refused ++ six)
+    ∷ writes (0 ∷ 0 ∷ 255 ∷ 252 ∷ 1 ∷ []) (71 ∷ refused ++ ten)
+    -- no pair: silent
+    ∷ writes example-venue []
+    -- after 5 it goes on and counts on; after 11 it ends, though a pair follows
+    ∷ writes (example-venue ++ off-pair ++ example-pair ++ other-version ++ example-pair) ((49 ∷ refused ++ five) ++ second-lines ++ (51 ∷ refused ++ eleven))
+    -- after 10 it ends too; a pair cut short in its length is refused 10
+    ∷ writes (example-venue ++ off-pair ++ twelve-long ++ example-pair) ((49 ∷ refused ++ five) ++ (50 ∷ refused ++ ten))
+    ∷ writes (example-venue ++ (0 ∷ 0 ∷ 0 ∷ [])) (49 ∷ refused ++ ten)
+    -- a pair length of 255 is read, and its version looked at; one of 256 is refused 10 before that
+    ∷ writes (example-venue ++ long-255) (49 ∷ refused ++ eleven)
+    ∷ writes (example-venue ++ long-256) (49 ∷ refused ++ ten)
+    ∷ []
