@@ -1,4 +1,4 @@
--- What comes next is what the pair's step says, or nothing. Assumes nothing.
+-- `sightlines::answer_pair` meets its contract: what comes next is what the pair's step says, or nothing. Assumes nothing.
 use borrow.Author.Needs.{needs}
 use Rattle.sightlines.proofs.answer_pair.Statement.{statement}
 use Rattle.sightlines.proofs.answer_pair.Tie as tie
@@ -31,7 +31,9 @@ written-requires : tie.Need-written-requires
 written-requires c κs = search needs
 
 returns : tie.Need-returns
-returns c = c .written .ensures (c .before .before .before .before .before .before .before .before .before .before .args .k) (c .before .before .before .pair-step .ensures .1 .1)
+returns c =
+    let stepped = c .before .before .before in
+    c .written .ensures (stepped .before .before .before .before .before .before .before .args .k) (stepped .pair-step .ensures .1 .1)
 
 pub answer-pair-spec : {M : Type 1} → statement M
 answer-pair-spec =

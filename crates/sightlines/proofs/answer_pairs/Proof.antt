@@ -1,4 +1,5 @@
--- Each pair's number is one more, up to a number that no run reaches: the measure is how many are left. Assumes nothing.
+-- `sightlines::answer_pairs` meets its contract: each pair's number is one more, up to a number that no run reaches; the measure is how many are
+-- left. Assumes nothing.
 use mathlib.Core.Path.{_≡_, subst}
 use Prim.Native.Nat.{_+_, _-_}
 use native.Mathlib.Omega.{arith}
@@ -24,7 +25,8 @@ enum-known-j c = search needs
 
 loop-less : tie.Need-loop-less Inv-loop μ-loop
 loop-less c =
-    let next : c .before .j .given .0 .0 ≡ c .before .before .before .before .before .loop .k + 1 = subst (Follows (c .before .before .before .before .before .loop .k)) (c .before .j .given .1) (c .before .before .before .answer-pair .ensures) in
+    let k = c .before .before .before .before .before .loop .k in
+    let next : c .before .j .given .0 .0 ≡ k + 1 = subst (Follows k) (c .before .j .given .1) (c .before .before .before .answer-pair .ensures) in
     let below = c .before .before .before .before .loop-test .taken in
     omega arith
 

@@ -1,4 +1,4 @@
--- The four bytes, then as many as they announce, which the lent bytes have room for. Assumes nothing.
+-- `sightlines::read_frame` meets its contract: the four bytes, then as many as they announce, which the lent bytes have room for. Assumes nothing.
 use mathlib.Core.Path.{_≡_, refl, sym, _∙_}
 use mathlib.Core.Bool.{false}
 use mathlib.Core.List.{List, _++_}
@@ -71,22 +71,29 @@ returns-2 c =
     let room = read .before .before .before .pre in
     (counted 4 (held read) (omega (arith, held-length read)), short-frame (read .before .before .before .args .most) 4 (held read) (omega arith))
 
+-- from where the length is known: the function's start, and the first reading
+abbrev start-of : tie.After-four-at → tie.Start
+start-of c = c .before .before .before .before .before .before .before .before .before .before .before
+
+abbrev read-of : tie.After-four-at → tie.After-read-full
+read-of c = c .before .before .before .before .before .before .before .before
+
 -- the length that was read is not above the most
-within : (c : tie.After-four-at) → beyond (c .before .before .before .before .before .before .before .before .before .before .before .args .most) (take 4 (held (c .before .before .before .before .before .before .before .before))) ≡ false
+within : (c : tie.After-four-at) → beyond (start-of c .args .most) (take 4 (held (read-of c))) ≡ false
 unfolding held
 within c = sym (c .before .before .before .beyond .ensures) ∙ c .before .before .if2 .left
 
-enough : (c : tie.After-four-at) → length-field ≤ length (held (c .before .before .before .before .before .before .before .before))
-enough c = let room = c .before .before .before .before .before .before .before .before .before .before .before .pre in omega (arith, held-length (c .before .before .before .before .before .before .before .before))
+enough : (c : tie.After-four-at) → length-field ≤ length (held (read-of c))
+enough c = let room = start-of c .pre in omega (arith, held-length (read-of c))
 
-announces : (c : tie.After-four-at) → c .four-at .result ≡ announced (held (c .before .before .before .before .before .before .before .before))
+announces : (c : tie.After-four-at) → c .four-at .result ≡ announced (held (read-of c))
 unfolding held
 announces c = c .four-at .ensures .0
 
-fits : (c : tie.After-four-at) → c .four-at .result ≤ c .before .before .before .before .before .before .before .before .before .before .before .args .most
+fits : (c : tie.After-four-at) → c .four-at .result ≤ start-of c .args .most
 fits c =
-    let l = held (c .before .before .before .before .before .before .before .before) in
-    let most = c .before .before .before .before .before .before .before .before .before .before .before .args .most in
+    let l = held (read-of c) in
+    let most = start-of c .args .most in
     let four : length-field ≤ length (take 4 l) = omega (arith, length-take 4 l, enough c) in
     let le : announced (take 4 l) ≤ most = ltb-false most (announced (take 4 l)) (sym (beyond-is most (take 4 l) four) ∙ within c) in
     omega (arith, front-announces 4 l (omega arith) (enough c), announces c)
@@ -108,7 +115,7 @@ part-read-full-start : tie.Need-part-read-full-start
 part-read-full-start c = search needs
 
 part-read-full-end : tie.Need-part-read-full-end
-part-read-full-end c = let room = c .before .before .before .before .before .before .before .before .before .before .before .pre in omega (arith, held-length (c .before .before .before .before .before .before .before .before), fits c)
+part-read-full-end c = let room = start-of c .pre in omega (arith, held-length (read-of c), fits c)
 
 read-full-requires-2 : tie.Need-read-full-requires-2
 read-full-requires-2 c κs = search needs
@@ -123,14 +130,15 @@ returns-3 : tie.Need-returns-3
 unfolding held
 returns-3 c =
     let long = c .before .before .before .before in
-    let read = c .before .before .before .before .before .before .before .before .before .before .before .before in
-    let room = c .before .before .before .before .before .before .before .before .before .before .before .before .before .before .before .pre in
+    let read = read-of long in
+    let most = start-of long .args .most in
+    let room = start-of long .pre in
     let z = c .before .before .read-full2 .last .1 .0 in
     let m = c .before .before .read-full2 .result in
     let some : m ≤ length z = c .before .before .read-full2 .ensures .0 in
     let all : length z ≤ announced (held read) = no-more _ z (c .before .before .read-full2 .kept .1 .0) (announces long) in (
-      full-counted (c .before .before .before .before .before .before .before .before .before .before .before .before .before .before .before .args .most) (held read) z _ _ m (enough long) (within long) some all refl,
-      full-frame (c .before .before .before .before .before .before .before .before .before .before .before .before .before .before .before .args .most) (held read) z _ _ m (enough long) (within long) some all refl,
+      full-counted most (held read) z _ _ m (enough long) (within long) some all refl,
+      full-frame most (held read) z _ _ m (enough long) (within long) some all refl,
     )
 
 pub read-frame-spec : {M : Type 1} → statement M
