@@ -259,13 +259,16 @@ read-said n cells k t e read =
       read,
     )
 
-pub five-or-lines : (s cells t : List ℕ) (v : Venue) (e : Pair) → FiveOrLines s cells t v e
-five-or-lines s cells t v e =
+pub five-or-lines : (bytes given : RefT (List ℕ)) (t : List ℕ) (v : Venue) (e : Pair) → FiveOrLines bytes given t v e
+five-or-lines bytes given t v e =
     record {
-      pair = λ venue given read k.
-          by k (rw given (record-fits s v (sym venue) .fine)) (read-said n cells k t e (sym read)) (walk-check n (length cells) p q) refl;
+      pair = λ venue gives read k.
+          by k (rw (gives .says) (record-fits (bytes .now) v (sym (venue .says)) .fine)) (read-said n cells k t e (sym (read .says))) (walk-check n (length cells) p q) refl;
     }
   where
+    cells : List ℕ
+    cells = given .now
+
     n : Counts
     n = v .counts
 

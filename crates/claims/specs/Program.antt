@@ -65,11 +65,11 @@ abbrev pub going-on : ℕ → List ℕ → Said
 going-on k text = record { text = text; next = On (k + 1) }
 
 -- Of an accepted venue, a pair that is read is refused 5 or not at all; then each walk was made and has its line. Either way the program goes on.
-pub record FiveOrLines (s cells t : List ℕ) (v : Venue) (e : Pair) : Type 0 where
-  pub pair : ReadsVenue s (Read v) → GivesCells s cells → ReadsPair t (ReadPair e) → (k : ℕ) →
-      let found : List (ℕ × FirstHit) = answers (v .counts) cells (e .p) (e .q) in
-      (pair-said (v .counts) cells k t ≡ going-on k (pair-refused-line k 5))
-      ⊎ ((pair-said (v .counts) cells k t ≡ going-on k (walk-lines k found)) × AllWalked found)
+pub record FiveOrLines (bytes cells : RefT (List ℕ)) (t : List ℕ) (v : Venue) (e : Pair) : Type 0 where
+  pub pair : ReadsVenue (bytes .now) (Read v) → GivesCells bytes cells → ReadsPair t (ReadPair e) → (k : ℕ) →
+      let found : List (ℕ × FirstHit) = answers (v .counts) (cells .now) (e .p) (e .q) in
+      (pair-said (v .counts) (cells .now) k t ≡ going-on k (pair-refused-line k 5))
+      ⊎ ((pair-said (v .counts) (cells .now) k t ≡ going-on k (walk-lines k found)) × AllWalked found)
 
 -- ---- named inputs and outputs
 

@@ -65,15 +65,15 @@ venue-said s = cond (beyond venue-most s) (venue-refused Room) (said-of-venue (v
 -- ---- a pair
 
 -- "after 10 or 11 the program ends, after 5 it goes on"
-abbrev pub after-refusal : ℕ → ℕ → Next
+abbrev pub after-refusal : (k number : ℕ) → Next
 after-refusal k number = cond (eqb number 10 || eqb number 11) Over (On (k + 1))
 
 -- "A pair refused prints `K refused N`"
-abbrev pub pair-refused : ℕ → Refusal → Said
+abbrev pub pair-refused : (k : ℕ) → Refusal → Said
 pair-refused k r = record { text = pair-refused-line k (told r .number); next = after-refusal k (told r .number) }
 
 -- the line of one walk: "`hit x y z code reads` or `clear reads`"; none where it is refused, and no walk of a pair is (claim `FiveOrLines`)
-unfoldable pub walk-line : ℕ → ℕ → FirstHit → List ℕ
+unfoldable pub walk-line : (k letter : ℕ) → FirstHit → List ℕ
 walk-line k letter (Clear reads) = clear-line k letter reads
 walk-line k letter (Blocked h) = hit-line k letter (h .cell) (h .code) (h .reads)
 walk-line k letter (NotWalked r) = []
@@ -90,12 +90,12 @@ abbrev pub answers : Counts → List ℕ → Cell → Cell → List (ℕ × Firs
 answers n cells p q = (plain-letter, first-hit Plain n cells p q) ∷ (adaptive-letter, first-hit Adaptive n cells p q) ∷ []
 
 -- a line for each
-abbrev pub walk-lines : ℕ → List (ℕ × FirstHit) → List ℕ
+abbrev pub walk-lines : (k : ℕ) → List (ℕ × FirstHit) → List ℕ
 walk-lines k [] = []
 walk-lines k (a ∷ more) = walk-line k (a .0) (a .1) ++ walk-lines k more
 
 -- refused, or "two lines a pair"
-abbrev pub said-of-walks : ℕ → Verdict → List (ℕ × FirstHit) → Said
+abbrev pub said-of-walks : (k : ℕ) → Verdict → List (ℕ × FirstHit) → Said
 said-of-walks k (Refused r) found = pair-refused k r
 said-of-walks k Fine found = record { text = walk-lines k found; next = On (k + 1) }
 

@@ -75,31 +75,31 @@ line f [] = ended f
 line f (g ∷ fields) = parted f ++ line g fields
 
 -- what the line of a walk begins with: K, and the letter of the walk
-abbrev pub walk-fields : ℕ → ℕ → List (List ℕ) → List ℕ
+abbrev pub walk-fields : (k letter : ℕ) → List (List ℕ) → List ℕ
 walk-fields k letter fields = line (decimal k) ((letter ∷ []) ∷ fields)
 
 -- `K LETTER hit x y z code reads`
-unfoldable pub hit-line : ℕ → ℕ → Cell → ℕ → ℕ → List ℕ
+unfoldable pub hit-line : (k letter : ℕ) (c : Cell) (code reads : ℕ) → List ℕ
 unfolding signed-decimal
 hit-line k letter c code reads =
     walk-fields k letter
     (hit-word ∷ signed-decimal (c .x) ∷ signed-decimal (c .y) ∷ signed-decimal (c .z) ∷ decimal code ∷ decimal reads ∷ [])
 
 -- `K LETTER clear reads`
-unfoldable pub clear-line : ℕ → ℕ → ℕ → List ℕ
+unfoldable pub clear-line : (k letter reads : ℕ) → List ℕ
 clear-line k letter reads = walk-fields k letter (clear-word ∷ decimal reads ∷ [])
 
 -- `K refused N`
-unfoldable pub pair-refused-line : ℕ → ℕ → List ℕ
+unfoldable pub pair-refused-line : (k number : ℕ) → List ℕ
 pair-refused-line k number = line (decimal k) (refused-word ∷ decimal number ∷ [])
 
 -- `G refused N`
-unfoldable pub venue-refused-line : ℕ → List ℕ
+unfoldable pub venue-refused-line : (number : ℕ) → List ℕ
 venue-refused-line number = line venue-word (refused-word ∷ decimal number ∷ [])
 
 -- ---- contracts
 
--- room for every line: the longest, that of a hit, is at most 135 bytes long, with twenty digits for each number
+-- room for every line: none is longer than that of a hit, at most 135 bytes with twenty digits for each number
 abbrev pub line-room : ℕ
 line-room = 160
 

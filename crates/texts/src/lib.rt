@@ -105,7 +105,7 @@ pub fn put_hit(
 ) -> usize
     requires { ⌜ at + line-room ≤ length (now out) ⌝ }
     ensures { λ r. ⌜ Puts (hit-line k letter c code reads) at (now (out .entry)) r (now (out .exit)) ⌝ }
-    ensures { λ r. ⌜ r ≤ at + line-room ⌝ }
+    ensures { λ r. ⌜ r ≤ at + 135 ⌝ }
 {
     let said = put_walk(out, at, k, letter);
     let hit = put_word(out, said, b"hit", SPACE);
@@ -118,7 +118,7 @@ pub fn put_hit(
 pub fn put_clear(out: &mut [u8], at: usize, k: u64, letter: u8, reads: u32) -> usize
     requires { ⌜ at + line-room ≤ length (now out) ⌝ }
     ensures { λ r. ⌜ Puts (clear-line k letter reads) at (now (out .entry)) r (now (out .exit)) ⌝ }
-    ensures { λ r. ⌜ r ≤ at + line-room ⌝ }
+    ensures { λ r. ⌜ r ≤ at + 50 ⌝ }
 {
     let said = put_walk(out, at, k, letter);
     put_last(out, said, b"clear", reads)

@@ -26,14 +26,18 @@ same-length c = search needs
 
 returns : tie.Need-returns
 unfolding walk-line
-returns c = rw (c .before .before .before .before .before .a .given .1) (c .before .before .put-clear .ensures)
+returns c =
+    let put = c .before .before .put-clear .ensures in
+    rw (c .before .before .before .before .before .a .given .1) (put .0, omega (arith, put .1))
 
 same-length-2 : tie.Need-same-length-2
 same-length-2 c = search needs
 
 returns-2 : tie.Need-returns-2
 unfolding walk-line
-returns-2 c = rw (c .before .before .before .before .before .before .a2 .given .1) (c .before .before .put-hit .ensures)
+returns-2 c =
+    let put = c .before .before .put-hit .ensures in
+    rw (c .before .before .before .before .before .before .a2 .given .1) (put .0, omega (arith, put .1))
 
 returns-3 : tie.Need-returns-3
 unfolding walk-line
