@@ -1,12 +1,12 @@
-/* Oatmarten: exact sight lines through a voxel grid. The C interface, revision 1 (OAT_REVISION).
+/* Oatmarten: exact sight lines through a voxel grid. The C interface, revision 2 (OAT_REVISION).
 
    Link with liboatmarten.a (x86-64 Linux). docs/C.md has a whole program, docs/SCOPE.md the exact rules, docs/TRUST.md says what is proved
    and what is not.
 
    Every call
    - takes any numbers and any lent memory, ends, and does its job or refuses by a number; there is no other error;
-   - answers by value. `refusal` is OAT_ACCEPTED, or the number of the refusal; `end` and `axis` then say what it names. Fields that the
-     answer does not speak of are 0: all values of a refused call, `end` and `axis` of an accepted one;
+   - answers by value. Every answer begins with `said`: its `refusal` is OAT_ACCEPTED, or the number of the refusal; its `end` and `axis`
+     then say what it names. Fields that the answer does not speak of are 0: all values of a refused call, all of `said` of an accepted one;
    - writes nothing where it refuses, and where it accepts only what is said of it below;
    - gives the same answer and the same final memory for the same input.
 
@@ -28,7 +28,7 @@ extern "C" {
 #endif
 
 /* Grows by one when a struct, a call or a number of this header changes. */
-#define OAT_REVISION 1
+#define OAT_REVISION 2
 
 /* The field `refusal`, with what it names. Where more than one applies, each call below says the order of its tests; ends are looked at P
    before Q, axes in the order x, y, z. */
@@ -99,43 +99,40 @@ typedef struct {
 
 /* ---- what they answer */
 
+/* What every answer begins with. */
+typedef struct {
+    uint32_t refusal; /* enum oat_refusal */
+    uint32_t end;     /* enum oat_end */
+    uint32_t axis;    /* enum oat_axis */
+} oat_said;
+
 /* Of a line list. */
 typedef struct {
-    uint32_t refusal;
-    uint32_t end;
-    uint32_t axis;
+    oat_said said;
     uint32_t count; /* cells of the line, both ends included */
 } oat_listed;
 
 /* Of a call that accepts or refuses. */
 typedef struct {
-    uint32_t refusal;
-    uint32_t end;
-    uint32_t axis;
+    oat_said said;
 } oat_verdict;
 
 /* Of oat_complete. */
 typedef struct {
-    uint32_t refusal;
-    uint32_t end;
-    uint32_t axis;
+    oat_said said;
     uint32_t yes; /* 1: the marks are complete; 0: a clear cell touches a solid one */
 } oat_complete_answer;
 
 /* A part of the bytes that the caller lent. */
 typedef struct {
-    uint32_t refusal;
-    uint32_t end;
-    uint32_t axis;
+    oat_said said;
     uint64_t offset; /* where it starts, in bytes from the lent pointer */
     uint64_t length; /* its bytes; never 0 where accepted */
 } oat_part;
 
 /* The cell of a surveyed point. */
 typedef struct {
-    uint32_t refusal;
-    uint32_t end;
-    uint32_t axis;
+    oat_said said;
     int32_t x;
     int32_t y;
     int32_t z;
@@ -143,9 +140,7 @@ typedef struct {
 
 /* A venue record that was read. */
 typedef struct {
-    uint32_t refusal;
-    uint32_t end;
-    uint32_t axis;
+    oat_said said;
     uint32_t nx;
     uint32_t ny;
     uint32_t nz;
@@ -155,9 +150,7 @@ typedef struct {
 
 /* A pair record that was read: the ends P and Q. */
 typedef struct {
-    uint32_t refusal;
-    uint32_t end;
-    uint32_t axis;
+    oat_said said;
     int32_t px;
     int32_t py;
     int32_t pz;
@@ -168,17 +161,13 @@ typedef struct {
 
 /* A venue record that was written. */
 typedef struct {
-    uint32_t refusal;
-    uint32_t end;
-    uint32_t axis;
+    oat_said said;
     uint64_t written; /* bytes written at the front of the room */
 } oat_written;
 
 /* The first hit of a walk. */
 typedef struct {
-    uint32_t refusal;
-    uint32_t end;
-    uint32_t axis;
+    oat_said said;
     uint32_t hit;   /* 1: a solid cell was met; 0: none, and the fields up to den are 0 */
     int32_t x;      /* the cell that was met */
     int32_t y;
@@ -191,9 +180,7 @@ typedef struct {
 
 /* The sight from a camera to a ball. */
 typedef struct {
-    uint32_t refusal;
-    uint32_t end;
-    uint32_t axis;
+    oat_said said;
     uint32_t blocked; /* 1: a solid cell is in the way; 0: clear, and the fields below are 0 */
     double share;     /* of the way at which the line enters that cell, 0 to 1 */
     int32_t x;        /* the cell in the way */

@@ -59,9 +59,9 @@ __attribute__((format(printf, 1, 2))) static void say(const char *format, ...) {
     __builtin_va_end(rest);
 }
 
-static void say_refused(u32 number, u32 end, u32 axis) {
+static void say_refused(oat_said said) {
     static const char *const ends[] = {"-", "P", "Q"}, *const axes[] = {"-", "x", "y", "z", "edge"};
-    say("refused %u %s %s", number, end < 3 ? ends[end] : "?", axis < 5 ? axes[axis] : "?");
+    say("refused %u %s %s", said.refusal, said.end < 3 ? ends[said.end] : "?", said.axis < 5 ? axes[said.axis] : "?");
 }
 
 /* ---- the numbers of the line, taken from the left */
@@ -170,8 +170,8 @@ static void say_numbers(slice s) {
 /* ---- the calls */
 
 /* an accepted call names no end and no axis, a refused one gives no values */
-static void say_stray(u32 refusal, u32 end, u32 axis, u64 values) {
-    if (refusal ? values != 0 : end || axis) say(" stray %u %u %lu", end, axis, values);
+static void say_stray(oat_said said, u64 values) {
+    if (said.refusal ? values != 0 : said.end || said.axis) say(" stray %u %u %lu", said.end, said.axis, values);
 }
 
 static void list(oat_listed line(oat_cell, oat_cell, i32 *, size), int takes_rule) {
@@ -180,9 +180,9 @@ static void list(oat_listed line(oat_cell, oat_cell, i32 *, size), int takes_rul
     size room = take_length();
     slice out = lend_numbers(room, -77777);
     oat_listed got = line(p, q, (i32 *)out.at, room);
-    if (got.refusal) say_refused(got.refusal, got.end, got.axis);
+    if (got.said.refusal) say_refused(got.said);
     else say("ok %u", got.count);
-    say_stray(got.refusal, got.end, got.axis, got.refusal ? got.count : 0);
+    say_stray(got.said, got.said.refusal ? got.count : 0);
     say_numbers(out);
 }
 
@@ -193,9 +193,9 @@ static void mark(void) {
     grid g = lend_grid();
     take_fixed(1);
     oat_verdict got = oat_mark(g.n, g.cells.at, g.cells.bytes);
-    if (got.refusal) say_refused(got.refusal, got.end, got.axis);
+    if (got.said.refusal) say_refused(got.said);
     else say("ok");
-    say_stray(got.refusal, got.end, got.axis, 0);
+    say_stray(got.said, 0);
     say_bytes(g.cells);
 }
 
@@ -205,9 +205,9 @@ static void complete(void) {
     only_read(g.cells);
     oat_complete_answer got = oat_complete(g.n, g.cells.at, g.cells.bytes);
     take_back(g.cells);
-    if (got.refusal) say_refused(got.refusal, got.end, got.axis);
+    if (got.said.refusal) say_refused(got.said);
     else say(got.yes == 1 ? "yes" : got.yes ? "?" : "no");
-    say_stray(got.refusal, got.end, got.axis, got.refusal ? got.yes : 0);
+    say_stray(got.said, got.said.refusal ? got.yes : 0);
 }
 
 static void layer(void) {
@@ -216,9 +216,9 @@ static void layer(void) {
     only_read(g.cells);
     oat_part got = oat_layer(g.n, g.cells.at, g.cells.bytes, z);
     take_back(g.cells);
-    if (got.refusal) say_refused(got.refusal, got.end, got.axis);
+    if (got.said.refusal) say_refused(got.said);
     else say("ok %lu %lu", got.offset, got.length);
-    say_stray(got.refusal, got.end, got.axis, got.refusal ? got.offset + got.length : 0);
+    say_stray(got.said, got.said.refusal ? got.offset + got.length : 0);
 }
 
 static void first_hit(oat_hit walk(oat_counts, const u8 *, size, oat_cell, oat_cell)) {
@@ -229,13 +229,13 @@ static void first_hit(oat_hit walk(oat_counts, const u8 *, size, oat_cell, oat_c
     only_read(g.cells);
     oat_hit got = walk(g.n, g.cells.at, g.cells.bytes, p, q);
     take_back(g.cells);
-    if (got.refusal) say_refused(got.refusal, got.end, got.axis);
+    if (got.said.refusal) say_refused(got.said);
     else if (got.hit == 1) say("hit %d %d %d %u %u %u %u", got.x, got.y, got.z, got.code, got.num, got.den, got.reads);
     else say(got.hit ? "?" : "clear %u", got.reads);
     u64 values = got.hit == 1 ? 0 : (u32)(got.x | got.y | got.z) | got.code | got.num | got.den;
-    if (got.refusal) values |= got.hit | got.reads;
+    if (got.said.refusal) values |= got.hit | got.reads;
     if (values) say(" stray %lu", values);
-    say_stray(got.refusal, got.end, got.axis, 0);
+    say_stray(got.said, 0);
 }
 
 static void plain(void) { first_hit(oat_plain); }
@@ -256,9 +256,9 @@ static void cell(void) {
     oat_placement at = take_placement();
     oat_point p = take_point();
     oat_found got = oat_cell_of((oat_counts){nx, ny, nz}, at, p);
-    if (got.refusal) say_refused(got.refusal, got.end, got.axis);
+    if (got.said.refusal) say_refused(got.said);
     else say("ok %d %d %d", got.x, got.y, got.z);
-    say_stray(got.refusal, got.end, got.axis, got.refusal ? (u64)(got.x | got.y | got.z) : 0);
+    say_stray(got.said, got.said.refusal ? (u64)(got.x | got.y | got.z) : 0);
 }
 
 static u64 bits_of(double value) { return ((union { double value; u64 bits; }){value}).bits; }
@@ -272,13 +272,13 @@ static void sight(void) {
     only_read(g.cells);
     oat_sight_answer got = oat_sight(g.n, g.cells.at, g.cells.bytes, at, camera, ball);
     take_back(g.cells);
-    if (got.refusal) say_refused(got.refusal, got.end, got.axis);
+    if (got.said.refusal) say_refused(got.said);
     else if (got.blocked == 1) say("blocked %lu %d %d %d %u %u", bits_of(got.share), got.x, got.y, got.z, got.code, got.reads);
     else say(got.blocked ? "?" : "clear");
     u64 values = got.blocked == 1 ? 0 : bits_of(got.share) | (u32)(got.x | got.y | got.z) | got.code | got.reads;
-    if (got.refusal) values |= got.blocked;
+    if (got.said.refusal) values |= got.blocked;
     if (values) say(" stray %lu", values);
-    say_stray(got.refusal, got.end, got.axis, 0);
+    say_stray(got.said, 0);
 }
 
 static void rvenue(void) {
@@ -286,9 +286,9 @@ static void rvenue(void) {
     only_read(bytes);
     oat_venue got = oat_read_venue(bytes.at, bytes.bytes);
     take_back(bytes);
-    if (got.refusal) say_refused(got.refusal, got.end, got.axis);
+    if (got.said.refusal) say_refused(got.said);
     else say("ok %u %u %u 1 %lu %lu", got.nx, got.ny, got.nz, got.offset, got.length);
-    say_stray(got.refusal, got.end, got.axis, got.refusal ? got.nx | got.ny | got.nz | got.offset | got.length : 0);
+    say_stray(got.said, got.said.refusal ? got.nx | got.ny | got.nz | got.offset | got.length : 0);
 }
 
 static void rpair(void) {
@@ -296,9 +296,9 @@ static void rpair(void) {
     only_read(bytes);
     oat_pair got = oat_read_pair(bytes.at, bytes.bytes);
     take_back(bytes);
-    if (got.refusal) say_refused(got.refusal, got.end, got.axis);
+    if (got.said.refusal) say_refused(got.said);
     else say("ok %d %d %d %d %d %d 1", got.px, got.py, got.pz, got.qx, got.qy, got.qz);
-    say_stray(got.refusal, got.end, got.axis, got.refusal ? (u64)(got.px | got.py | got.pz | got.qx | got.qy | got.qz) : 0);
+    say_stray(got.said, got.said.refusal ? (u64)(got.px | got.py | got.pz | got.qx | got.qy | got.qz) : 0);
 }
 
 static void wvenue(void) {
@@ -309,9 +309,9 @@ static void wvenue(void) {
     only_read(g.cells);
     oat_written got = oat_write_venue(g.n, g.cells.at, g.cells.bytes, out.at, out.bytes);
     take_back(g.cells);
-    if (got.refusal) say_refused(got.refusal, got.end, got.axis);
+    if (got.said.refusal) say_refused(got.said);
     else say("ok %lu", got.written);
-    say_stray(got.refusal, got.end, got.axis, got.refusal ? got.written : 0);
+    say_stray(got.said, got.said.refusal ? got.written : 0);
     say_bytes(out);
 }
 

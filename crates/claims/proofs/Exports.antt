@@ -110,13 +110,13 @@ pub refused-untouched : RefusedUntouched
 refused-untouched =
     record {
       lines = λ line p q entry r exit h.
-          untouched (λ f. f .refusal) (λ v. flat-listed (listed v (length line))) (λ v. after-listing v line entry) refl (λ x. refl)
+          untouched (λ f. f .said .refusal) (λ v. flat-listed (listed v (length line))) (λ v. after-listing v line entry) refl (λ x. refl)
           (list-check p q (length line) (length entry)) (h .flat ∙ ap flat-listed (h .meets .says)) (h .meets .holds);
       mark = λ n entry r exit h.
-          untouched (λ f. f .refusal) flat-verdict (λ v. after-marking v n entry) refl (λ x. refl) (shape n (length entry))
+          untouched (λ f. f .said .refusal) flat-verdict (λ v. after-marking v n entry) refl (λ x. refl) (shape n (length entry))
           (h .flat ∙ ap flat-verdict (h .meets .says)) (h .meets .holds);
       written = λ n cells entry r exit h.
-          untouched (λ f. f .refusal) (λ v. flat-written (written v n)) (λ v. after-writing v n cells entry) refl (λ x. refl)
+          untouched (λ f. f .said .refusal) (λ v. flat-written (written v n)) (λ v. after-writing v n cells entry) refl (λ x. refl)
           (write-check n (length cells) (length entry)) (h .flat ∙ ap flat-written (h .meets .says)) (h .meets .holds);
     }
 
@@ -157,46 +157,46 @@ numbered says flat refusal case = record { number = λ a. number (case a); accep
         (λ z. absurd (omega (arith, in-table r .0, f, z)), λ v. absurd (let z : told r .number ≡ 0 = sym (ap number-told e) ∙ ap number-told (v .1) in omega (arith, in-table r .0)))
     exactly (inr (v, e, f)) = (λ z. (v, e), λ w. f)
 
-listed-case : (a : Listed) → Case (told-listed a) (flat-listed a .refusal)
+listed-case : (a : Listed) → Case (told-listed a) (flat-listed a .said .refusal)
 listed-case (Cells n) = accepted n
 listed-case (NotListed r) = refused r
 
-verdict-case : (a : Verdict) → Case (told-verdict a) (flat-verdict a .refusal)
+verdict-case : (a : Verdict) → Case (told-verdict a) (flat-verdict a .said .refusal)
 verdict-case Fine = accepted tt
 verdict-case (Fails r) = refused r
 
-complete-case : (a : Completeness) → Case (told-completeness a) (flat-complete a .refusal)
+complete-case : (a : Completeness) → Case (told-completeness a) (flat-complete a .said .refusal)
 complete-case Yes = accepted true
 complete-case No = accepted false
 complete-case (NotAsked r) = refused r
 
-part-case : (a : LayerPart) → Case (told-part a) (flat-part a .refusal)
+part-case : (a : LayerPart) → Case (told-part a) (flat-part a .said .refusal)
 part-case (LayerAt start many) = accepted (start, many)
 part-case (NoPart r) = refused r
 
-hit-case : (a : FirstHit) → Case (told-hit a) (flat-hit a .refusal)
+hit-case : (a : FirstHit) → Case (told-hit a) (flat-hit a .said .refusal)
 hit-case (Clear reads) = accepted (inl reads)
 hit-case (Blocked h) = accepted (inr h)
 hit-case (NotWalked r) = refused r
 
-found-case : (a : Lookup) → Case (told-lookup a) (flat-found a .refusal)
+found-case : (a : Lookup) → Case (told-lookup a) (flat-found a .said .refusal)
 found-case (At c) = accepted c
 found-case (NotFound r) = refused r
 
-sight-case : (a : Sight) → Case (told-sight a) (flat-sight a .refusal)
+sight-case : (a : Sight) → Case (told-sight a) (flat-sight a .said .refusal)
 sight-case Seen = accepted (inl tt)
 sight-case (InTheWay b) = accepted (inr b)
 sight-case (NotSeen r) = refused r
 
-venue-case : (a : VenueRead) → Case (told-venue a) (flat-venue a .refusal)
+venue-case : (a : VenueRead) → Case (told-venue a) (flat-venue a .said .refusal)
 venue-case (ReadVenue v) = accepted (v .counts, v .start, v .long)
 venue-case (NoVenue r) = refused r
 
-pair-case : (a : PairRead) → Case (told-pair a) (flat-pair a .refusal)
+pair-case : (a : PairRead) → Case (told-pair a) (flat-pair a .said .refusal)
 pair-case (ReadPair e) = accepted (e .p, e .q)
 pair-case (NoPair r) = refused r
 
-written-case : (a : Written) → Case (told-written a) (flat-written a .refusal)
+written-case : (a : Written) → Case (told-written a) (flat-written a .said .refusal)
 written-case (Wrote many) = accepted many
 written-case (NotWritten r) = refused r
 
@@ -204,16 +204,16 @@ pub refusal-numbers : RefusalNumbers
 refusal-numbers =
     record {
       in-table = in-table;
-      lines = numbered told-listed flat-listed (λ f. f .refusal) listed-case;
-      mark = numbered told-verdict flat-verdict (λ f. f .refusal) verdict-case;
-      complete = numbered told-completeness flat-complete (λ f. f .refusal) complete-case;
-      layer = numbered told-part flat-part (λ f. f .refusal) part-case;
-      walks = numbered told-hit flat-hit (λ f. f .refusal) hit-case;
-      found = numbered told-lookup flat-found (λ f. f .refusal) found-case;
-      seen = numbered told-sight flat-sight (λ f. f .refusal) sight-case;
-      venue = numbered told-venue flat-venue (λ f. f .refusal) venue-case;
-      pair = numbered told-pair flat-pair (λ f. f .refusal) pair-case;
-      written = numbered told-written flat-written (λ f. f .refusal) written-case;
+      lines = numbered told-listed flat-listed (λ f. f .said .refusal) listed-case;
+      mark = numbered told-verdict flat-verdict (λ f. f .said .refusal) verdict-case;
+      complete = numbered told-completeness flat-complete (λ f. f .said .refusal) complete-case;
+      layer = numbered told-part flat-part (λ f. f .said .refusal) part-case;
+      walks = numbered told-hit flat-hit (λ f. f .said .refusal) hit-case;
+      found = numbered told-lookup flat-found (λ f. f .said .refusal) found-case;
+      seen = numbered told-sight flat-sight (λ f. f .said .refusal) sight-case;
+      venue = numbered told-venue flat-venue (λ f. f .said .refusal) venue-case;
+      pair = numbered told-pair flat-pair (λ f. f .said .refusal) pair-case;
+      written = numbered told-written flat-written (λ f. f .said .refusal) written-case;
     }
 
 -- ---- nothing is lost for C: each flattening has a left inverse
@@ -260,7 +260,7 @@ meant number end axis =
       part = cond (eqb number 7) (part-of axis) none;
     }
 
-meant-told : (r : Refusal) → meant (flat-refusal r .number) (flat-refusal r .end) (flat-refusal r .axis) ≡ told r
+meant-told : (r : Refusal) → meant (flat-refusal r .refusal) (flat-refusal r .end) (flat-refusal r .axis) ≡ told r
 unfolding numbered-of
 meant-told (Limit e a) = rw (end-back e, axis-back a)
 meant-told (Count a) = rw (axis-back a)
@@ -274,7 +274,7 @@ meant-told (OffSurvey e a) = rw (end-back e, axis-back a)
 meant-told Record = refl
 meant-told Version = refl
 
-refusal-back : (r : Refusal) → untold (meant (flat-refusal r .number) (flat-refusal r .end) (flat-refusal r .axis)) ≡ some r
+refusal-back : (r : Refusal) → untold (meant (flat-refusal r .refusal) (flat-refusal r .end) (flat-refusal r .axis)) ≡ some r
 refusal-back r = ap untold (meant-told r) ∙ told-back r
 
 -- the answer that a struct means: the one made of its values where `refusal` is 0, else a refusal
@@ -286,29 +286,29 @@ unfolding answer-in
 accepted-back refuses a = refl
 
 refused-back : {A : Type 0} (refuses : Refusal → A) (a : A) (r : Refusal) →
-    answer-in refuses a (flat-refusal r .number) (flat-refusal r .end) (flat-refusal r .axis) ≡ some (refuses r)
+    answer-in refuses a (flat-refusal r .refusal) (flat-refusal r .end) (flat-refusal r .axis) ≡ some (refuses r)
 unfolding answer-in
 refused-back refuses a r =
-    ap (λ t. cond t (some a) (Option·map refuses (untold (meant (flat-refusal r .number) (flat-refusal r .end) (flat-refusal r .axis)))))
+    ap (λ t. cond t (some a) (Option·map refuses (untold (meant (flat-refusal r .refusal) (flat-refusal r .end) (flat-refusal r .axis)))))
     (ne-eqb (told r .number) 0 (λ e. omega (arith, in-table r .0, e)))
     ∙ ap (Option·map refuses) (refusal-back r)
 
 abbrev listed-in : OatListed → Option Listed
-listed-in f = answer-in NotListed (Cells (f .count)) (f .refusal) (f .end) (f .axis)
+listed-in f = answer-in NotListed (Cells (f .count)) (f .said .refusal) (f .said .end) (f .said .axis)
 
 listed-back : (a : Listed) → listed-in (flat-listed a) ≡ some a
 listed-back (Cells n) = accepted-back NotListed (Cells n)
 listed-back (NotListed r) = refused-back NotListed (Cells 0) r
 
 abbrev verdict-in : OatVerdict → Option Verdict
-verdict-in f = answer-in Fails Fine (f .refusal) (f .end) (f .axis)
+verdict-in f = answer-in Fails Fine (f .said .refusal) (f .said .end) (f .said .axis)
 
 verdict-back : (a : Verdict) → verdict-in (flat-verdict a) ≡ some a
 verdict-back Fine = accepted-back Fails Fine
 verdict-back (Fails r) = refused-back Fails Fine r
 
 abbrev complete-in : OatComplete → Option Completeness
-complete-in f = answer-in NotAsked (cond (eqb (f .yes) 1) Yes No) (f .refusal) (f .end) (f .axis)
+complete-in f = answer-in NotAsked (cond (eqb (f .yes) 1) Yes No) (f .said .refusal) (f .said .end) (f .said .axis)
 
 complete-back : (a : Completeness) → complete-in (flat-complete a) ≡ some a
 complete-back Yes = accepted-back NotAsked Yes
@@ -316,7 +316,7 @@ complete-back No = accepted-back NotAsked No
 complete-back (NotAsked r) = refused-back NotAsked No r
 
 abbrev part-in : OatPart → Option LayerPart
-part-in f = answer-in NoPart (LayerAt (f .offset) (f .length)) (f .refusal) (f .end) (f .axis)
+part-in f = answer-in NoPart (LayerAt (f .offset) (f .length)) (f .said .refusal) (f .said .end) (f .said .axis)
 
 layer-back : (a : LayerPart) → part-in (flat-part a) ≡ some a
 layer-back (LayerAt start many) = accepted-back NoPart (LayerAt start many)
@@ -335,7 +335,7 @@ abbrev walk-values : OatHit → FirstHit
 walk-values f = cond (eqb (f .hit) 1) (Blocked (hit-values f)) (Clear (f .reads))
 
 abbrev hit-in : OatHit → Option FirstHit
-hit-in f = answer-in NotWalked (walk-values f) (f .refusal) (f .end) (f .axis)
+hit-in f = answer-in NotWalked (walk-values f) (f .said .refusal) (f .said .end) (f .said .axis)
 
 hit-back : (a : FirstHit) → hit-in (flat-hit a) ≡ some a
 hit-back (Blocked h) = accepted-back NotWalked (Blocked h)
@@ -343,7 +343,7 @@ hit-back (Clear reads) = accepted-back NotWalked (Clear reads)
 hit-back (NotWalked r) = refused-back NotWalked (Clear 0) r
 
 abbrev found-in : OatFound → Option Lookup
-found-in f = answer-in NotFound (At (record { x = f .x; y = f .y; z = f .z })) (f .refusal) (f .end) (f .axis)
+found-in f = answer-in NotFound (At (record { x = f .x; y = f .y; z = f .z })) (f .said .refusal) (f .said .end) (f .said .axis)
 
 found-back : (a : Lookup) → found-in (flat-found a) ≡ some a
 found-back (At c) = accepted-back NotFound (At c)
@@ -353,7 +353,7 @@ abbrev block-values : OatSight → Block
 block-values f = record { share = f .share; cell = record { x = f .x; y = f .y; z = f .z }; code = f .code; reads = f .reads }
 
 abbrev sight-in : OatSight → Option Sight
-sight-in f = answer-in NotSeen (cond (eqb (f .blocked) 1) (InTheWay (block-values f)) Seen) (f .refusal) (f .end) (f .axis)
+sight-in f = answer-in NotSeen (cond (eqb (f .blocked) 1) (InTheWay (block-values f)) Seen) (f .said .refusal) (f .said .end) (f .said .axis)
 
 sight-back : (a : Sight) → sight-in (flat-sight a) ≡ some a
 sight-back (InTheWay b) = accepted-back NotSeen (InTheWay b)
@@ -364,7 +364,7 @@ abbrev venue-values : OatVenue → Venue
 venue-values f = record { counts = record { nx = f .nx; ny = f .ny; nz = f .nz }; start = f .offset; long = f .length }
 
 abbrev venue-in : OatVenue → Option VenueRead
-venue-in f = answer-in NoVenue (ReadVenue (venue-values f)) (f .refusal) (f .end) (f .axis)
+venue-in f = answer-in NoVenue (ReadVenue (venue-values f)) (f .said .refusal) (f .said .end) (f .said .axis)
 
 venue-back : (a : VenueRead) → venue-in (flat-venue a) ≡ some a
 venue-back (ReadVenue v) = accepted-back NoVenue (ReadVenue v)
@@ -374,14 +374,14 @@ abbrev pair-values : OatPair → Pair
 pair-values f = record { p = record { x = f .px; y = f .py; z = f .pz }; q = record { x = f .qx; y = f .qy; z = f .qz } }
 
 abbrev pair-in : OatPair → Option PairRead
-pair-in f = answer-in NoPair (ReadPair (pair-values f)) (f .refusal) (f .end) (f .axis)
+pair-in f = answer-in NoPair (ReadPair (pair-values f)) (f .said .refusal) (f .said .end) (f .said .axis)
 
 pair-back : (a : PairRead) → pair-in (flat-pair a) ≡ some a
 pair-back (ReadPair e) = accepted-back NoPair (ReadPair e)
 pair-back (NoPair r) = refused-back NoPair _ r
 
 abbrev written-in : OatWritten → Option Written
-written-in f = answer-in NotWritten (Wrote (f .written)) (f .refusal) (f .end) (f .axis)
+written-in f = answer-in NotWritten (Wrote (f .written)) (f .said .refusal) (f .said .end) (f .said .axis)
 
 written-back : (a : Written) → written-in (flat-written a) ≡ some a
 written-back (Wrote many) = accepted-back NotWritten (Wrote many)
@@ -390,7 +390,7 @@ written-back (NotWritten r) = refused-back NotWritten (Wrote 0) r
 pub flat-apart : FlatApart
 flat-apart =
     record {
-      refusals = tells-apart flat-refusal (λ f. untold (meant (f .number) (f .end) (f .axis))) refusal-back;
+      refusals = tells-apart flat-refusal (λ f. untold (meant (f .refusal) (f .end) (f .axis))) refusal-back;
       lines = tells-apart flat-listed listed-in listed-back;
       mark = tells-apart flat-verdict verdict-in verdict-back;
       complete = tells-apart flat-complete complete-in complete-back;
@@ -413,7 +413,7 @@ wrong-exports =
       idle-marker = λ r h. let z : _≡_ {A = ℕ} 0 1 = ap (λ (l : List ℕ). getD l 0 0) (h .meets .holds) in omega arith;
       idle-writer = λ r h. let z : _≡_ {A = ℕ} 99 0 = ap (λ (l : List ℕ). getD l 0 0) (h .meets .holds) in omega arith;
       refusing-marker = λ r exit h k.
-          let z : r .refusal ≡ 0 = ap (λ f. f .refusal) (h .flat ∙ ap flat-verdict (h .meets .says)) in omega (arith, k);
+          let z : r .said .refusal ≡ 0 = ap (λ f. f .said .refusal) (h .flat ∙ ap flat-verdict (h .meets .says)) in omega (arith, k);
       complete-always = λ r e k. let z : r .yes ≡ 0 = ap (λ f. f .yes) e in omega (arith, k);
       first-layer = λ r e k. let z : r .offset ≡ 2 = ap (λ f. f .offset) e in omega (arith, k);
     }

@@ -85,10 +85,10 @@ pub record ExportsOnce : Type 0 where
 -- 2. Where `refusal` is not 0, the lent memory is as it was: of the calls that write.
 pub record RefusedUntouched : Type 0 where
   pub lines : (line : List Cell) (p q : Cell) (entry : List ℤ) (r : OatListed) (exit : List ℤ) →
-      FlatLists line p q entry r exit → (r .refusal ≡ 0 → ⊥) → exit ≡ entry
-  pub mark : (n : Counts) (entry : List ℕ) (r : OatVerdict) (exit : List ℕ) → FlatMarks n entry r exit → (r .refusal ≡ 0 → ⊥) → exit ≡ entry
+      FlatLists line p q entry r exit → (r .said .refusal ≡ 0 → ⊥) → exit ≡ entry
+  pub mark : (n : Counts) (entry : List ℕ) (r : OatVerdict) (exit : List ℕ) → FlatMarks n entry r exit → (r .said .refusal ≡ 0 → ⊥) → exit ≡ entry
   pub written : (n : Counts) (cells entry : List ℕ) (r : OatWritten) (exit : List ℕ) →
-      FlatWritesVenue n cells entry r exit → (r .refusal ≡ 0 → ⊥) → exit ≡ entry
+      FlatWritesVenue n cells entry r exit → (r .said .refusal ≡ 0 → ⊥) → exit ≡ entry
 
 -- the number of the refusal that is told, 0 where the answer is told by its values
 abbrev pub number-told : {B : Type 0} → Told ⊎ B → ℕ
@@ -106,17 +106,17 @@ InTable k = (1 ≤ k) × (k ≤ 11)
 
 -- of each flattening
 pub record RefusalNumbers : Type 0 where
-  pub in-table : (r : Refusal) → InTable (flat-refusal r .number)
-  pub lines : Numbered told-listed flat-listed (λ f. f .refusal)
-  pub mark : Numbered told-verdict flat-verdict (λ f. f .refusal)
-  pub complete : Numbered told-completeness flat-complete (λ f. f .refusal)
-  pub layer : Numbered told-part flat-part (λ f. f .refusal)
-  pub walks : Numbered told-hit flat-hit (λ f. f .refusal)
-  pub found : Numbered told-lookup flat-found (λ f. f .refusal)
-  pub seen : Numbered told-sight flat-sight (λ f. f .refusal)
-  pub venue : Numbered told-venue flat-venue (λ f. f .refusal)
-  pub pair : Numbered told-pair flat-pair (λ f. f .refusal)
-  pub written : Numbered told-written flat-written (λ f. f .refusal)
+  pub in-table : (r : Refusal) → InTable (flat-refusal r .refusal)
+  pub lines : Numbered told-listed flat-listed (λ f. f .said .refusal)
+  pub mark : Numbered told-verdict flat-verdict (λ f. f .said .refusal)
+  pub complete : Numbered told-completeness flat-complete (λ f. f .said .refusal)
+  pub layer : Numbered told-part flat-part (λ f. f .said .refusal)
+  pub walks : Numbered told-hit flat-hit (λ f. f .said .refusal)
+  pub found : Numbered told-lookup flat-found (λ f. f .said .refusal)
+  pub seen : Numbered told-sight flat-sight (λ f. f .said .refusal)
+  pub venue : Numbered told-venue flat-venue (λ f. f .said .refusal)
+  pub pair : Numbered told-pair flat-pair (λ f. f .said .refusal)
+  pub written : Numbered told-written flat-written (λ f. f .said .refusal)
 
 -- 4. Nothing is lost for C: the numbers of a struct tell which answer it flattens, and those of a refusal which refusal it is.
 pub record FlatApart : Type 0 where
@@ -138,6 +138,6 @@ pub record WrongExports : Type 0 where
   pub idle-line : (r : OatListed) → FlatLists (six-line rule-1 (at 0 0 0) (at 2 1 0)) (at 0 0 0) (at 2 1 0) room r room → ⊥
   pub idle-marker : (r : OatVerdict) → FlatMarks example-counts example-cells r example-cells → ⊥
   pub idle-writer : (r : OatWritten) → FlatWritesVenue example-counts example-cells example-room r example-room → ⊥
-  pub refusing-marker : (r : OatVerdict) (exit : List ℕ) → FlatMarks example-counts example-cells r exit → 1 ≤ r .refusal → ⊥
+  pub refusing-marker : (r : OatVerdict) (exit : List ℕ) → FlatMarks example-counts example-cells r exit → 1 ≤ r .said .refusal → ⊥
   pub complete-always : (r : OatComplete) → r ≡ flat-complete (completeness example-counts example-cells) → r .yes ≡ 1 → ⊥
   pub first-layer : (r : OatPart) → r ≡ flat-part (layer-part two-layers 4 (pos 1)) → r .offset ≡ 0 → ⊥

@@ -13,20 +13,20 @@ use Rattle.grids.specs.Marks.{Marks}
 use Rattle.oatmarten.specs.declared.grid_calls.OatVerdict.{OatVerdict}
 use Rattle.oatmarten.specs.declared.grid_calls.OatComplete.{OatComplete}
 use Rattle.oatmarten.specs.declared.grid_calls.OatPart.{OatPart}
-use Rattle.oatmarten.specs.Refusals.{flat-refusal}
+use Rattle.oatmarten.specs.Refusals.{accepted, flat-refusal}
 
 abbrev pub flat-verdict : Verdict → OatVerdict
-flat-verdict Fine = record { refusal = 0; end = 0; axis = 0 }
-flat-verdict (Fails r) = record { refusal = flat-refusal r .number; end = flat-refusal r .end; axis = flat-refusal r .axis }
+flat-verdict Fine = record { said = accepted }
+flat-verdict (Fails r) = record { said = flat-refusal r }
 
 abbrev pub flat-complete : Completeness → OatComplete
-flat-complete Yes = record { refusal = 0; end = 0; axis = 0; yes = 1 }
-flat-complete No = record { refusal = 0; end = 0; axis = 0; yes = 0 }
-flat-complete (NotAsked r) = record { refusal = flat-refusal r .number; end = flat-refusal r .end; axis = flat-refusal r .axis; yes = 0 }
+flat-complete Yes = record { said = accepted; yes = 1 }
+flat-complete No = record { said = accepted; yes = 0 }
+flat-complete (NotAsked r) = record { said = flat-refusal r; yes = 0 }
 
 abbrev pub flat-part : LayerPart → OatPart
-flat-part (LayerAt start many) = record { refusal = 0; end = 0; axis = 0; offset = start; length = many }
-flat-part (NoPart r) = record { refusal = flat-refusal r .number; end = flat-refusal r .end; axis = flat-refusal r .axis; offset = 0; length = 0 }
+flat-part (LayerAt start many) = record { said = accepted; offset = start; length = many }
+flat-part (NoPart r) = record { said = flat-refusal r; offset = 0; length = 0 }
 
 -- the marking call for C: the struct is the flattening of an answer that meets the marking call's contract
 pub record FlatMarks (n : Counts) (entry : List ℕ) (r : OatVerdict) (exit : List ℕ) : Type 0 where

@@ -7,11 +7,11 @@ use Rattle.lists.specs.declared.Listed.{Listed}
 use Rattle.lists.specs.declared.Listed.the-variants.{Cells, Refused}
 use Rattle.lists.specs.Lists.{Lists}
 use Rattle.oatmarten.specs.declared.line_calls.OatListed.{OatListed}
-use Rattle.oatmarten.specs.Refusals.{flat-refusal}
+use Rattle.oatmarten.specs.Refusals.{accepted, flat-refusal}
 
 abbrev pub flat-listed : Listed → OatListed
-flat-listed (Cells n) = record { refusal = 0; end = 0; axis = 0; count = n }
-flat-listed (Refused r) = record { refusal = flat-refusal r .number; end = flat-refusal r .end; axis = flat-refusal r .axis; count = 0 }
+flat-listed (Cells n) = record { said = accepted; count = n }
+flat-listed (Refused r) = record { said = flat-refusal r; count = 0 }
 
 -- a list call for C: the struct is the flattening of an answer that meets the list call's contract
 pub record FlatLists (line : List Cell) (p q : Cell) (entry : List ℤ) (r : OatListed) (exit : List ℤ) : Type 0 where

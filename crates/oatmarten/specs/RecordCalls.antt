@@ -14,16 +14,14 @@ use Rattle.records.specs.declared.pairs.PairRead.the-variants.{Read as ReadPair
 use Rattle.records.specs.declared.writing.Written.{Written}
 use Rattle.records.specs.declared.writing.Written.the-variants.{Wrote, Refused as NotWritten}
 use Rattle.records.specs.Writing.{WritesVenue}
-use Rattle.oatmarten.specs.Refusals.{flat-refusal}
+use Rattle.oatmarten.specs.Refusals.{accepted, flat-refusal}
 
 abbrev pub flat-venue : VenueRead → OatVenue
 flat-venue (ReadVenue v) =
-    record { refusal = 0; end = 0; axis = 0; nx = v .counts .nx; ny = v .counts .ny; nz = v .counts .nz; offset = v .start; length = v .long }
+    record { said = accepted; nx = v .counts .nx; ny = v .counts .ny; nz = v .counts .nz; offset = v .start; length = v .long }
 flat-venue (NoVenue r) =
     record {
-      refusal = flat-refusal r .number;
-      end = flat-refusal r .end;
-      axis = flat-refusal r .axis;
+      said = flat-refusal r;
       nx = 0;
       ny = 0;
       nz = 0;
@@ -34,9 +32,7 @@ flat-venue (NoVenue r) =
 abbrev pub flat-pair : PairRead → OatPair
 flat-pair (ReadPair e) =
     record {
-      refusal = 0;
-      end = 0;
-      axis = 0;
+      said = accepted;
       px = e .p .x;
       py = e .p .y;
       pz = e .p .z;
@@ -46,9 +42,7 @@ flat-pair (ReadPair e) =
     }
 flat-pair (NoPair r) =
     record {
-      refusal = flat-refusal r .number;
-      end = flat-refusal r .end;
-      axis = flat-refusal r .axis;
+      said = flat-refusal r;
       px = pos 0;
       py = pos 0;
       pz = pos 0;
@@ -58,8 +52,8 @@ flat-pair (NoPair r) =
     }
 
 abbrev pub flat-written : Written → OatWritten
-flat-written (Wrote many) = record { refusal = 0; end = 0; axis = 0; written = many }
-flat-written (NotWritten r) = record { refusal = flat-refusal r .number; end = flat-refusal r .end; axis = flat-refusal r .axis; written = 0 }
+flat-written (Wrote many) = record { said = accepted; written = many }
+flat-written (NotWritten r) = record { said = flat-refusal r; written = 0 }
 
 -- the writing call for C: the struct is the flattening of an answer that meets the writing call's contract
 pub record FlatWritesVenue (n : Counts) (cells entry : List ℕ) (r : OatWritten) (exit : List ℕ) : Type 0 where

@@ -1,5 +1,6 @@
--- A refusal for C: its number, and the end and the axis that it names, as numbers. Assumes nothing.
+-- What every answer for C begins with: a refusal's number, and the end and the axis that it names, as numbers. Assumes nothing.
 use Prim.Native.Nat.{ℕ}
+use mathlib.Core.Logic.{_⊎_, inl, inr}
 use mathlib.Core.Option.{Option, none, some}
 use Rattle.cells.specs.declared.Axis.{Axis}
 use Rattle.cells.specs.declared.Axis.the-variants.{X, Y, Z}
@@ -8,8 +9,8 @@ use Rattle.cells.specs.declared.End.the-variants.{P, Q}
 use Rattle.cells.specs.declared.Part.{Part}
 use Rattle.cells.specs.declared.Part.the-variants.{OriginX, OriginY, OriginZ, Edge}
 use Rattle.cells.specs.declared.Refusal.{Refusal}
-use Rattle.cells.specs.Refusals.{told}
-use Rattle.oatmarten.specs.declared.refusals.Flat.{Flat}
+use Rattle.cells.specs.Refusals.{Told, told}
+use Rattle.oatmarten.specs.declared.refusals.OatSaid.{OatSaid}
 
 -- an end: 1 P, 2 Q
 abbrev pub end-number : End → ℕ
@@ -39,6 +40,18 @@ abbrev pub which : Option Axis → Option Part → ℕ
 which none p = or-0 part-number p
 which (some a) p = axis-number a
 
--- a refusal: its number, and what it says
-abbrev pub flat-refusal : Refusal → Flat
-flat-refusal r = record { number = told r .number; end = or-0 end-number (told r .end); axis = which (told r .axis) (told r .part) }
+-- accepted: nothing is said
+abbrev pub accepted : OatSaid
+accepted = record { refusal = 0; end = 0; axis = 0 }
+
+-- what document 01 says of a refusal, as numbers
+abbrev pub flat-told : Told → OatSaid
+flat-told t = record { refusal = t .number; end = or-0 end-number (t .end); axis = which (t .axis) (t .part) }
+
+abbrev pub flat-refusal : Refusal → OatSaid
+flat-refusal r = flat-told (told r)
+
+-- what an answer begins with, by what document 01 says of it: of a refusal, or of values
+abbrev pub said-of : {B : Type 0} → Told ⊎ B → OatSaid
+said-of (inl t) = flat-told t
+said-of (inr v) = accepted

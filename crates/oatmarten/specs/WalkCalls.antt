@@ -3,16 +3,15 @@ use Prim.Native.Nat.{ℕ}
 use lib.IntN.{pos}
 use Rattle.walks.specs.declared.FirstHit.{FirstHit}
 use Rattle.walks.specs.declared.FirstHit.the-variants.{Clear, Hit as Blocked, Refused as NotWalked}
+use Rattle.oatmarten.specs.declared.refusals.OatSaid.{OatSaid}
 use Rattle.oatmarten.specs.declared.walk_calls.OatHit.{OatHit}
-use Rattle.oatmarten.specs.Refusals.{flat-refusal}
+use Rattle.oatmarten.specs.Refusals.{accepted, flat-refusal}
 
 -- a walk that hit nothing, or that was not made
-abbrev pub no-hit : ℕ → ℕ → ℕ → ℕ → OatHit
-no-hit number end axis many =
+abbrev pub no-hit : OatSaid → ℕ → OatHit
+no-hit said many =
     record {
-      refusal = number;
-      end = end;
-      axis = axis;
+      said = said;
       hit = 0;
       x = pos 0;
       y = pos 0;
@@ -27,9 +26,7 @@ no-hit number end axis many =
 abbrev pub flat-hit : FirstHit → OatHit
 flat-hit (Blocked h) =
     record {
-      refusal = 0;
-      end = 0;
-      axis = 0;
+      said = accepted;
       hit = 1;
       x = h .cell .x;
       y = h .cell .y;
@@ -39,5 +36,5 @@ flat-hit (Blocked h) =
       den = h .place .den;
       reads = h .reads;
     }
-flat-hit (Clear many) = no-hit 0 0 0 many
-flat-hit (NotWalked r) = no-hit (flat-refusal r .number) (flat-refusal r .end) (flat-refusal r .axis) 0
+flat-hit (Clear many) = no-hit accepted many
+flat-hit (NotWalked r) = no-hit (flat-refusal r) 0

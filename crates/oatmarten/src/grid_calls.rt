@@ -7,6 +7,8 @@ ghost use Rattle.oatmarten.specs.Inputs.{as-counts};
 ghost use Rattle.oatmarten.specs.GridCalls.{flat-verdict, flat-complete, flat-part, FlatMarks};
 use crate::inputs::OatCounts;
 use crate::inputs::counts;
+use crate::refusals::ACCEPTED;
+use crate::refusals::OatSaid;
 use crate::refusals::flatten;
 use cells::Verdict;
 use grids::Completeness;
@@ -15,26 +17,20 @@ use grids::LayerPart;
 // The answer of a call that accepts or refuses.
 #[repr(C)]
 pub struct OatVerdict {
-    pub refusal: u32,
-    pub end: u32,
-    pub axis: u32,
+    pub said: OatSaid,
 }
 
 // The answer of the completeness call: 1 yes, 0 no.
 #[repr(C)]
 pub struct OatComplete {
-    pub refusal: u32,
-    pub end: u32,
-    pub axis: u32,
+    pub said: OatSaid,
     pub yes: u32,
 }
 
 // A part of the caller's bytes: where it starts and how long it is.
 #[repr(C)]
 pub struct OatPart {
-    pub refusal: u32,
-    pub end: u32,
-    pub axis: u32,
+    pub said: OatSaid,
     pub offset: u64,
     pub length: u64,
 }
@@ -43,19 +39,8 @@ fn flat_verdict(v: Verdict) -> OatVerdict
     ensures { λ r. ⌜ r ≡ flat-verdict v ⌝ }
 {
     match v {
-        Verdict::Fine => OatVerdict {
-            refusal: 0,
-            end: 0,
-            axis: 0,
-        },
-        Verdict::Refused(r) => {
-            let f = flatten(r);
-            OatVerdict {
-                refusal: f.number,
-                end: f.end,
-                axis: f.axis,
-            }
-        }
+        Verdict::Fine => OatVerdict { said: ACCEPTED },
+        Verdict::Refused(r) => OatVerdict { said: flatten(r) },
     }
 }
 
@@ -64,26 +49,17 @@ fn flat_complete(c: Completeness) -> OatComplete
 {
     match c {
         Completeness::Yes => OatComplete {
-            refusal: 0,
-            end: 0,
-            axis: 0,
+            said: ACCEPTED,
             yes: 1,
         },
         Completeness::No => OatComplete {
-            refusal: 0,
-            end: 0,
-            axis: 0,
+            said: ACCEPTED,
             yes: 0,
         },
-        Completeness::Refused(r) => {
-            let f = flatten(r);
-            OatComplete {
-                refusal: f.number,
-                end: f.end,
-                axis: f.axis,
-                yes: 0,
-            }
-        }
+        Completeness::Refused(r) => OatComplete {
+            said: flatten(r),
+            yes: 0,
+        },
     }
 }
 
@@ -92,22 +68,15 @@ fn flat_part(p: LayerPart) -> OatPart
 {
     match p {
         LayerPart::Part(start, many) => OatPart {
-            refusal: 0,
-            end: 0,
-            axis: 0,
+            said: ACCEPTED,
             offset: start as u64,
             length: many as u64,
         },
-        LayerPart::Refused(r) => {
-            let f = flatten(r);
-            OatPart {
-                refusal: f.number,
-                end: f.end,
-                axis: f.axis,
-                offset: 0,
-                length: 0,
-            }
-        }
+        LayerPart::Refused(r) => OatPart {
+            said: flatten(r),
+            offset: 0,
+            length: 0,
+        },
     }
 }
 

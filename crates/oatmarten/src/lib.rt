@@ -1,5 +1,5 @@
 // The calls for C: each hands its inputs to the proved call and flattens the answer into a struct of numbers.
-mod refusals; // a refusal as three numbers
+mod refusals; // what every answer begins with: a refusal as three numbers
 mod inputs; // the structs that go into a call
 mod grid_calls;
 mod line_calls;
@@ -26,6 +26,7 @@ pub use record_calls::OatWritten;
 pub use record_calls::oat_read_pair;
 pub use record_calls::oat_read_venue;
 pub use record_calls::oat_write_venue;
+pub use refusals::OatSaid;
 pub use sight_calls::OatFound;
 pub use sight_calls::OatSight;
 pub use sight_calls::oat_cell_of;

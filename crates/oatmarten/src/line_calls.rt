@@ -6,16 +6,15 @@ ghost use Rattle.oatmarten.specs.Inputs.{as-cell};
 ghost use Rattle.oatmarten.specs.LineCalls.{flat-listed, FlatLists};
 use crate::inputs::OatCell;
 use crate::inputs::cell;
+use crate::refusals::ACCEPTED;
+use crate::refusals::OatSaid;
 use crate::refusals::flatten;
 use lists::Listed;
 
-// The answer of a line list: the refusal's number (0: accepted), the end (1 P, 2 Q) and the axis (1 x, 2 y, 3 z) that it names, 0 for none; and the
-// number of cells.
+// The answer of a line list: the number of cells.
 #[repr(C)]
 pub struct OatListed {
-    pub refusal: u32,
-    pub end: u32,
-    pub axis: u32,
+    pub said: OatSaid,
     pub count: u32,
 }
 
@@ -24,20 +23,13 @@ fn flat_listed(l: Listed) -> OatListed
 {
     match l {
         Listed::Cells(n) => OatListed {
-            refusal: 0,
-            end: 0,
-            axis: 0,
+            said: ACCEPTED,
             count: n,
         },
-        Listed::Refused(r) => {
-            let f = flatten(r);
-            OatListed {
-                refusal: f.number,
-                end: f.end,
-                axis: f.axis,
-                count: 0,
-            }
-        }
+        Listed::Refused(r) => OatListed {
+            said: flatten(r),
+            count: 0,
+        },
     }
 }
 

@@ -6,6 +6,8 @@ ghost use Rattle.oatmarten.specs.Inputs.{as-counts};
 ghost use Rattle.oatmarten.specs.RecordCalls.{flat-venue, flat-pair, flat-written, FlatWritesVenue};
 use crate::inputs::OatCounts;
 use crate::inputs::counts;
+use crate::refusals::ACCEPTED;
+use crate::refusals::OatSaid;
 use crate::refusals::flatten;
 use records::PairRead;
 use records::VenueRead;
@@ -14,9 +16,7 @@ use records::Written;
 // A venue's record that was read: its counts, and where its cells start in the caller's bytes and how many they are.
 #[repr(C)]
 pub struct OatVenue {
-    pub refusal: u32,
-    pub end: u32,
-    pub axis: u32,
+    pub said: OatSaid,
     pub nx: u32,
     pub ny: u32,
     pub nz: u32,
@@ -27,9 +27,7 @@ pub struct OatVenue {
 // A pair's record that was read: P and Q.
 #[repr(C)]
 pub struct OatPair {
-    pub refusal: u32,
-    pub end: u32,
-    pub axis: u32,
+    pub said: OatSaid,
     pub px: i32,
     pub py: i32,
     pub pz: i32,
@@ -41,9 +39,7 @@ pub struct OatPair {
 // The number of bytes of a venue's record that was written.
 #[repr(C)]
 pub struct OatWritten {
-    pub refusal: u32,
-    pub end: u32,
-    pub axis: u32,
+    pub said: OatSaid,
     pub written: u64,
 }
 
@@ -54,9 +50,7 @@ fn flat_venue(v: VenueRead) -> OatVenue
         VenueRead::Read(venue) => {
             let n = venue.counts;
             OatVenue {
-                refusal: 0,
-                end: 0,
-                axis: 0,
+                said: ACCEPTED,
                 nx: n.nx,
                 ny: n.ny,
                 nz: n.nz,
@@ -64,19 +58,14 @@ fn flat_venue(v: VenueRead) -> OatVenue
                 length: venue.long as u64,
             }
         }
-        VenueRead::Refused(r) => {
-            let f = flatten(r);
-            OatVenue {
-                refusal: f.number,
-                end: f.end,
-                axis: f.axis,
-                nx: 0,
-                ny: 0,
-                nz: 0,
-                offset: 0,
-                length: 0,
-            }
-        }
+        VenueRead::Refused(r) => OatVenue {
+            said: flatten(r),
+            nx: 0,
+            ny: 0,
+            nz: 0,
+            offset: 0,
+            length: 0,
+        },
     }
 }
 
@@ -94,9 +83,7 @@ fn flat_pair(e: PairRead) -> OatPair
             let qy = q.y;
             let qz = q.z;
             OatPair {
-                refusal: 0,
-                end: 0,
-                axis: 0,
+                said: ACCEPTED,
                 px: px,
                 py: py,
                 pz: pz,
@@ -105,20 +92,15 @@ fn flat_pair(e: PairRead) -> OatPair
                 qz: qz,
             }
         }
-        PairRead::Refused(r) => {
-            let f = flatten(r);
-            OatPair {
-                refusal: f.number,
-                end: f.end,
-                axis: f.axis,
-                px: 0,
-                py: 0,
-                pz: 0,
-                qx: 0,
-                qy: 0,
-                qz: 0,
-            }
-        }
+        PairRead::Refused(r) => OatPair {
+            said: flatten(r),
+            px: 0,
+            py: 0,
+            pz: 0,
+            qx: 0,
+            qy: 0,
+            qz: 0,
+        },
     }
 }
 
@@ -127,20 +109,13 @@ fn flat_written(w: Written) -> OatWritten
 {
     match w {
         Written::Wrote(many) => OatWritten {
-            refusal: 0,
-            end: 0,
-            axis: 0,
+            said: ACCEPTED,
             written: many as u64,
         },
-        Written::Refused(r) => {
-            let f = flatten(r);
-            OatWritten {
-                refusal: f.number,
-                end: f.end,
-                axis: f.axis,
-                written: 0,
-            }
-        }
+        Written::Refused(r) => OatWritten {
+            said: flatten(r),
+            written: 0,
+        },
     }
 }
 

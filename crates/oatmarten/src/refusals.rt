@@ -1,4 +1,4 @@
-// A refusal as three numbers: its number, and the end and the axis that it names, 0 for none.
+// What every answer for C begins with: a refusal as three numbers.
 ghost use mathlib.Core.Path.{_≡_};
 ghost use Rattle.oatmarten.specs.Refusals.{end-number, axis-number, part-number, flat-refusal};
 use cells::Axis;
@@ -6,12 +6,21 @@ use cells::End;
 use cells::Part;
 use cells::Refusal;
 
-// A refusal's number, end and axis as numbers.
-pub(crate) struct Flat {
-    pub number: u32,
+// What an answer begins with: the refusal's number, 0 where the call was accepted; the end (1 P, 2 Q) and the axis (1 x, 2 y, 3 z, or 4 the edge of
+// a cell) that it names, 0 for none.
+#[repr(C)]
+pub struct OatSaid {
+    pub refusal: u32,
     pub end: u32,
     pub axis: u32,
 }
+
+// Of a call that was accepted.
+pub(crate) const ACCEPTED: OatSaid = OatSaid {
+    refusal: 0,
+    end: 0,
+    axis: 0,
+};
 
 fn end_code(e: End) -> u32
     ensures { λ r. ⌜ r ≡ end-number e ⌝ }
@@ -81,14 +90,15 @@ fn axis_of(r: Refusal) -> u32
     }
 }
 
-pub(crate) fn flatten(r: Refusal) -> Flat
-    ensures { λ f. ⌜ f ≡ flat-refusal r ⌝ }
+// Of a call that was refused.
+pub(crate) fn flatten(r: Refusal) -> OatSaid
+    ensures { λ s. ⌜ s ≡ flat-refusal r ⌝ }
 {
     let number = cells::number(r);
     let end = end_of(r);
     let axis = axis_of(r);
-    Flat {
-        number: number,
+    OatSaid {
+        refusal: number,
         end: end,
         axis: axis,
     }

@@ -11,6 +11,8 @@ use crate::inputs::OatPoint;
 use crate::inputs::counts;
 use crate::inputs::placement;
 use crate::inputs::point;
+use crate::refusals::ACCEPTED;
+use crate::refusals::OatSaid;
 use crate::refusals::flatten;
 use sight::Block;
 use sight::Sight;
@@ -19,9 +21,7 @@ use survey::Lookup;
 // The cell of a point.
 #[repr(C)]
 pub struct OatFound {
-    pub refusal: u32,
-    pub end: u32,
-    pub axis: u32,
+    pub said: OatSaid,
     pub x: i32,
     pub y: i32,
     pub z: i32,
@@ -36,25 +36,18 @@ fn flat_found(l: Lookup) -> OatFound
             let y = c.y;
             let z = c.z;
             OatFound {
-                refusal: 0,
-                end: 0,
-                axis: 0,
+                said: ACCEPTED,
                 x: x,
                 y: y,
                 z: z,
             }
         }
-        Lookup::Refused(r) => {
-            let f = flatten(r);
-            OatFound {
-                refusal: f.number,
-                end: f.end,
-                axis: f.axis,
-                x: 0,
-                y: 0,
-                z: 0,
-            }
-        }
+        Lookup::Refused(r) => OatFound {
+            said: flatten(r),
+            x: 0,
+            y: 0,
+            z: 0,
+        },
     }
 }
 
@@ -72,9 +65,7 @@ pub extern "C" fn oat_cell_of(n: OatCounts, at: OatPlacement, p: OatPoint) -> Oa
 // The sight answer; blocked: 0 clear, 1 something in the way at a cell, with the share of the way to it.
 #[repr(C)]
 pub struct OatSight {
-    pub refusal: u32,
-    pub end: u32,
-    pub axis: u32,
+    pub said: OatSaid,
     pub blocked: u32,
     pub share: f64,
     pub x: i32,
@@ -85,13 +76,11 @@ pub struct OatSight {
 }
 
 // A sight with nothing in the way, or that was refused.
-fn unblocked(number: u32, end: u32, axis: u32) -> OatSight
-    ensures { λ r. ⌜ r ≡ unblocked number end axis ⌝ }
+fn unblocked(said: OatSaid) -> OatSight
+    ensures { λ r. ⌜ r ≡ unblocked said ⌝ }
 {
     OatSight {
-        refusal: number,
-        end: end,
-        axis: axis,
+        said: said,
         blocked: 0,
         share: 0u32 as f64,
         x: 0,
@@ -107,9 +96,7 @@ fn flat_blocked(b: Block) -> OatSight
 {
     let c = b.cell;
     OatSight {
-        refusal: 0,
-        end: 0,
-        axis: 0,
+        said: ACCEPTED,
         blocked: 1,
         share: b.share,
         x: c.x,
@@ -125,11 +112,8 @@ fn flat_sight(s: Sight) -> OatSight
 {
     match s {
         Sight::Blocked(b) => flat_blocked(b),
-        Sight::Clear => unblocked(0, 0, 0),
-        Sight::Refused(r) => {
-            let f = flatten(r);
-            unblocked(f.number, f.end, f.axis)
-        }
+        Sight::Clear => unblocked(ACCEPTED),
+        Sight::Refused(r) => unblocked(flatten(r)),
     }
 }
 

@@ -9,6 +9,8 @@ use crate::inputs::OatCell;
 use crate::inputs::OatCounts;
 use crate::inputs::cell;
 use crate::inputs::counts;
+use crate::refusals::ACCEPTED;
+use crate::refusals::OatSaid;
 use crate::refusals::flatten;
 use walks::FirstHit;
 use walks::Hit;
@@ -16,9 +18,7 @@ use walks::Hit;
 // The answer of a first-hit call; hit: 0 clear, 1 a hit at a cell, with its code and its place num over den.
 #[repr(C)]
 pub struct OatHit {
-    pub refusal: u32,
-    pub end: u32,
-    pub axis: u32,
+    pub said: OatSaid,
     pub hit: u32,
     pub x: i32,
     pub y: i32,
@@ -30,13 +30,11 @@ pub struct OatHit {
 }
 
 // A walk that hit nothing, or that was not made.
-fn no_hit(number: u32, end: u32, axis: u32, many: u32) -> OatHit
-    ensures { λ r. ⌜ r ≡ no-hit number end axis many ⌝ }
+fn no_hit(said: OatSaid, many: u32) -> OatHit
+    ensures { λ r. ⌜ r ≡ no-hit said many ⌝ }
 {
     OatHit {
-        refusal: number,
-        end: end,
-        axis: axis,
+        said: said,
         hit: 0,
         x: 0,
         y: 0,
@@ -54,9 +52,7 @@ fn flat_block(h: Hit) -> OatHit
     let c = h.cell;
     let place = h.place;
     OatHit {
-        refusal: 0,
-        end: 0,
-        axis: 0,
+        said: ACCEPTED,
         hit: 1,
         x: c.x,
         y: c.y,
@@ -73,11 +69,8 @@ fn flat_hit(h: FirstHit) -> OatHit
 {
     match h {
         FirstHit::Hit(b) => flat_block(b),
-        FirstHit::Clear(many) => no_hit(0, 0, 0, many),
-        FirstHit::Refused(r) => {
-            let f = flatten(r);
-            no_hit(f.number, f.end, f.axis, 0)
-        }
+        FirstHit::Clear(many) => no_hit(ACCEPTED, many),
+        FirstHit::Refused(r) => no_hit(flatten(r), 0),
     }
 }
 

@@ -1,5 +1,6 @@
 -- `oatmarten::record_calls::flat_pair` meets its contract, case by case. Assumes nothing.
 use Rattle.cells.proofs.Machine.{held-is}
+use Rattle.oatmarten.specs.Refusals.{accepted}
 use borrow.Author.Needs.{needs}
 use Rattle.oatmarten.proofs.record_calls.flat_pair.Statement.{statement}
 use Rattle.oatmarten.proofs.record_calls.flat_pair.Tie as tie
@@ -22,7 +23,7 @@ returns c =
     let qx = held-is (e .0 .0 .q .x) (search needs) in
     let qy = held-is (e .0 .0 .q .y) (search needs) in
     let qz = held-is (e .0 .0 .q .z) (search needs) in
-    rw (e .1) (λ i. record { refusal = 0; end = 0; axis = 0; px = px i; py = py i; pz = pz i; qx = qx i; qy = qy i; qz = qz i })
+    rw (e .1) (λ i. record { said = accepted; px = px i; py = py i; pz = pz i; qx = qx i; qy = qy i; qz = qz i })
 
 returns-2 : tie.Need-returns-2
 returns-2 c = rw (c .before .before .e2 .given .1, c .flatten .ensures)

@@ -13,7 +13,7 @@ axis-of-requires : tie.Need-axis-of-requires
 axis-of-requires c κs = search needs
 
 returns : tie.Need-returns
-returns c = λ i. record { number = c .before .before .number .ensures .says i; end = c .before .end-of .ensures i; axis = c .axis-of .ensures i }
+returns c = λ i. record { refusal = c .before .before .number .ensures .says i; end = c .before .end-of .ensures i; axis = c .axis-of .ensures i }
 
 pub flatten-spec : {M : Type 1} → statement M
 flatten-spec = tie.close (tie.spec number-requires end-of-requires axis-of-requires returns)

@@ -1,5 +1,6 @@
 -- `oatmarten::sight_calls::flat_found` meets its contract, case by case. Assumes nothing.
 use Rattle.cells.proofs.Machine.{held-is}
+use Rattle.oatmarten.specs.Refusals.{accepted}
 use borrow.Author.Needs.{needs}
 use Rattle.oatmarten.proofs.sight_calls.flat_found.Statement.{statement}
 use Rattle.oatmarten.proofs.sight_calls.flat_found.Tie as tie
@@ -19,7 +20,7 @@ returns c =
     let x = held-is (l .0 .0 .x) (search needs) in
     let y = held-is (l .0 .0 .y) (search needs) in
     let z = held-is (l .0 .0 .z) (search needs) in
-    rw (l .1) (λ i. record { refusal = 0; end = 0; axis = 0; x = x i; y = y i; z = z i })
+    rw (l .1) (λ i. record { said = accepted; x = x i; y = y i; z = z i })
 
 returns-2 : tie.Need-returns-2
 returns-2 c = rw (c .before .before .l2 .given .1, c .flatten .ensures)

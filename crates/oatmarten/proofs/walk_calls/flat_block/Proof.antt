@@ -1,11 +1,12 @@
 -- `oatmarten::walk_calls::flat_block` meets its contract: each number of the hit goes to its own field. Assumes nothing.
 use Rattle.cells.proofs.Machine.{held-is}
+use Rattle.oatmarten.specs.Refusals.{accepted}
 use borrow.Author.Needs.{needs}
 use Rattle.oatmarten.proofs.walk_calls.flat_block.Statement.{statement}
 use Rattle.oatmarten.proofs.walk_calls.flat_block.Tie as tie
 
-cast-t4 : tie.Need-cast-t4
-cast-t4 c = search needs
+cast-t5 : tie.Need-cast-t5
+cast-t5 c = search needs
 
 returns : tie.Need-returns
 returns c =
@@ -15,9 +16,7 @@ returns c =
     let z = held-is (h .cell .z) (search needs) in
     λ i.
     record {
-      refusal = 0;
-      end = 0;
-      axis = 0;
+      said = accepted;
       hit = 1;
       x = x i;
       y = y i;
@@ -29,4 +28,4 @@ returns c =
     }
 
 pub flat-block-spec : {M : Type 1} → statement M
-flat-block-spec = tie.close (tie.spec cast-t4 returns)
+flat-block-spec = tie.close (tie.spec cast-t5 returns)
