@@ -1,5 +1,5 @@
 -- The claims about the list calls. Assumes nothing.
-use Prim.Native.Nat.{ℕ, _*_}
+use Prim.Native.Nat.{ℕ, _*_, _≤_}
 use mathlib.Core.Path.{_≡_, refl, sym, ap, _∙_}
 use mathlib.Core.Bool.{true}
 use mathlib.Core.List.{List}
@@ -14,14 +14,14 @@ use Rattle.cells.specs.declared.Verdict.{Verdict}
 use Rattle.cells.specs.declared.Verdict.the-variants.{Fine, Refused as Fails}
 use Rattle.cells.specs.Touching.{on}
 use Rattle.lines.specs.Preference.{rule-1}
-use Rattle.lines.specs.Lines.{six-line, line-26, in-limit}
+use Rattle.lines.specs.Lines.{six-line, line-26, in-limit, InLimit}
 use Rattle.lines.proofs.Cells.{limited-difference}
 use Rattle.lists.specs.declared.Listed.{Listed}
 use Rattle.lists.specs.declared.Listed.the-variants.{Cells, Refused}
 use Rattle.lists.specs.Lists.{list-check, listed, after-listing}
 use Rattle.lists.proofs.Front.{numbers-length}
-use Rattle.claims.specs.Lists.{ListedOnce, Longest, lowest, highest, WrongLists}
-use Rattle.claims.proofs.Lines.{six-line-holds}
+use Rattle.claims.specs.Lists.{ListedOnce, Longest, LongestLists, lowest, highest, WrongLists}
+use Rattle.claims.proofs.Lines.{six-line-holds, line-26-holds}
 
 -- 1 for an accepted list
 accepted : Listed → ℕ
@@ -41,15 +41,9 @@ listed-once line p q entry =
     by Fine r h e = absurd (let z : _≡_ {A = ℕ} 0 1 = ap accepted h in omega arith)
     by (Fails x) r h e = e
 
-pub longest-list : Longest
-longest-list =
-    record {
-      most = λ p q hp hq.
-          omega (arith, six-line-holds rule-1 p q .many, limited-difference p q hp hq X, limited-difference p q hp hq Y, limited-difference p q hp hq Z);
-      accepted = (record { limit = λ a. low a }, record { limit = λ a. high a });
-      reached = six-line-holds rule-1 lowest highest .many;
-      takes = numbers-length (six-line rule-1 lowest highest) ∙ ap (λ n. 3 * n) (six-line-holds rule-1 lowest highest .many);
-    }
+-- the corners are accepted
+corners : InLimit lowest × InLimit highest
+corners = (record { limit = λ a. low a }, record { limit = λ a. high a })
   where
     low : (a : Axis) → in-limit (on lowest a) ≡ true
     low X = refl
@@ -60,6 +54,30 @@ longest-list =
     high X = refl
     high Y = refl
     high Z = refl
+
+-- three numbers for each cell
+longest : (line : Cell → Cell → List Cell) (cells : ℕ) →
+    ((p q : Cell) → InLimit p → InLimit q → length (line p q) ≤ cells) → length (line lowest highest) ≡ cells → Longest line cells (3 * cells)
+longest line cells most reached =
+    record {
+      most = λ p q hp hq. (most p q hp hq, omega (arith, most p q hp hq, numbers-length (line p q)));
+      reached = reached;
+      takes = numbers-length (line lowest highest) ∙ ap (λ n. 3 * n) reached;
+    }
+
+pub longest-list : LongestLists
+longest-list =
+    record {
+      accepted = corners;
+      six = longest (six-line rule-1) 49150
+          (λ p q hp hq.
+          omega (arith, six-line-holds rule-1 p q .many, limited-difference p q hp hq X, limited-difference p q hp hq Y, limited-difference p q hp hq Z))
+          (six-line-holds rule-1 lowest highest .many);
+      twenty-six = longest line-26 16384
+          (λ p q hp hq.
+          omega (arith, line-26-holds rule-1 p q .many, limited-difference p q hp hq X, limited-difference p q hp hq Y, limited-difference p q hp hq Z))
+          (line-26-holds rule-1 lowest highest .many);
+    }
 
 pub wrong-lists : WrongLists
 unfolding six-line line-26 accepted

@@ -7,7 +7,7 @@ use lib.ListN.{length, replicate}
 use Rattle.cells.specs.declared.Cell.{Cell}
 use Rattle.cells.specs.declared.Refusal.{Refusal}
 use Rattle.lines.specs.Preference.{rule-1}
-use Rattle.lines.specs.Lines.{six-line, InLimit}
+use Rattle.lines.specs.Lines.{six-line, line-26, InLimit}
 use Rattle.lists.specs.declared.Listed.{Listed}
 use Rattle.lists.specs.declared.Listed.the-variants.{Refused}
 use Rattle.lists.specs.Lists.{Lists, Line6, Line26, numbers}
@@ -26,12 +26,18 @@ lowest = record { x = negsuc 8191; y = negsuc 8191; z = negsuc 8191 }
 abbrev pub highest : Cell
 highest = at 8191 8191 8191
 
--- "The longest 6-line has 49,150 cells and takes 147,450 numbers."
-pub record Longest : Type 0 where
-  pub most : (p q : Cell) → InLimit p → InLimit q → length (six-line rule-1 p q) ≤ 49150
+-- a longest line has so many cells and takes so much room; no line takes more, and the one between the corners takes it
+pub record Longest (line : Cell → Cell → List Cell) (cells room : ℕ) : Type 0 where
+  pub most : (p q : Cell) → InLimit p → InLimit q → (length (line p q) ≤ cells) × (length (numbers (line p q)) ≤ room)
+  pub reached : length (line lowest highest) ≡ cells
+  pub takes : length (numbers (line lowest highest)) ≡ room
+
+-- "The longest 6-line has 49,150 cells and takes 147,450 numbers"; the longest 26-line has 16,384 and takes 49,152. The header's OAT_LINE6_ROOM and
+-- OAT_LINE26_ROOM.
+pub record LongestLists : Type 0 where
   pub accepted : InLimit lowest × InLimit highest
-  pub reached : length (six-line rule-1 lowest highest) ≡ 49150
-  pub takes : length (numbers (six-line rule-1 lowest highest)) ≡ 147450
+  pub six : Longest (six-line rule-1) 49150 147450
+  pub twenty-six : Longest line-26 16384 49152
 
 -- room for the four cells from (0,0,0) to (2,1,0), and one number more
 abbrev pub room : List ℤ
