@@ -11,6 +11,7 @@ pub mod Records
 pub mod Texts
 pub mod Program
 pub mod ProgramRows
+pub mod Flattenings
 pub mod Exports
 pub mod Ties
 pub mod Witnesses

@@ -1,7 +1,7 @@
 -- How the answers of marking, completeness and layers are flattened for C: what document 01 says of them, as numbers. Assumes nothing.
 use Prim.Native.Nat.{ℕ}
-use mathlib.Core.Path.{_≡_}
 use mathlib.Core.List.{List}
+use lib.IntN.{ℤ}
 use Rattle.cells.specs.declared.Counts.{Counts}
 use Rattle.cells.specs.declared.Verdict.{Verdict}
 use Rattle.cells.specs.declared.Verdict.the-variants.{Fine, Refused as Fails}
@@ -9,11 +9,13 @@ use Rattle.grids.specs.declared.LayerPart.{LayerPart}
 use Rattle.grids.specs.declared.LayerPart.the-variants.{Part as LayerAt, Refused as NoPart}
 use Rattle.grids.specs.declared.Completeness.{Completeness}
 use Rattle.grids.specs.declared.Completeness.the-variants.{Yes, No, Refused as NotAsked}
-use Rattle.grids.specs.Marks.{Marks}
+use Rattle.grids.specs.Grid.{GivesLayerPart}
+use Rattle.grids.specs.Marks.{Marks, Completes}
 use Rattle.oatmarten.specs.declared.grid_calls.OatVerdict.{OatVerdict}
 use Rattle.oatmarten.specs.declared.grid_calls.OatComplete.{OatComplete}
 use Rattle.oatmarten.specs.declared.grid_calls.OatPart.{OatPart}
 use Rattle.oatmarten.specs.Refusals.{accepted, flat-refusal}
+use Rattle.oatmarten.specs.Flattening.{Flattens}
 
 abbrev pub flat-verdict : Verdict → OatVerdict
 flat-verdict Fine = record { said = accepted }
@@ -28,8 +30,13 @@ abbrev pub flat-part : LayerPart → OatPart
 flat-part (LayerAt start many) = record { said = accepted; offset = start; length = many }
 flat-part (NoPart r) = record { said = flat-refusal r; offset = 0; length = 0 }
 
--- the marking call for C: the struct is the flattening of an answer that meets the marking call's contract
-pub record FlatMarks (n : Counts) (entry : List ℕ) (r : OatVerdict) (exit : List ℕ) : Type 0 where
-  pub answer : Verdict
-  pub meets : Marks n entry answer exit
-  pub flat : r ≡ flat-verdict answer
+-- ---- the contracts
+
+abbrev pub FlatMarks : Counts → List ℕ → OatVerdict → List ℕ → Type 0
+FlatMarks n entry r exit = Flattens flat-verdict (λ a. Marks n entry a exit) r
+
+abbrev pub FlatCompletes : Counts → List ℕ → OatComplete → Type 0
+FlatCompletes n cells = Flattens flat-complete (Completes n cells)
+
+abbrev pub FlatGivesLayerPart : Counts → ℕ → ℤ → OatPart → Type 0
+FlatGivesLayerPart n bytes z = Flattens flat-part (GivesLayerPart n bytes z)

@@ -1,4 +1,5 @@
 pub mod Refusals
+pub mod Flattening
 pub mod Inputs
 pub mod LineCalls
 pub mod GridCalls

@@ -1,6 +1,5 @@
 -- How the answers of reading and writing a record are flattened for C: what document 01 says of them, as numbers. Assumes nothing.
 use Prim.Native.Nat.{ℕ}
-use mathlib.Core.Path.{_≡_}
 use mathlib.Core.List.{List}
 use lib.IntN.{pos}
 use Rattle.cells.specs.declared.Counts.{Counts}
@@ -13,8 +12,11 @@ use Rattle.records.specs.declared.pairs.PairRead.{PairRead}
 use Rattle.records.specs.declared.pairs.PairRead.the-variants.{Read as ReadPair, Refused as NoPair}
 use Rattle.records.specs.declared.writing.Written.{Written}
 use Rattle.records.specs.declared.writing.Written.the-variants.{Wrote, Refused as NotWritten}
+use Rattle.records.specs.Venues.{ReadsVenue}
+use Rattle.records.specs.Pairs.{ReadsPair}
 use Rattle.records.specs.Writing.{WritesVenue}
 use Rattle.oatmarten.specs.Refusals.{accepted, flat-refusal}
+use Rattle.oatmarten.specs.Flattening.{Flattens}
 
 abbrev pub flat-venue : VenueRead → OatVenue
 flat-venue (ReadVenue v) =
@@ -55,8 +57,13 @@ abbrev pub flat-written : Written → OatWritten
 flat-written (Wrote many) = record { said = accepted; written = many }
 flat-written (NotWritten r) = record { said = flat-refusal r; written = 0 }
 
--- the writing call for C: the struct is the flattening of an answer that meets the writing call's contract
-pub record FlatWritesVenue (n : Counts) (cells entry : List ℕ) (r : OatWritten) (exit : List ℕ) : Type 0 where
-  pub answer : Written
-  pub meets : WritesVenue n cells entry answer exit
-  pub flat : r ≡ flat-written answer
+-- ---- the contracts
+
+abbrev pub FlatReadsVenue : List ℕ → OatVenue → Type 0
+FlatReadsVenue bytes = Flattens flat-venue (ReadsVenue bytes)
+
+abbrev pub FlatReadsPair : List ℕ → OatPair → Type 0
+FlatReadsPair bytes = Flattens flat-pair (ReadsPair bytes)
+
+abbrev pub FlatWritesVenue : Counts → List ℕ → List ℕ → OatWritten → List ℕ → Type 0
+FlatWritesVenue n cells entry r exit = Flattens flat-written (λ a. WritesVenue n cells entry a exit) r

@@ -1,15 +1,22 @@
 -- How a point's cell and the sight answer are flattened for C: what document 01 says of them, as numbers. Assumes nothing.
 use Prim.Native.Nat.{ℕ}
+use mathlib.Core.List.{List}
 use lib.IntN.{pos}
+use Rattle.cells.specs.declared.Counts.{Counts}
 use Rattle.oatmarten.specs.declared.refusals.OatSaid.{OatSaid}
 use Rattle.oatmarten.specs.declared.sight_calls.OatFound.{OatFound}
+use Rattle.survey.specs.declared.Placement.{Placement}
+use Rattle.survey.specs.declared.Point.{Point}
 use Rattle.survey.specs.declared.Lookup.{Lookup}
 use Rattle.survey.specs.declared.Lookup.the-variants.{Cell as At, Refused as NotFound}
 use Rattle.sight.specs.declared.Sight.{Sight}
 use Rattle.sight.specs.declared.Sight.the-variants.{Clear as Seen, Blocked as InTheWay, Refused as NotSeen}
 use Rattle.oatmarten.specs.declared.sight_calls.OatSight.{OatSight}
 use Rattle.survey.specs.Quotient.{as-f64}
+use Rattle.survey.specs.Survey.{LooksUp}
+use Rattle.sight.specs.Sight.{Sees}
 use Rattle.oatmarten.specs.Refusals.{accepted, flat-refusal}
+use Rattle.oatmarten.specs.Flattening.{Flattens}
 
 abbrev pub flat-found : Lookup → OatFound
 flat-found (At c) = record { said = accepted; x = c .x; y = c .y; z = c .z }
@@ -44,3 +51,11 @@ flat-sight (InTheWay b) =
     }
 flat-sight Seen = unblocked accepted
 flat-sight (NotSeen r) = unblocked (flat-refusal r)
+
+-- ---- the contracts
+
+abbrev pub FlatLooksUp : Counts → Placement → Point → OatFound → Type 0
+FlatLooksUp n at p = Flattens flat-found (LooksUp n at p)
+
+abbrev pub FlatSees : Counts → List ℕ → Placement → Point → Point → OatSight → Type 0
+FlatSees n cells at camera ball = Flattens flat-sight (Sees n cells at camera ball)

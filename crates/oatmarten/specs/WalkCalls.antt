@@ -1,11 +1,17 @@
 -- How the answer of a first-hit call is flattened for C: what document 01 says of it, as numbers. Assumes nothing.
 use Prim.Native.Nat.{ℕ}
+use mathlib.Core.List.{List}
 use lib.IntN.{pos}
+use Rattle.cells.specs.declared.Cell.{Cell}
+use Rattle.cells.specs.declared.Counts.{Counts}
+use Rattle.walks.specs.declared.Walker.{Walker}
 use Rattle.walks.specs.declared.FirstHit.{FirstHit}
 use Rattle.walks.specs.declared.FirstHit.the-variants.{Clear, Hit as Blocked, Refused as NotWalked}
+use Rattle.walks.specs.Answers.{Finds}
 use Rattle.oatmarten.specs.declared.refusals.OatSaid.{OatSaid}
 use Rattle.oatmarten.specs.declared.walk_calls.OatHit.{OatHit}
 use Rattle.oatmarten.specs.Refusals.{accepted, flat-refusal}
+use Rattle.oatmarten.specs.Flattening.{Flattens}
 
 -- a walk that hit nothing, or that was not made
 abbrev pub no-hit : OatSaid → ℕ → OatHit
@@ -38,3 +44,8 @@ flat-hit (Blocked h) =
     }
 flat-hit (Clear many) = no-hit accepted many
 flat-hit (NotWalked r) = no-hit (flat-refusal r) 0
+
+-- ---- the contract, of either walk
+
+abbrev pub FlatFinds : Walker → Counts → List ℕ → Cell → Cell → OatHit → Type 0
+FlatFinds w n cells p q = Flattens flat-hit (Finds w n cells p q)

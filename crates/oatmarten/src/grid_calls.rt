@@ -1,10 +1,8 @@
 // Marking, completeness and layers for C.
 ghost use mathlib.Core.Path.{_≡_};
 ghost use lib.ListN.{length};
-ghost use Rattle.grids.specs.Grid.{layer-part};
-ghost use Rattle.grids.specs.Marks.{completeness};
 ghost use Rattle.oatmarten.specs.Inputs.{as-counts};
-ghost use Rattle.oatmarten.specs.GridCalls.{flat-verdict, flat-complete, flat-part, FlatMarks};
+ghost use Rattle.oatmarten.specs.GridCalls.{flat-verdict, flat-complete, flat-part, FlatMarks, FlatCompletes, FlatGivesLayerPart};
 use crate::inputs::OatCounts;
 use crate::inputs::counts;
 use crate::refusals::ACCEPTED;
@@ -92,7 +90,7 @@ pub extern "C" fn oat_mark(n: OatCounts, cells: &mut [u8]) -> OatVerdict
 // Whether no clear cell touches a solid one.
 #[no_mangle]
 pub extern "C" fn oat_complete(n: OatCounts, cells: &[u8]) -> OatComplete
-    ensures { λ r. ⌜ r ≡ flat-complete (completeness (as-counts n) (now (cells .entry))) ⌝ }
+    ensures { λ r. ⌜ FlatCompletes (as-counts n) (now (cells .entry)) r ⌝ }
 {
     let grid = counts(n);
     flat_complete(marks::complete(grid, cells))
@@ -101,7 +99,7 @@ pub extern "C" fn oat_complete(n: OatCounts, cells: &[u8]) -> OatComplete
 // Where layer z lies in the caller's bytes.
 #[no_mangle]
 pub extern "C" fn oat_layer(n: OatCounts, cells: &[u8], z: i32) -> OatPart
-    ensures { λ r. ⌜ r ≡ flat-part (layer-part (as-counts n) (length (now (cells .entry))) z) ⌝ }
+    ensures { λ r. ⌜ FlatGivesLayerPart (as-counts n) (length (now (cells .entry))) z r ⌝ }
 {
     let grid = counts(n);
     flat_part(grids::layer_part(grid, cells, z))

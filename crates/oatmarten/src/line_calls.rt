@@ -1,9 +1,7 @@
 // The list calls for C.
 ghost use mathlib.Core.Path.{_≡_};
-ghost use Rattle.lines.specs.Lines.{six-line, line-26};
-ghost use Rattle.lines.specs.Preference.{rule-1};
 ghost use Rattle.oatmarten.specs.Inputs.{as-cell};
-ghost use Rattle.oatmarten.specs.LineCalls.{flat-listed, FlatLists};
+ghost use Rattle.oatmarten.specs.LineCalls.{flat-listed, FlatLine6, FlatLine26};
 use crate::inputs::OatCell;
 use crate::inputs::cell;
 use crate::refusals::ACCEPTED;
@@ -36,7 +34,7 @@ fn flat_listed(l: Listed) -> OatListed
 // The 6-line from p to q.
 #[no_mangle]
 pub extern "C" fn oat_line6(p: OatCell, q: OatCell, out: &mut [i32]) -> OatListed
-    ensures { λ r. ⌜ FlatLists (six-line rule-1 (as-cell p) (as-cell q)) (as-cell p) (as-cell q) (now (out .entry)) r (now (out .exit)) ⌝ }
+    ensures { λ r. ⌜ FlatLine6 (as-cell p) (as-cell q) (now (out .entry)) r (now (out .exit)) ⌝ }
 {
     let from = cell(p);
     let to = cell(q);
@@ -46,7 +44,7 @@ pub extern "C" fn oat_line6(p: OatCell, q: OatCell, out: &mut [i32]) -> OatListe
 // The 26-line from p to q.
 #[no_mangle]
 pub extern "C" fn oat_line26(p: OatCell, q: OatCell, out: &mut [i32]) -> OatListed
-    ensures { λ r. ⌜ FlatLists (line-26 (as-cell p) (as-cell q)) (as-cell p) (as-cell q) (now (out .entry)) r (now (out .exit)) ⌝ }
+    ensures { λ r. ⌜ FlatLine26 (as-cell p) (as-cell q) (now (out .entry)) r (now (out .exit)) ⌝ }
 {
     let from = cell(p);
     let to = cell(q);

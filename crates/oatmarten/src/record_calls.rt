@@ -1,9 +1,7 @@
 // Reading a venue's and a pair's record and writing a venue's, for C.
 ghost use mathlib.Core.Path.{_≡_};
-ghost use Rattle.records.specs.Venues.{venue-read};
-ghost use Rattle.records.specs.Pairs.{pair-read};
 ghost use Rattle.oatmarten.specs.Inputs.{as-counts};
-ghost use Rattle.oatmarten.specs.RecordCalls.{flat-venue, flat-pair, flat-written, FlatWritesVenue};
+ghost use Rattle.oatmarten.specs.RecordCalls.{flat-venue, flat-pair, flat-written, FlatReadsVenue, FlatReadsPair, FlatWritesVenue};
 use crate::inputs::OatCounts;
 use crate::inputs::counts;
 use crate::refusals::ACCEPTED;
@@ -122,7 +120,7 @@ fn flat_written(w: Written) -> OatWritten
 // Reads a venue's record.
 #[no_mangle]
 pub extern "C" fn oat_read_venue(bytes: &[u8]) -> OatVenue
-    ensures { λ r. ⌜ r ≡ flat-venue (venue-read (now (bytes .entry))) ⌝ }
+    ensures { λ r. ⌜ FlatReadsVenue (now (bytes .entry)) r ⌝ }
 {
     flat_venue(records::read_venue(bytes))
 }
@@ -130,7 +128,7 @@ pub extern "C" fn oat_read_venue(bytes: &[u8]) -> OatVenue
 // Reads a pair's record.
 #[no_mangle]
 pub extern "C" fn oat_read_pair(bytes: &[u8]) -> OatPair
-    ensures { λ r. ⌜ r ≡ flat-pair (pair-read (now (bytes .entry))) ⌝ }
+    ensures { λ r. ⌜ FlatReadsPair (now (bytes .entry)) r ⌝ }
 {
     flat_pair(records::read_pair(bytes))
 }

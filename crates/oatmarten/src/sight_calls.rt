@@ -1,10 +1,8 @@
 // The cell of a surveyed point, and the sight answer, for C.
 ghost use mathlib.Core.Path.{_≡_};
-ghost use Rattle.survey.specs.Survey.{cell-of};
-ghost use Rattle.sight.specs.Sight.{sight};
 ghost use Rattle.sight.specs.declared.Sight.the-variants.{Blocked as InTheWay};
 ghost use Rattle.oatmarten.specs.Inputs.{as-counts, as-placement, as-point};
-ghost use Rattle.oatmarten.specs.SightCalls.{flat-found, unblocked, flat-sight};
+ghost use Rattle.oatmarten.specs.SightCalls.{flat-found, unblocked, flat-sight, FlatLooksUp, FlatSees};
 use crate::inputs::OatCounts;
 use crate::inputs::OatPlacement;
 use crate::inputs::OatPoint;
@@ -54,7 +52,7 @@ fn flat_found(l: Lookup) -> OatFound
 // The cell of a surveyed point.
 #[no_mangle]
 pub extern "C" fn oat_cell_of(n: OatCounts, at: OatPlacement, p: OatPoint) -> OatFound
-    ensures { λ r. ⌜ r ≡ flat-found (cell-of (as-counts n) (as-placement at) (as-point p)) ⌝ }
+    ensures { λ r. ⌜ FlatLooksUp (as-counts n) (as-placement at) (as-point p) r ⌝ }
 {
     let grid = counts(n);
     let place = placement(at);
@@ -126,7 +124,7 @@ pub extern "C" fn oat_sight(
     camera: OatPoint,
     ball: OatPoint,
 ) -> OatSight
-    ensures { λ r. ⌜ r ≡ flat-sight (sight (as-counts n) (now (cells .entry)) (as-placement at) (as-point camera) (as-point ball)) ⌝ }
+    ensures { λ r. ⌜ FlatSees (as-counts n) (now (cells .entry)) (as-placement at) (as-point camera) (as-point ball) r ⌝ }
 {
     let grid = counts(n);
     let place = placement(at);

@@ -2,9 +2,8 @@
 ghost use mathlib.Core.Path.{_≡_};
 ghost use Rattle.walks.specs.declared.FirstHit.the-variants.{Hit as Blocked};
 ghost use Rattle.walks.specs.declared.Walker.the-variants.{Plain, Adaptive};
-ghost use Rattle.walks.specs.Answers.{first-hit};
 ghost use Rattle.oatmarten.specs.Inputs.{as-cell, as-counts};
-ghost use Rattle.oatmarten.specs.WalkCalls.{no-hit, flat-hit};
+ghost use Rattle.oatmarten.specs.WalkCalls.{no-hit, flat-hit, FlatFinds};
 use crate::inputs::OatCell;
 use crate::inputs::OatCounts;
 use crate::inputs::cell;
@@ -77,7 +76,7 @@ fn flat_hit(h: FirstHit) -> OatHit
 // The first solid cell of the plain walk.
 #[no_mangle]
 pub extern "C" fn oat_plain(n: OatCounts, cells: &[u8], p: OatCell, q: OatCell) -> OatHit
-    ensures { λ r. ⌜ r ≡ flat-hit (first-hit Plain (as-counts n) (now (cells .entry)) (as-cell p) (as-cell q)) ⌝ }
+    ensures { λ r. ⌜ FlatFinds Plain (as-counts n) (now (cells .entry)) (as-cell p) (as-cell q) r ⌝ }
 {
     let grid = counts(n);
     let from = cell(p);
@@ -88,7 +87,7 @@ pub extern "C" fn oat_plain(n: OatCounts, cells: &[u8], p: OatCell, q: OatCell) 
 // The first solid cell of the adaptive walk.
 #[no_mangle]
 pub extern "C" fn oat_adaptive(n: OatCounts, cells: &[u8], p: OatCell, q: OatCell) -> OatHit
-    ensures { λ r. ⌜ r ≡ flat-hit (first-hit Adaptive (as-counts n) (now (cells .entry)) (as-cell p) (as-cell q)) ⌝ }
+    ensures { λ r. ⌜ FlatFinds Adaptive (as-counts n) (now (cells .entry)) (as-cell p) (as-cell q) r ⌝ }
 {
     let grid = counts(n);
     let from = cell(p);

@@ -13,7 +13,12 @@ flat-complete-requires : tie.Need-flat-complete-requires
 flat-complete-requires c κs = search needs
 
 returns : tie.Need-returns
-returns c = rw (c .flat-complete .ensures, c .before .complete .ensures .says, c .before .before .counts .ensures)
+returns c =
+    record {
+      answer = c .before .complete .result;
+      meets = record { says = rw (c .before .complete .ensures .says, c .before .before .counts .ensures) };
+      flat = c .flat-complete .ensures;
+    }
 
 pub oat-complete-spec : {M : Type 1} → statement M
 oat-complete-spec =

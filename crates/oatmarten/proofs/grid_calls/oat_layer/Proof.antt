@@ -14,7 +14,12 @@ flat-part-requires : tie.Need-flat-part-requires
 flat-part-requires c κs = search needs
 
 returns : tie.Need-returns
-returns c = rw (c .flat-part .ensures, c .before .layer-part .ensures .says, c .before .before .counts .ensures, held-is _ (c .before .before .before .before .fits .z))
+returns c =
+    record {
+      answer = c .before .layer-part .result;
+      meets = record { says = rw (c .before .layer-part .ensures .says, c .before .before .counts .ensures, held-is _ (c .before .before .before .before .fits .z)) };
+      flat = c .flat-part .ensures;
+    }
 
 pub oat-layer-spec : {M : Type 1} → statement M
 oat-layer-spec =

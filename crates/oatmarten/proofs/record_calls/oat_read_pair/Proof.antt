@@ -10,7 +10,7 @@ flat-pair-requires : tie.Need-flat-pair-requires
 flat-pair-requires c κs = search needs
 
 returns : tie.Need-returns
-returns c = rw (c .flat-pair .ensures, c .before .read-pair .ensures .says)
+returns c = record { answer = c .before .read-pair .result; meets = c .before .read-pair .ensures; flat = c .flat-pair .ensures }
 
 pub oat-read-pair-spec : {M : Type 1} → statement M
 oat-read-pair-spec = tie.close (tie.spec read-pair-requires flat-pair-requires returns)

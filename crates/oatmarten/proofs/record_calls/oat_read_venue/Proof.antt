@@ -10,7 +10,7 @@ flat-venue-requires : tie.Need-flat-venue-requires
 flat-venue-requires c κs = search needs
 
 returns : tie.Need-returns
-returns c = rw (c .flat-venue .ensures, c .before .read-venue .ensures .says)
+returns c = record { answer = c .before .read-venue .result; meets = c .before .read-venue .ensures; flat = c .flat-venue .ensures }
 
 pub oat-read-venue-spec : {M : Type 1} → statement M
 oat-read-venue-spec = tie.close (tie.spec read-venue-requires flat-venue-requires returns)

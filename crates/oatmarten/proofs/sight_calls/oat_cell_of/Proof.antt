@@ -19,7 +19,12 @@ flat-found-requires : tie.Need-flat-found-requires
 flat-found-requires c κs = search needs
 
 returns : tie.Need-returns
-returns c = rw (c .flat-found .ensures, c .before .cell-of .ensures .says, c .before .before .point .ensures, c .before .before .before .placement .ensures, c .before .before .before .before .counts .ensures)
+returns c =
+    record {
+      answer = c .before .cell-of .result;
+      meets = record { says = rw (c .before .cell-of .ensures .says, c .before .before .point .ensures, c .before .before .before .placement .ensures, c .before .before .before .before .counts .ensures) };
+      flat = c .flat-found .ensures;
+    }
 
 pub oat-cell-of-spec : {M : Type 1} → statement M
 oat-cell-of-spec =

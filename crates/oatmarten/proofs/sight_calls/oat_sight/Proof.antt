@@ -22,7 +22,12 @@ flat-sight-requires : tie.Need-flat-sight-requires
 flat-sight-requires c κs = search needs
 
 returns : tie.Need-returns
-returns c = rw (c .flat-sight .ensures, c .before .see .ensures .says, c .before .before .point2 .ensures, c .before .before .before .point .ensures, c .before .before .before .before .placement .ensures, c .before .before .before .before .before .counts .ensures)
+returns c =
+    record {
+      answer = c .before .see .result;
+      meets = record { says = rw (c .before .see .ensures .says, c .before .before .point2 .ensures, c .before .before .before .point .ensures, c .before .before .before .before .placement .ensures, c .before .before .before .before .before .counts .ensures) };
+      flat = c .flat-sight .ensures;
+    }
 
 pub oat-sight-spec : {M : Type 1} → statement M
 oat-sight-spec =

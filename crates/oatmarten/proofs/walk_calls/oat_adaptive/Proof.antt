@@ -19,7 +19,12 @@ flat-hit-requires : tie.Need-flat-hit-requires
 flat-hit-requires c κs = search needs
 
 returns : tie.Need-returns
-returns c = rw (c .flat-hit .ensures, c .before .first-adaptive .ensures .says, c .before .before .cell2 .ensures, c .before .before .before .cell .ensures, c .before .before .before .before .counts .ensures)
+returns c =
+    record {
+      answer = c .before .first-adaptive .result;
+      meets = record { says = rw (c .before .first-adaptive .ensures .says, c .before .before .cell2 .ensures, c .before .before .before .cell .ensures, c .before .before .before .before .counts .ensures) };
+      flat = c .flat-hit .ensures;
+    }
 
 pub oat-adaptive-spec : {M : Type 1} → statement M
 oat-adaptive-spec =

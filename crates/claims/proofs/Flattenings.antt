@@ -1,0 +1,312 @@
+-- The claims about the structs for C, from one law over an answer and its struct. Assumes nothing.
+use Prim.Native.Nat.{ℕ}
+use mathlib.Core.Path.{_≡_, refl, sym, ap, _∙_}
+use mathlib.Core.Bool.{true, false, cond}
+use mathlib.Core.List.{List, [], _∷_}
+use mathlib.Core.Logic.{_⊎_, inl, inr, _↔_}
+use mathlib.Core.Option.{Option, none, some, Option·map}
+use native.Mathlib.Omega.{arith}
+use lib.Dec.{eqb}
+use borrow.Author.Tests.{ne-eqb}
+use lib.ListN.{length}
+use Rattle.cells.specs.declared.Axis.{Axis}
+use Rattle.cells.specs.declared.Axis.the-variants.{X, Y, Z}
+use Rattle.cells.specs.declared.End.{End}
+use Rattle.cells.specs.declared.End.the-variants.{P, Q}
+use Rattle.cells.specs.declared.Part.{Part}
+use Rattle.cells.specs.declared.Part.the-variants.{OriginX, OriginY, OriginZ, Edge}
+use Rattle.cells.specs.declared.Refusal.{Refusal}
+use Rattle.cells.specs.declared.Refusal.the-variants.{Limit, Count, Bytes, Layer, OffGrid, Room, Placement, NotFinite, OffSurvey, Record, Version}
+use Rattle.cells.specs.declared.Verdict.{Verdict}
+use Rattle.cells.specs.declared.Verdict.the-variants.{Fine, Refused as Fails}
+use Rattle.cells.specs.Refusals.{Told, told, told-verdict}
+use Rattle.cells.proofs.Refusals.{untold, told-back, tells-apart}
+use Rattle.lists.specs.declared.Listed.{Listed}
+use Rattle.lists.specs.declared.Listed.the-variants.{Cells, Refused as NotListed}
+use Rattle.lists.specs.Lists.{told-listed}
+use Rattle.grids.specs.declared.LayerPart.{LayerPart}
+use Rattle.grids.specs.declared.LayerPart.the-variants.{Part as LayerAt, Refused as NoPart}
+use Rattle.grids.specs.declared.Completeness.{Completeness}
+use Rattle.grids.specs.declared.Completeness.the-variants.{Yes, No, Refused as NotAsked}
+use Rattle.grids.specs.Grid.{shape, told-part}
+use Rattle.grids.specs.Inside.{walk-check}
+use Rattle.grids.specs.Marks.{complete, told-completeness}
+use Rattle.walks.specs.declared.Hit.{Hit}
+use Rattle.walks.specs.declared.FirstHit.{FirstHit}
+use Rattle.walks.specs.declared.FirstHit.the-variants.{Clear, Hit as Blocked, Refused as NotWalked}
+use Rattle.walks.specs.Answers.{first-hit, told-hit}
+use Rattle.survey.specs.declared.Lookup.{Lookup}
+use Rattle.survey.specs.declared.Lookup.the-variants.{Cell as At, Refused as NotFound}
+use Rattle.survey.specs.Survey.{told-lookup}
+use Rattle.sight.specs.declared.Block.{Block}
+use Rattle.sight.specs.declared.Sight.{Sight}
+use Rattle.sight.specs.declared.Sight.the-variants.{Clear as Seen, Blocked as InTheWay, Refused as NotSeen}
+use Rattle.sight.specs.Sight.{told-sight}
+use Rattle.records.specs.declared.venues.VenueRead.{VenueRead}
+use Rattle.records.specs.declared.venues.VenueRead.the-variants.{Read as ReadVenue, Refused as NoVenue}
+use Rattle.records.specs.declared.pairs.PairRead.{PairRead}
+use Rattle.records.specs.declared.pairs.PairRead.the-variants.{Read as ReadPair, Refused as NoPair}
+use Rattle.records.specs.Venues.{told-venue}
+use Rattle.records.specs.Pairs.{told-pair}
+use Rattle.records.specs.declared.writing.Written.{Written}
+use Rattle.records.specs.declared.writing.Written.the-variants.{Wrote, Refused as NotWritten}
+use Rattle.records.specs.Writing.{written, told-written}
+use Rattle.oatmarten.specs.declared.refusals.OatSaid.{OatSaid}
+use Rattle.oatmarten.specs.declared.line_calls.OatListed.{OatListed}
+use Rattle.oatmarten.specs.declared.grid_calls.OatVerdict.{OatVerdict}
+use Rattle.oatmarten.specs.declared.grid_calls.OatComplete.{OatComplete}
+use Rattle.oatmarten.specs.declared.grid_calls.OatPart.{OatPart}
+use Rattle.oatmarten.specs.declared.walk_calls.OatHit.{OatHit}
+use Rattle.oatmarten.specs.declared.sight_calls.OatFound.{OatFound}
+use Rattle.oatmarten.specs.declared.sight_calls.OatSight.{OatSight}
+use Rattle.oatmarten.specs.declared.record_calls.OatVenue.{OatVenue}
+use Rattle.oatmarten.specs.declared.record_calls.OatPair.{OatPair}
+use Rattle.oatmarten.specs.declared.record_calls.OatWritten.{OatWritten}
+use Rattle.oatmarten.specs.Refusals.{end-number, axis-number, part-number, accepted, flat-refusal, said-of}
+use Rattle.oatmarten.specs.LineCalls.{flat-listed}
+use Rattle.oatmarten.specs.GridCalls.{flat-verdict, flat-complete, flat-part}
+use Rattle.oatmarten.specs.WalkCalls.{flat-hit}
+use Rattle.oatmarten.specs.SightCalls.{flat-found, flat-sight}
+use Rattle.oatmarten.specs.RecordCalls.{flat-venue, flat-pair, flat-written}
+use Rattle.claims.proofs.Grids.{one}
+use Rattle.claims.specs.Flattenings.{Flattened, Flattenings, InTable, SaidNumbers}
+
+-- ---- the numbers of a refusal: they have a left inverse
+
+in-table : (r : Refusal) → InTable (told r .number)
+in-table (Limit e a) = (omega arith, omega arith)
+in-table (Count a) = (omega arith, omega arith)
+in-table Bytes = (omega arith, omega arith)
+in-table Layer = (omega arith, omega arith)
+in-table (OffGrid e a) = (omega arith, omega arith)
+in-table Room = (omega arith, omega arith)
+in-table (Placement p) = (omega arith, omega arith)
+in-table (NotFinite e a) = (omega arith, omega arith)
+in-table (OffSurvey e a) = (omega arith, omega arith)
+in-table Record = (omega arith, omega arith)
+in-table Version = (omega arith, omega arith)
+
+-- the one that has the number k, if one has it
+numbered-of : {A : Type 0} → ℕ → List (ℕ × A) → Option A
+numbered-of k [] = none
+numbered-of k (p ∷ l) = cond (eqb k (p .0)) (some (p .1)) (numbered-of k l)
+
+abbrev end-of : ℕ → Option End
+end-of k = numbered-of k ((1, P) ∷ (2, Q) ∷ [])
+
+abbrev axis-of : ℕ → Option Axis
+axis-of k = numbered-of k ((1, X) ∷ (2, Y) ∷ (3, Z) ∷ [])
+
+abbrev part-of : ℕ → Option Part
+part-of k = numbered-of k ((1, OriginX) ∷ (2, OriginY) ∷ (3, OriginZ) ∷ (4, Edge) ∷ [])
+
+end-back : (e : End) → end-of (end-number e) ≡ some e
+unfolding numbered-of
+end-back P = refl
+end-back Q = refl
+
+axis-back : (a : Axis) → axis-of (axis-number a) ≡ some a
+unfolding numbered-of
+axis-back X = refl
+axis-back Y = refl
+axis-back Z = refl
+
+part-back : (p : Part) → part-of (part-number p) ≡ some p
+unfolding numbered-of
+part-back OriginX = refl
+part-back OriginY = refl
+part-back OriginZ = refl
+part-back Edge = refl
+
+-- what three numbers tell: with number 7 the last is a part of a placement, else an axis
+abbrev meant : OatSaid → Told
+meant s =
+    record {
+      number = s .refusal;
+      end = end-of (s .end);
+      axis = cond (eqb (s .refusal) 7) none (axis-of (s .axis));
+      part = cond (eqb (s .refusal) 7) (part-of (s .axis)) none;
+    }
+
+meant-told : (r : Refusal) → meant (flat-refusal r) ≡ told r
+unfolding numbered-of
+meant-told (Limit e a) = rw (end-back e, axis-back a)
+meant-told (Count a) = rw (axis-back a)
+meant-told Bytes = refl
+meant-told Layer = refl
+meant-told (OffGrid e a) = rw (end-back e, axis-back a)
+meant-told Room = refl
+meant-told (Placement p) = rw (part-back p)
+meant-told (NotFinite e a) = rw (end-back e, axis-back a)
+meant-told (OffSurvey e a) = rw (end-back e, axis-back a)
+meant-told Record = refl
+meant-told Version = refl
+
+refusal-back : (r : Refusal) → untold (meant (flat-refusal r)) ≡ some r
+refusal-back r = ap untold (meant-told r) ∙ told-back r
+
+pub said-numbers : SaidNumbers
+unfolding first-hit walk-check shape
+said-numbers =
+    record {
+      ends = (refl, refl);
+      axes = (refl, refl, refl);
+      parts = (refl, refl, refl, refl);
+      fine = refl;
+      limit = λ e a. refl;
+      count = λ a. refl;
+      bytes = refl;
+      layer = refl;
+      off-grid = λ e a. refl;
+      no-room = refl;
+      placement = λ p. refl;
+      not-finite = λ e a. refl;
+      off-survey = λ e a. refl;
+      no-record = refl;
+      version = refl;
+      in-table = in-table;
+      apart = tells-apart flat-refusal (λ s. untold (meant s)) refusal-back;
+      q-off-y = λ r h. ap (λ f. f .said) (h .flat ∙ ap flat-hit (h .meets .says));
+    }
+
+-- ---- each flattening: what C reads, and a left inverse
+
+-- an answer and its struct: a refusal, which is what its `said` says; or values, where `said` says nothing and the struct gives the values back
+data Case {A B F : Type 0} (says : A → Told ⊎ B) (flat : A → F) (said : F → OatSaid) (refuses : Refusal → A) (values : F → A) (a : A) : Type 0 where
+  refused : (r : Refusal) → refuses r ≡ a → says a ≡ inl (told r) → said (flat a) ≡ flat-refusal r → Case says flat said refuses values a
+  fine : (v : B) → values (flat a) ≡ a → says a ≡ inr v → said (flat a) ≡ accepted → Case says flat said refuses values a
+
+-- the answer that a struct means: the one made of its values where `refusal` is 0, else a refusal
+answer-in : {A : Type 0} → (Refusal → A) → A → OatSaid → Option A
+answer-in refuses accepts s = cond (eqb (s .refusal) 0) (some accepts) (Option·map refuses (untold (meant s)))
+
+refused-back : {A : Type 0} (refuses : Refusal → A) (a : A) (r : Refusal) → answer-in refuses a (flat-refusal r) ≡ some (refuses r)
+unfolding answer-in
+refused-back refuses a r =
+    ap (λ t. cond t (some a) (Option·map refuses (untold (meant (flat-refusal r))))) (ne-eqb (told r .number) 0 (λ e. omega (arith, in-table r .0, e)))
+    ∙ ap (Option·map refuses) (refusal-back r)
+
+module _ {A B F : Type 0} {says : A → Told ⊎ B} {flat : A → F} {said : F → OatSaid} {refuses : Refusal → A} {values : F → A} where
+  tells : (a : A) → Case says flat said refuses values a → said (flat a) ≡ said-of (says a)
+  tells a (refused r back e f) = f ∙ sym (ap said-of e)
+  tells a (fine v back e f) = f ∙ sym (ap said-of e)
+
+  where-0 : (a : A) → Case says flat said refuses values a → (said (flat a) .refusal ≡ 0) ↔ ((v : B) × (says a ≡ inr v))
+  where-0 a (refused r back e f) = (
+    λ z. absurd (let n : told r .number ≡ 0 = sym (ap (λ s. s .refusal) f) ∙ z in omega (arith, in-table r .0)),
+    λ v. absurd (let n : told r .number ≡ 0 = ap (λ t. said-of t .refusal) (sym e ∙ v .1) in omega (arith, in-table r .0)),
+  )
+  where-0 a (fine v back e f) = (λ z. (v, e), λ w. ap (λ s. s .refusal) f)
+
+  answer-back : (a : A) → Case says flat said refuses values a → answer-in refuses (values (flat a)) (said (flat a)) ≡ some a
+  unfolding answer-in
+  answer-back a (refused r back e f) = ap (answer-in refuses (values (flat a))) f ∙ refused-back refuses (values (flat a)) r ∙ ap some back
+  answer-back a (fine v back e f) = ap (answer-in refuses (values (flat a))) f ∙ ap some back
+
+  flattened : ((a : A) → Case says flat said refuses values a) → Flattened says flat said
+  flattened case =
+      record {
+        tells = λ a. tells a (case a);
+        where-0 = λ a. where-0 a (case a);
+        apart = tells-apart flat (λ f. answer-in refuses (values f) (said f)) (λ a. answer-back a (case a));
+      }
+
+abbrev listed-values : OatListed → Listed
+listed-values f = Cells (f .count)
+
+listed-case : (a : Listed) → Case told-listed flat-listed (λ f. f .said) NotListed listed-values a
+listed-case (Cells n) = fine n refl refl refl
+listed-case (NotListed r) = refused r refl refl refl
+
+abbrev verdict-values : OatVerdict → Verdict
+verdict-values f = Fine
+
+verdict-case : (a : Verdict) → Case told-verdict flat-verdict (λ f. f .said) Fails verdict-values a
+verdict-case Fine = fine tt refl refl refl
+verdict-case (Fails r) = refused r refl refl refl
+
+abbrev complete-values : OatComplete → Completeness
+complete-values f = cond (eqb (f .yes) 1) Yes No
+
+complete-case : (a : Completeness) → Case told-completeness flat-complete (λ f. f .said) NotAsked complete-values a
+complete-case Yes = fine true refl refl refl
+complete-case No = fine false refl refl refl
+complete-case (NotAsked r) = refused r refl refl refl
+
+abbrev part-values : OatPart → LayerPart
+part-values f = LayerAt (f .offset) (f .length)
+
+part-case : (a : LayerPart) → Case told-part flat-part (λ f. f .said) NoPart part-values a
+part-case (LayerAt start many) = fine (start, many) refl refl refl
+part-case (NoPart r) = refused r refl refl refl
+
+abbrev hit-values : OatHit → Hit
+hit-values f =
+    record {
+      cell = record { x = f .x; y = f .y; z = f .z };
+      code = f .code;
+      place = record { num = f .num; den = f .den };
+      reads = f .reads;
+    }
+
+abbrev walk-values : OatHit → FirstHit
+walk-values f = cond (eqb (f .hit) 1) (Blocked (hit-values f)) (Clear (f .reads))
+
+hit-case : (a : FirstHit) → Case told-hit flat-hit (λ f. f .said) NotWalked walk-values a
+hit-case (Clear reads) = fine (inl reads) refl refl refl
+hit-case (Blocked h) = fine (inr h) refl refl refl
+hit-case (NotWalked r) = refused r refl refl refl
+
+abbrev found-values : OatFound → Lookup
+found-values f = At (record { x = f .x; y = f .y; z = f .z })
+
+found-case : (a : Lookup) → Case told-lookup flat-found (λ f. f .said) NotFound found-values a
+found-case (At c) = fine c refl refl refl
+found-case (NotFound r) = refused r refl refl refl
+
+abbrev block-values : OatSight → Block
+block-values f = record { share = f .share; cell = record { x = f .x; y = f .y; z = f .z }; code = f .code; reads = f .reads }
+
+abbrev sight-values : OatSight → Sight
+sight-values f = cond (eqb (f .blocked) 1) (InTheWay (block-values f)) Seen
+
+sight-case : (a : Sight) → Case told-sight flat-sight (λ f. f .said) NotSeen sight-values a
+sight-case Seen = fine (inl tt) refl refl refl
+sight-case (InTheWay b) = fine (inr b) refl refl refl
+sight-case (NotSeen r) = refused r refl refl refl
+
+abbrev venue-values : OatVenue → VenueRead
+venue-values f = ReadVenue (record { counts = record { nx = f .nx; ny = f .ny; nz = f .nz }; start = f .offset; long = f .length })
+
+venue-case : (a : VenueRead) → Case told-venue flat-venue (λ f. f .said) NoVenue venue-values a
+venue-case (ReadVenue v) = fine (v .counts, v .start, v .long) refl refl refl
+venue-case (NoVenue r) = refused r refl refl refl
+
+abbrev pair-values : OatPair → PairRead
+pair-values f = ReadPair (record { p = record { x = f .px; y = f .py; z = f .pz }; q = record { x = f .qx; y = f .qy; z = f .qz } })
+
+pair-case : (a : PairRead) → Case told-pair flat-pair (λ f. f .said) NoPair pair-values a
+pair-case (ReadPair e) = fine (e .p, e .q) refl refl refl
+pair-case (NoPair r) = refused r refl refl refl
+
+abbrev written-values : OatWritten → Written
+written-values f = Wrote (f .written)
+
+written-case : (a : Written) → Case told-written flat-written (λ f. f .said) NotWritten written-values a
+written-case (Wrote many) = fine many refl refl refl
+written-case (NotWritten r) = refused r refl refl refl
+
+pub flattenings : Flattenings
+flattenings =
+    record {
+      lines = flattened listed-case;
+      mark = flattened verdict-case;
+      complete = flattened complete-case;
+      layer = flattened part-case;
+      walks = flattened hit-case;
+      found = flattened found-case;
+      seen = flattened sight-case;
+      venue = flattened venue-case;
+      pair = flattened pair-case;
+      written = flattened written-case;
+    }
