@@ -1,0 +1,37 @@
+-- Each call's `ensures` is its record as it stands (the laws of its own crate), and each call's `requires` asks for nothing. Assumes nothing.
+use Rattle.oatmarten.proofs.Contracts as stated
+use Rattle.claims.specs.ExportTies.{ExportsPromised, ExportsAskNothing}
+
+pub exports-promised : ExportsPromised
+exports-promised =
+    record {
+      of-line6 = stated.of-line6;
+      of-line26 = stated.of-line26;
+      of-mark = stated.of-mark;
+      of-complete = stated.of-complete;
+      of-layer = stated.of-layer;
+      of-plain = stated.of-plain;
+      of-adaptive = stated.of-adaptive;
+      of-cell-of = stated.of-cell-of;
+      of-sight = stated.of-sight;
+      of-read-venue = stated.of-read-venue;
+      of-read-pair = stated.of-read-pair;
+      of-write-venue = stated.of-write-venue;
+    }
+
+pub exports-ask-nothing : ExportsAskNothing
+exports-ask-nothing =
+    record {
+      line6-asks = λ κs a. tt;
+      line26-asks = λ κs a. tt;
+      mark-asks = λ κs a. tt;
+      complete-asks = λ κs a. tt;
+      layer-asks = λ κs a. tt;
+      plain-asks = λ κs a. tt;
+      adaptive-asks = λ κs a. tt;
+      cell-of-asks = λ κs a. tt;
+      sight-asks = λ κs a. tt;
+      read-venue-asks = λ κs a. tt;
+      read-pair-asks = λ κs a. tt;
+      write-venue-asks = λ κs a. tt;
+    }
