@@ -3,5 +3,7 @@ pub mod Signed
 pub mod Touching
 pub mod Machine
 pub mod Checks
+pub mod Conditions
+pub mod Tests
 pub mod Tabulate
 pub mod Held

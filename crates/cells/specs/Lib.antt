@@ -1,5 +1,6 @@
 pub mod Refusals
 pub mod Checks
+pub mod Tests
 pub mod Touching
 pub mod Small
 pub mod Tabulate

@@ -23,6 +23,14 @@ pub record Told : Type 0 where
 abbrev pub alone : ℕ → Told
 alone n = record { number = n; end = none; axis = none; part = none }
 
+-- "says which axis"
+abbrev pub at-axis : ℕ → Axis → Told
+at-axis n a = record { number = n; end = none; axis = some a; part = none }
+
+-- "says which of the four"
+abbrev pub at-part : ℕ → Part → Told
+at-part n p = record { number = n; end = none; axis = none; part = some p }
+
 -- "says which end and which axis"
 abbrev pub at-end : ℕ → End → Axis → Told
 at-end n e a = record { number = n; end = some e; axis = some a; part = none }
@@ -30,12 +38,12 @@ at-end n e a = record { number = n; end = some e; axis = some a; part = none }
 -- the table of refusal numbers
 abbrev pub told : Refusal → Told
 told (Limit e a) = at-end 1 e a
-told (Count a) = record { number = 2; end = none; axis = some a; part = none }
+told (Count a) = at-axis 2 a
 told Bytes = alone 3
 told Layer = alone 4
 told (OffGrid e a) = at-end 5 e a
 told Room = alone 6
-told (Placement p) = record { number = 7; end = none; axis = none; part = some p }
+told (Placement p) = at-part 7 p
 told (NotFinite e a) = at-end 8 e a
 told (OffSurvey e a) = at-end 9 e a
 told Record = alone 10

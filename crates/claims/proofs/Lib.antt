@@ -7,6 +7,8 @@ pub mod Story
 pub mod Points
 pub mod Sights
 pub mod Records
+pub mod Judged
+pub mod Refused
 pub mod Texts
 pub mod Program
 pub mod ProgramRows

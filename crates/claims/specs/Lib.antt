@@ -8,6 +8,7 @@ pub mod Story
 pub mod Points
 pub mod Sights
 pub mod Records
+pub mod Refused
 pub mod Texts
 pub mod Program
 pub mod ProgramRows

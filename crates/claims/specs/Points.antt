@@ -4,7 +4,6 @@ use mathlib.Core.Path.{_≡_}
 use mathlib.Core.Bool.{true, false}
 use mathlib.Core.Logic.{_↔_, _⊎_, inl, inr}
 use mathlib.Core.List.{List, [], _∷_}
-use mathlib.Core.Option.{none, some}
 use lib.IntN.{ℤ, pos, negsuc}
 use lib.Ieee.{Float, nan, inf, fin, binary64, div, neg, isNan, toUnsigned, toBits}
 use lib.Ieee.Exact.{HasValue}
@@ -18,7 +17,7 @@ use Rattle.cells.specs.declared.Refusal.{Refusal}
 use Rattle.cells.specs.declared.Part.{Part}
 use Rattle.cells.specs.declared.Part.the-variants.{OriginX, Edge}
 use Rattle.cells.specs.declared.Axis.{Axis}
-use Rattle.cells.specs.Refusals.{Told, at-end}
+use Rattle.cells.specs.Refusals.{Told, at-axis, at-part, at-end}
 use Rattle.survey.specs.declared.Lookup.{Lookup}
 use Rattle.survey.specs.declared.Lookup.the-variants.{Cell, Refused}
 use Rattle.survey.specs.declared.Placement.{Placement}
@@ -113,10 +112,10 @@ abbrev pub refused : Told → Told ⊎ cell.Cell
 refused = inl
 
 abbrev pub count-refused : Axis → Told ⊎ cell.Cell
-count-refused a = refused (record { number = 2; end = none; axis = some a; part = none })
+count-refused a = refused (at-axis 2 a)
 
 abbrev pub placement-refused : Part → Told ⊎ cell.Cell
-placement-refused p = refused (record { number = 7; end = none; axis = none; part = some p })
+placement-refused p = refused (at-part 7 p)
 
 -- a row: counts, placement, point, and what the answer says
 pub data Row : Type 0 where

@@ -1,0 +1,132 @@
+-- Each call's verdict on its inputs says what the call's row of tests says: each of its tests means its condition. Assumes nothing.
+use Prim.Native.Nat.{ℕ, _+_, _-_, _*_, _<_}
+use native.Mathlib.Nat.{lt-of-not-le}
+use native.Mathlib.Omega.{arith}
+use mathlib.Core.Path.{_≡_}
+use mathlib.Core.Bool.{true, not}
+use mathlib.Core.List.{List}
+use mathlib.Core.Logic.{_↔_, _⊎_, Iff·rfl, Iff·trans, Iff·not}
+use lib.Dec.{eqb}
+use lib.IntN.{ℤ, pos, negℤ}
+use lib.Signed.{_<ℤ_, _≤ℤ_}
+use lib.ListN.{getD}
+use lib.Ieee.{Float, lt}
+use lib.Ieee.Scale.{finite}
+use Rattle.cells.specs.declared.Axis.{Axis}
+use Rattle.cells.specs.declared.Axis.the-variants.{X, Y, Z}
+use Rattle.cells.specs.declared.Cell as cell
+use Rattle.cells.specs.declared.Counts.{Counts}
+use Rattle.cells.specs.declared.End.{End}
+use Rattle.cells.specs.declared.End.the-variants.{P, Q}
+use Rattle.cells.specs.declared.Part.the-variants.{OriginX, OriginY, OriginZ, Edge}
+use Rattle.cells.specs.declared.Refusal.the-variants.{Limit, Count, Bytes, Layer, OffGrid, Room, Placement as Misplaced, NotFinite, OffSurvey, Record, Version}
+use Rattle.cells.specs.Checks.{refuse-when}
+use Rattle.cells.proofs.Conditions.{ltb-means, eqb-means, zero-means, not-eqb-means, ltZ-means, leZ-means, leZ-fails, not-means, or-means, not-and-means}
+use Rattle.cells.proofs.Tests.{Judges, when, _next_, next-if}
+use Rattle.lines.specs.Lines.{in-limit}
+use Rattle.lists.specs.Lists.{end-check, list-check}
+use Rattle.grids.specs.Grid.{bad-count, size, count-check, shape, layer-check}
+use Rattle.grids.specs.Inside.{off-axis, grid-check, walk-check}
+use Rattle.survey.specs.declared.Lookup.the-variants.{Cell}
+use Rattle.survey.specs.declared.Placement.{Placement}
+use Rattle.survey.specs.declared.Point.{Point}
+use Rattle.survey.specs.Quotient.{as-f64, quotient}
+use Rattle.survey.specs.Survey.{placement-check, value-check, quotients, point-check}
+use Rattle.buffers.specs.Numbers.{four-at}
+use Rattle.records.specs.Heads.{whole-check}
+use Rattle.records.specs.Venues.{venue-version, venue-head, venue-check}
+use Rattle.records.specs.Pairs.{pair-version, pair-length, pair-check}
+use Rattle.records.specs.Writing.{write-check}
+use Rattle.claims.specs.Refused.{limit-tests, line-tests, count-tests, shape-tests, layer-tests, grid-tests, walk-tests, placement-tests, value-tests, point-tests, whole-tests, version-test, counts-in, venue-tests, pair-tests, write-tests}
+
+-- ---- line lists
+
+beyond-limit : (z : ℤ) → (not (in-limit z) ≡ true) ↔ ((z <ℤ negℤ (pos 8192)) ⊎ (pos 8191 <ℤ z))
+beyond-limit z = not-and-means (leZ-fails _ z) (leZ-fails z _)
+
+limit-judged : (e : End) (c : cell.Cell) → Judges (limit-tests e c) (end-check e c)
+limit-judged e c = when (beyond-limit (c .x)) (Limit e X) next when (beyond-limit (c .y)) (Limit e Y) next when (beyond-limit (c .z)) (Limit e Z)
+
+pub line-judged : (p q : cell.Cell) (cells room : ℕ) → Judges (line-tests p q cells room) (list-check p q cells room)
+line-judged p q cells room = (limit-judged P p next limit-judged Q q) next when (ltb-means room (3 * cells)) Room
+
+-- ---- grids
+
+count-means : (n : ℕ) → (bad-count n ≡ true) ↔ ((n < 1) ⊎ (1024 < n))
+count-means n = or-means (zero-means n) (ltb-means 1024 n)
+
+pub counts-judged : (n : Counts) → Judges (count-tests n) (count-check n)
+unfolding count-check
+counts-judged n = when (count-means (n .nx)) (Count X) next when (count-means (n .ny)) (Count Y) next when (count-means (n .nz)) (Count Z)
+
+pub shape-judged : (n : Counts) (bytes : ℕ) → Judges (shape-tests n bytes) (shape n bytes)
+unfolding shape
+shape-judged n bytes = counts-judged n next when (not-eqb-means bytes (size n)) Bytes
+
+-- a layer's z, and a coordinate of an end
+off-means : (v : ℤ) (count : ℕ) → (off-axis v count ≡ true) ↔ ((v <ℤ pos 0) ⊎ (pos count ≤ℤ v))
+off-means v count = or-means (ltZ-means v (pos 0)) (leZ-means (pos count) v)
+
+pub layer-judged : (n : Counts) (bytes : ℕ) (z : ℤ) → Judges (layer-tests n bytes z) (layer-check n bytes z)
+unfolding layer-check
+layer-judged n bytes z = shape-judged n bytes next when (off-means z (n .nz)) Layer
+
+grid-judged : (e : End) (n : Counts) (c : cell.Cell) → Judges (grid-tests e n c) (grid-check e n c)
+grid-judged e n c =
+    when (off-means (c .x) (n .nx)) (OffGrid e X) next
+    when (off-means (c .y) (n .ny)) (OffGrid e Y) next
+    when (off-means (c .z) (n .nz)) (OffGrid e Z)
+
+pub walk-judged : (n : Counts) (bytes : ℕ) (p q : cell.Cell) → Judges (walk-tests n bytes p q) (walk-check n bytes p q)
+unfolding walk-check
+walk-judged n bytes p q = shape-judged n bytes next grid-judged P n p next grid-judged Q n q
+
+-- ---- surveyed points
+
+pub placement-judged : (at : Placement) → Judges (placement-tests at) (placement-check at)
+unfolding placement-check
+placement-judged at =
+    when (not-means (finite (at .ox))) (Misplaced OriginX) next
+    when (not-means (finite (at .oy))) (Misplaced OriginY) next
+    when (not-means (finite (at .oz))) (Misplaced OriginZ) next
+    when (or-means (not-means (finite (at .edge))) (not-means (lt (as-f64 0) (at .edge)))) (Misplaced Edge)
+
+value-judged : (e : End) (a : Axis) (count : ℕ) (value origin edge : Float) →
+    Judges (value-tests e a count value origin edge) (value-check e a count value (quotient value origin edge))
+value-judged e a count value origin edge = when (not-means (finite value)) (NotFinite e a) next when (or-means Iff·rfl Iff·rfl) (OffSurvey e a)
+
+pub point-judged : (e : End) (n : Counts) (at : Placement) (p : Point) → Judges (point-tests e n at p) (point-check e n p (quotients at p))
+unfolding point-check
+point-judged e n at p =
+    value-judged e X (n .nx) (p .x) (at .ox) (at .edge) next
+    value-judged e Y (n .ny) (p .y) (at .oy) (at .edge) next
+    value-judged e Z (n .nz) (p .z) (at .oz) (at .edge)
+
+-- ---- the sight
+
+-- ---- records
+
+whole-judged : (s : List ℕ) → Judges (whole-tests s) (whole-check s)
+unfolding whole-check
+whole-judged s = when (ltb-means _ _) Record next when (eqb-means _ _) Record next when (ltb-means _ _) Record
+
+version-judged : (s : List ℕ) → Judges (version-test s) (refuse-when (not (eqb (getD s 4 0) 1)) Version)
+version-judged s = when (not-eqb-means (getD s 4 0) 1) Version
+
+-- the length less 7, where it is not below 7
+length-means : (long size : ℕ) → ¬ (long < 7) → (not (eqb (long - 7) size) ≡ true) ↔ (¬ (long ≡ 7 + size))
+length-means long size seven = Iff·trans (not-eqb-means (long - 7) size) (Iff·not (λ e. omega (arith, lt-of-not-le seven), λ e. omega arith))
+
+pub venue-judged : (s : List ℕ) → Judges (venue-tests s) (venue-check s)
+unfolding venue-check venue-version venue-head shape
+venue-judged s =
+    whole-judged s next version-judged s next next-if (when (ltb-means _ 7) Record)
+    λ seven. counts-judged (counts-in s) next when (length-means (four-at s 0) _ seven) Bytes
+
+pub pair-judged : (s : List ℕ) → Judges (pair-tests s) (pair-check s)
+unfolding pair-check pair-version pair-length
+pair-judged s = whole-judged s next version-judged s next when (not-eqb-means _ 13) Record
+
+pub write-judged : (n : Counts) (bytes room : ℕ) → Judges (write-tests n bytes room) (write-check n bytes room)
+unfolding write-check venue-head
+write-judged n bytes room = shape-judged n bytes next when (ltb-means room _) Room

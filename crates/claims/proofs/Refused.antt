@@ -1,0 +1,221 @@
+-- The table of refusals, from what each call's verdict says (`Judged`). Assumes nothing.
+use Prim.Native.Nat.{ℕ, _≤_}
+use native.Mathlib.Omega.{arith}
+use mathlib.Core.Path.{_≡_, refl, sym, ap, _∙_}
+use mathlib.Core.Bool.{Bool, true, false, cond}
+use mathlib.Core.List.{List, []}
+use mathlib.Core.Logic.{_↔_, _⊎_, inl, inr}
+use lib.IntN.{ℤ}
+use lib.ListN.{length}
+use Rattle.cells.specs.declared.Cell as cell
+use Rattle.cells.specs.declared.Counts.{Counts}
+use Rattle.cells.specs.declared.End.the-variants.{P, Q}
+use Rattle.cells.specs.declared.Verdict.{Verdict}
+use Rattle.cells.specs.declared.Verdict.the-variants.{Fine, Refused}
+use Rattle.cells.specs.Checks.{_then_}
+use Rattle.cells.specs.Refusals.{Told, told-verdict}
+use Rattle.cells.specs.Tests.{First, ByTests}
+use Rattle.cells.proofs.Checks.{each-fine}
+use Rattle.cells.proofs.Tests.{_next_, answered, empty-by}
+use Rattle.lines.specs.Lines.{six-line, line-26}
+use Rattle.lines.specs.Preference.{rule-1}
+use Rattle.lists.specs.declared.Listed.{Listed}
+use Rattle.lists.specs.Lists.{listed, Lists, told-listed}
+use Rattle.grids.specs.declared.LayerPart.{LayerPart}
+use Rattle.grids.specs.declared.LayerPart.the-variants.{Part, Refused as NoPart}
+use Rattle.grids.specs.Grid.{count-check, shape, part-by, layer-part, told-part, bytes-of, layer}
+use Rattle.grids.specs.Inside.{walk-check}
+use Rattle.grids.specs.Marks.{complete, yes-or-no, completeness-by, completeness, told-completeness}
+use Rattle.grids.proofs.Layers.{layer-empty}
+use Rattle.grids.proofs.Shapes.{shape-counts}
+use Rattle.walks.specs.declared.Walker.the-variants.{Adaptive}
+use Rattle.walks.specs.declared.Hit.{Hit}
+use Rattle.walks.specs.declared.FirstHit.{FirstHit}
+use Rattle.walks.specs.declared.FirstHit.the-variants.{Clear, Hit as Blocked, Refused as NotWalked}
+use Rattle.walks.specs.Walks.{hit-at, walk-of}
+use Rattle.walks.specs.Answers.{last-of, answer-of, answer-by, first-hit, told-hit}
+use Rattle.survey.specs.declared.Lookup.{Lookup}
+use Rattle.survey.specs.declared.Lookup.the-variants.{Cell}
+use Rattle.survey.specs.declared.Placement.{Placement}
+use Rattle.survey.specs.declared.Point.{Point}
+use Rattle.survey.specs.Survey.{placement-check, Tested, quotients, point-check, cell-at, passed, look-up, cell-of, told-lookup}
+use Rattle.survey.proofs.Lookups.{lookup-found}
+use Rattle.sight.specs.declared.Block.{Block}
+use Rattle.sight.specs.declared.Sight.{Sight}
+use Rattle.sight.specs.Sight.{sight-of, seen, if-fine, looked, sight, Sees, told-sight}
+use Rattle.sight.proofs.Walkable.{walkable}
+use Rattle.records.specs.declared.venues.VenueRead.{VenueRead}
+use Rattle.records.specs.declared.venues.VenueRead.the-variants.{Read, Refused as NoVenue}
+use Rattle.records.specs.Venues.{venue-in, venue-by, venue-read, part-of, venue-cells, told-venue}
+use Rattle.records.specs.Pairs.{pair-in, pair-by, pair-read, told-pair}
+use Rattle.records.specs.Writing.{written, told-written}
+use Rattle.claims.specs.Records.{ReadsVenue, GivesCells}
+use Rattle.claims.specs.Refused.{line-tests, LinesTold, layer-tests, GridsTold, cell-tests, sight-tests, PointsTold, venue-tests, RecordsTold}
+use Rattle.claims.proofs.Lines.{six-line-holds, line-26-holds}
+use Rattle.claims.proofs.Records.{empty-part}
+use Rattle.claims.proofs.Judged.{line-judged, counts-judged, shape-judged, layer-judged, walk-judged, placement-judged, point-judged, venue-judged, pair-judged, write-judged}
+
+-- ---- line lists
+
+listed-told : (line : List cell.Cell) (p q : cell.Cell) (entry exit : List ℤ) (r : Listed) → Lists line p q entry r exit →
+    ByTests (line-tests p q (length line) (length entry)) (told-listed r)
+listed-told line p q entry exit r c =
+    answered told-listed (λ v. listed v (length line)) (λ r. refl) (line-judged p q (length line) (length entry)) (λ fine. (length line, refl)) (c .says)
+
+pub lines-told : (p q : cell.Cell) (entry exit : List ℤ) (r : Listed) → LinesTold p q entry exit r
+lines-told p q entry exit r =
+    record {
+      six = λ c. rw (six-line-holds rule-1 p q .many) at (listed-told (six-line rule-1 p q) p q entry exit r c);
+      twenty-six = λ c. rw (line-26-holds rule-1 p q .many) at (listed-told (line-26 p q) p q entry exit r c);
+    }
+
+-- ---- grids
+
+-- what a walk answers is no refusal
+hit-told : (n : Counts) (l : List ℕ) (p q : cell.Cell) (cells : List cell.Cell) → (w : ℕ ⊎ Hit) × (told-hit (answer-of n l p q cells) ≡ inr w)
+unfolding answer-of
+hit-told n l p q cells = by (hit-at n l (last-of p cells)) _ _
+  where
+    by : (b : Bool) (h : Hit) (reads : ℕ) → (w : ℕ ⊎ Hit) × (told-hit (cond b (Blocked h) (Clear reads)) ≡ inr w)
+    by true h reads = (inr h, refl)
+    by false h reads = (inl reads, refl)
+
+yes-or-no-told : (b : Bool) → told-completeness (yes-or-no b) ≡ inr b
+yes-or-no-told true = refl
+yes-or-no-told false = refl
+
+layer-part-told : (n : Counts) (l : List ℕ) (z : ℤ) (r : LayerPart) → r ≡ layer-part n (length l) z → ByTests (layer-tests n (length l) z) (told-part r)
+unfolding layer-part
+layer-part-told n l z r c = answered told-part (λ v. part-by v n z) (λ r. refl) (layer-judged n (length l) z) (λ fine. (_, refl)) c
+
+-- a refusal is no value
+one-of-two : {A B C : Type 0} {a : A} {b : B} → inl a ≡ inr b → C
+one-of-two e = absurd (let z : _≡_ {A = ℕ} 0 1 = cc in omega arith)
+
+no-bytes : (a : LayerPart) (l : List ℕ) (t : Told) → told-part a ≡ inl t → bytes-of a l ≡ []
+no-bytes (NoPart r) l t e = refl
+no-bytes (Part start long) l t e = one-of-two (sym e)
+
+layer-told : (n : Counts) (l : List ℕ) (z : ℤ) (part : List ℕ) → part ≡ layer n l z → (part ≡ []) ↔ ((t : Told) × First (layer-tests n (length l) z) t)
+unfolding layer
+layer-told n l z part c =
+    empty-by (told-part (layer-part n (length l) z)) (layer-part-told n l z (layer-part n (length l) z) refl)
+    (λ t e. c ∙ no-bytes (layer-part n (length l) z) l t e)
+    (λ v e none. let (r, refused) = layer-empty n l z .0 (sym c ∙ none) in one-of-two (sym (ap told-part refused) ∙ e))
+
+pub grids-told : (n : Counts) (l : List ℕ) → GridsTold n l
+unfolding completeness first-hit
+grids-told n l =
+    record {
+      shape = λ bytes r c. answered told-verdict (λ v. v) (λ r. refl) (shape-judged n bytes) (λ fine. (tt, refl)) c;
+      mark = λ r exit c. answered told-verdict (λ v. v) (λ r. refl) (shape-judged n (length l)) (λ fine. (tt, refl)) (c .says);
+      complete = λ r c.
+          answered told-completeness (λ v. completeness-by v n l) (λ r. refl) (shape-judged n (length l))
+          (λ fine. (complete 3 n l, yes-or-no-told (complete 3 n l))) c;
+      layer-part = layer-part-told n l;
+      layer = layer-told n l;
+      first-hit = λ k p q r c.
+          answered told-hit (λ v. answer-by v (answer-of n l p q (walk-of k n l p q))) (λ r. refl) (walk-judged n (length l) p q)
+          (λ fine. hit-told n l p q (walk-of k n l p q)) (c .says);
+    }
+
+-- ---- surveyed points
+
+cell-told : (n : Counts) (at : Placement) (p : Point) (r : Lookup) → r ≡ cell-of n at p → ByTests (cell-tests n at p) (told-lookup r)
+unfolding cell-of look-up
+cell-told n at p r c =
+    answered told-lookup (λ v. passed v (Cell (cell-at n (quotients at p)))) (λ r. refl)
+    (counts-judged n next placement-judged at next point-judged P n at p)
+    (λ fine. (_, refl))
+    (c ∙ in-one (count-check n) (placement-check at) (point-check P n p (quotients at p)) (Cell (cell-at n (quotients at p))))
+  where
+    in-one : (u v w : Verdict) (x : Lookup) → passed (u then v) (passed w x) ≡ passed (u then v then w) x
+    in-one (Refused r) v w x = refl
+    in-one Fine (Refused r) w x = refl
+    in-one Fine Fine w x = refl
+
+-- ---- the sight
+
+-- a walk that is no refusal gives a sight that is none
+sight-told : (h : FirstHit) (w : ℕ ⊎ Hit) → told-hit h ≡ inr w → (v : Unit {0} ⊎ Block) × (told-sight (sight-of h) ≡ inr v)
+sight-told (Clear reads) w e = (inl tt, refl)
+sight-told (Blocked h) w e = (_, refl)
+sight-told (NotWalked r) w e = one-of-two e
+
+module _ (n : Counts) (l : List ℕ) (at : Placement) (camera ball : Point) where
+  abbrev from : cell.Cell
+  from = cell-at n (quotients at camera)
+
+  abbrev to : cell.Cell
+  to = cell-at n (quotients at ball)
+
+  -- all its tests in one verdict
+  abbrev sight-check : Verdict
+  sight-check = shape n (length l) then placement-check at then point-check P n camera (quotients at camera) then point-check Q n ball (quotients at ball)
+
+  sight-by : sight n l at camera ball ≡ if-fine sight-check (sight-of (first-hit Adaptive n l from to))
+  unfolding sight looked look-up
+  sight-by = in-one (shape n (length l)) (placement-check at) (point-check P n camera (quotients at camera)) (point-check Q n ball (quotients at ball))
+    where
+      in-one : (u v w x : Verdict) → if-fine u (if-fine v (seen n l (passed w (Cell from)) (passed x (Cell to))))
+          ≡ if-fine (u then v then w then x) (sight-of (first-hit Adaptive n l from to))
+      in-one (Refused r) v w x = refl
+      in-one Fine (Refused r) w x = refl
+      in-one Fine Fine (Refused r) x = refl
+      in-one Fine Fine Fine (Refused r) = refl
+      in-one Fine Fine Fine Fine = refl
+
+  -- where they pass, both cells lie in the grid, and the walk between them is not refused
+  walked : sight-check ≡ Fine → (w : ℕ ⊎ Hit) × (told-hit (first-hit Adaptive n l from to) ≡ inr w)
+  unfolding first-hit
+  walked fine =
+      let (shaped, rest) = each-fine _ _ fine in
+      let (placed, points) = each-fine _ _ rest in
+      let (seen-from, seen-to) = each-fine _ _ points in
+      let tested : Tested n at = record { counts = shape-counts n (length l) shaped; placed = placed } in
+      let walks : walk-check n (length l) from to ≡ Fine =
+      walkable n (length l) at camera ball from to shaped tested
+      (lookup-found P n at camera refl refl seen-from refl) (lookup-found Q n at ball refl refl seen-to refl) in
+      rw walks (hit-told n l from to (walk-of Adaptive n l from to))
+
+  see-told : (r : Sight) → Sees n l at camera ball r → ByTests (sight-tests n (length l) at camera ball) (told-sight r)
+  see-told r c =
+      answered told-sight (λ v. if-fine v (sight-of (first-hit Adaptive n l from to))) (λ r. refl)
+      (shape-judged n (length l) next placement-judged at next point-judged P n at camera next point-judged Q n at ball)
+      (λ fine. let (w, is) = walked fine in sight-told (first-hit Adaptive n l from to) w is)
+      (c .says ∙ sight-by)
+
+pub points-told : (n : Counts) (at : Placement) → PointsTold n at
+points-told n at = record { cell-of = cell-told n at; see = λ l. see-told n l at }
+
+-- ---- records
+
+venue-told : (s : List ℕ) (r : VenueRead) → ReadsVenue s r → ByTests (venue-tests s) (told-venue r)
+unfolding venue-read
+venue-told s r c = answered told-venue (λ v. venue-by v (venue-in s)) (λ r. refl) (venue-judged s) (λ fine. (_, refl)) c
+
+no-cells : (a : VenueRead) (s : List ℕ) (t : Told) → told-venue a ≡ inl t → part-of a s ≡ []
+no-cells (NoVenue r) s t e = refl
+no-cells (Read v) s t e = one-of-two (sym e)
+
+some-cells : (s : List ℕ) (a : VenueRead) (w : Counts × ℕ × ℕ) → venue-read s ≡ a → told-venue a ≡ inr w → 1 ≤ length (venue-cells s)
+some-cells s (Read v) w is e = empty-part s .accepted v is
+some-cells s (NoVenue r) w is e = one-of-two e
+
+cells-told : (s part : List ℕ) → GivesCells s part → (part ≡ []) ↔ ((t : Told) × First (venue-tests s) t)
+unfolding venue-cells
+cells-told s part c =
+    empty-by (told-venue (venue-read s)) (venue-told s (venue-read s) refl)
+    (λ t e. c ∙ no-cells (venue-read s) s t e)
+    (λ v e none. omega (arith, some-cells s (venue-read s) v refl e, ap length (sym c ∙ none)))
+
+pub records-told : (s : List ℕ) → RecordsTold s
+unfolding pair-read
+records-told s =
+    record {
+      read-venue = venue-told s;
+      venue-cells = cells-told s;
+      read-pair = λ r c. answered told-pair (λ v. pair-by v (pair-in s)) (λ r. refl) (pair-judged s) (λ fine. (_, refl)) c;
+      write-venue = λ n cells entry exit r c.
+          answered told-written (λ v. written v n) (λ r. refl) (write-judged n (length cells) (length entry)) (λ fine. (_, refl)) (c .says);
+    }

@@ -1,0 +1,181 @@
+-- Document 01, "Refusal numbers" and "Order": for each public call its tests in order, each in plain inequalities on the call's inputs and with the
+-- number and details that it gives; and the claim that every answer that meets the call's contract is given by them. Assumes nothing.
+use Prim.Native.Nat.{ℕ, _+_, _*_, _<_}
+use mathlib.Core.Path.{_≡_}
+use mathlib.Core.Bool.{true, false}
+use mathlib.Core.List.{List, []}
+use mathlib.Core.Logic.{_↔_, _⊎_}
+use lib.IntN.{ℤ, pos, negℤ}
+use lib.Signed.{_<ℤ_, _≤ℤ_}
+use lib.ListN.{length, getD}
+use lib.Ieee.{Float, binary64, sub, div, lt, le}
+use lib.Ieee.Scale.{finite}
+use Rattle.cells.specs.declared.Axis.{Axis}
+use Rattle.cells.specs.declared.Axis.the-variants.{X, Y, Z}
+use Rattle.cells.specs.declared.Cell.{Cell}
+use Rattle.cells.specs.declared.Counts.{Counts}
+use Rattle.cells.specs.declared.End.{End}
+use Rattle.cells.specs.declared.End.the-variants.{P, Q}
+use Rattle.cells.specs.declared.Part.the-variants.{OriginX, OriginY, OriginZ, Edge}
+use Rattle.cells.specs.declared.Verdict.{Verdict}
+use Rattle.cells.specs.Refusals.{Told, alone, at-axis, at-part, at-end, told-verdict}
+use Rattle.cells.specs.Tests.{Tests, _gives_, _else_, First, each-axis, ByTests}
+use Rattle.cells.specs.Touching.{on}
+use Rattle.lines.specs.Steps.{total}
+use Rattle.lines.specs.Lines.{differences, longest}
+use Rattle.lists.specs.declared.Listed.{Listed}
+use Rattle.lists.specs.Lists.{Line6, Line26, told-listed}
+use Rattle.grids.specs.declared.LayerPart.{LayerPart}
+use Rattle.grids.specs.declared.Completeness.{Completeness}
+use Rattle.grids.specs.Grid.{shape, layer-part, layer, told-part}
+use Rattle.grids.specs.Inside.{count-on}
+use Rattle.grids.specs.Marks.{Marks, completeness, told-completeness}
+use Rattle.walks.specs.declared.Walker.{Walker}
+use Rattle.walks.specs.declared.FirstHit.{FirstHit}
+use Rattle.walks.specs.Answers.{Finds, told-hit}
+use Rattle.survey.specs.declared.Lookup.{Lookup}
+use Rattle.survey.specs.declared.Placement.{Placement}
+use Rattle.survey.specs.declared.Point.{Point}
+use Rattle.survey.specs.Quotient.{as-f64}
+use Rattle.survey.specs.Survey.{cell-of, told-lookup}
+use Rattle.sight.specs.declared.Sight.{Sight}
+use Rattle.sight.specs.Sight.{Sees, told-sight}
+use Rattle.buffers.specs.Numbers.{two-at, four-at}
+use Rattle.records.specs.declared.venues.VenueRead.{VenueRead}
+use Rattle.records.specs.declared.pairs.PairRead.{PairRead}
+use Rattle.records.specs.declared.writing.Written.{Written}
+use Rattle.records.specs.Venues.{told-venue, venue-cells}
+use Rattle.records.specs.Pairs.{told-pair}
+use Rattle.records.specs.Writing.{WritesVenue, told-written}
+use Rattle.claims.specs.Records.{ReadsVenue, ReadsPair, GivesCells}
+
+-- ---- line lists
+
+-- 1: "a line end outside -8,192 to 8,191"
+abbrev pub limit-tests : End → Cell → Tests
+limit-tests e c = each-axis λ a. ((on c a <ℤ negℤ (pos 8192)) ⊎ (pos 8191 <ℤ on c a)) gives at-end 1 e a
+
+-- P before Q
+abbrev pub ends-tests : (p q : Cell) → Tests
+ends-tests p q = limit-tests P p else limit-tests Q q
+
+-- 1, then 6: fewer than three numbers lent for each cell of the line
+abbrev pub line-tests : (p q : Cell) (cells room : ℕ) → Tests
+line-tests p q cells room = ends-tests p q else (room < 3 * cells) gives alone 6
+
+-- ---- grids
+
+-- 2 (x, y, z): "a count outside 1 to 1,024"
+abbrev pub count-tests : Counts → Tests
+count-tests n = each-axis λ a. ((count-on n a < 1) ⊎ (1024 < count-on n a)) gives at-axis 2 a
+
+-- 2, then 3: "cell bytes not nx·ny·nz"
+abbrev pub shape-tests : Counts → ℕ → Tests
+shape-tests n bytes = count-tests n else (¬ (bytes ≡ n .nx * n .ny * n .nz)) gives alone 3
+
+-- 2, 3, then 4: "layer z below 0 or not below nz"
+abbrev pub layer-tests : (n : Counts) (bytes : ℕ) (z : ℤ) → Tests
+layer-tests n bytes z = shape-tests n bytes else ((z <ℤ pos 0) ⊎ (pos (n .nz) ≤ℤ z)) gives alone 4
+
+-- 5 (x, y, z): "an end outside the grid"
+abbrev pub grid-tests : End → Counts → Cell → Tests
+grid-tests e n c = each-axis λ a. ((on c a <ℤ pos 0) ⊎ (pos (count-on n a) ≤ℤ on c a)) gives at-end 5 e a
+
+-- 2, 3, then 5 (P before Q)
+abbrev pub walk-tests : (n : Counts) (bytes : ℕ) (p q : Cell) → Tests
+walk-tests n bytes p q = shape-tests n bytes else grid-tests P n p else grid-tests Q n q
+
+-- ---- metres
+
+-- 7 (origin x, y, z, edge): "an origin value or edge not finite, or edge not above 0"
+abbrev pub placement-tests : Placement → Tests
+placement-tests at =
+    (finite (at .ox) ≡ false) gives at-part 7 OriginX else
+    (finite (at .oy) ≡ false) gives at-part 7 OriginY else
+    (finite (at .oz) ≡ false) gives at-part 7 OriginZ else
+    ((finite (at .edge) ≡ false) ⊎ (lt (as-f64 0) (at .edge) ≡ false)) gives at-part 7 Edge
+
+-- one surveyed value: 8, "not finite"; then 9, "a q below 0, or at or above the count"
+abbrev pub value-tests : (e : End) (a : Axis) (count : ℕ) (value origin edge : Float) → Tests
+value-tests e a count value origin edge =
+    let q : Float = div binary64 (sub binary64 value origin) edge in
+    (finite value ≡ false) gives at-end 8 e a else
+    ((lt q (as-f64 0) ≡ true) ⊎ (le (as-f64 count) q ≡ true)) gives at-end 9 e a
+
+-- a surveyed point: x (8, then 9), y, z
+abbrev pub point-tests : End → Counts → Placement → Point → Tests
+point-tests e n at p =
+    value-tests e X (n .nx) (p .x) (at .ox) (at .edge) else
+    value-tests e Y (n .ny) (p .y) (at .oy) (at .edge) else
+    value-tests e Z (n .nz) (p .z) (at .oz) (at .edge)
+
+-- 2, 7, then the point, as P
+abbrev pub cell-tests : Counts → Placement → Point → Tests
+cell-tests n at p = count-tests n else placement-tests at else point-tests P n at p
+
+-- 2, 3, 7, then the camera as P, then the ball as Q
+abbrev pub sight-tests : (n : Counts) (bytes : ℕ) (at : Placement) (camera ball : Point) → Tests
+sight-tests n bytes at camera ball = shape-tests n bytes else placement-tests at else point-tests P n at camera else point-tests Q n at ball
+
+-- ---- records
+
+-- 10: "fewer than four bytes, length 0, or fewer bytes than announced"
+abbrev pub whole-tests : List ℕ → Tests
+whole-tests s =
+    (length s < 4) gives alone 10 else
+    (four-at s 0 ≡ 0) gives alone 10 else
+    (length s < 4 + four-at s 0) gives alone 10
+
+-- 11: "version byte not 1"
+abbrev pub version-test : List ℕ → Tests
+version-test s = (¬ (getD s 4 0 ≡ 1)) gives alone 11
+
+-- the counts that a venue's record holds
+abbrev pub counts-in : List ℕ → Counts
+counts-in s = record { nx = two-at s 5; ny = two-at s 7; nz = two-at s 9 }
+
+-- 10, 11, then 10: a length below 7; then 2, and 3: a length that is not 7 + nx·ny·nz
+abbrev pub venue-tests : List ℕ → Tests
+venue-tests s =
+    whole-tests s else
+    version-test s else
+    (four-at s 0 < 7) gives alone 10 else
+    count-tests (counts-in s) else
+    (¬ (four-at s 0 ≡ 7 + two-at s 5 * two-at s 7 * two-at s 9)) gives alone 3
+
+-- 10, 11, then 10: a length that is not 13
+abbrev pub pair-tests : List ℕ → Tests
+pair-tests s = whole-tests s else version-test s else (¬ (four-at s 0 ≡ 13)) gives alone 10
+
+-- 2, 3, then 6: "fewer than 11 + nx·ny·nz bytes are lent"
+abbrev pub write-tests : (n : Counts) (bytes room : ℕ) → Tests
+write-tests n bytes room = shape-tests n bytes else (room < 11 + n .nx * n .ny * n .nz) gives alone 6
+
+-- ---- the claims: every answer that meets a call's contract is given by the call's tests
+
+-- line lists, of A+B+C+1 and M+1 cells
+pub record LinesTold (p q : Cell) (entry exit : List ℤ) (r : Listed) : Type 0 where
+  pub six : Line6 p q entry r exit → ByTests (line-tests p q (total (differences p q) + 1) (length entry)) (told-listed r)
+  pub twenty-six : Line26 p q entry r exit → ByTests (line-tests p q (longest (differences p q) + 1) (length entry)) (told-listed r)
+
+-- grid calls; a layer is empty exactly where its partner refuses
+pub record GridsTold (n : Counts) (l : List ℕ) : Type 0 where
+  pub shape : (bytes : ℕ) (r : Verdict) → r ≡ shape n bytes → ByTests (shape-tests n bytes) (told-verdict r)
+  pub mark : (r : Verdict) (exit : List ℕ) → Marks n l r exit → ByTests (shape-tests n (length l)) (told-verdict r)
+  pub complete : (r : Completeness) → r ≡ completeness n l → ByTests (shape-tests n (length l)) (told-completeness r)
+  pub layer-part : (z : ℤ) (r : LayerPart) → r ≡ layer-part n (length l) z → ByTests (layer-tests n (length l) z) (told-part r)
+  pub layer : (z : ℤ) (part : List ℕ) → part ≡ layer n l z → (part ≡ []) ↔ ((t : Told) × First (layer-tests n (length l) z) t)
+  pub first-hit : (k : Walker) (p q : Cell) (r : FirstHit) → Finds k n l p q r → ByTests (walk-tests n (length l) p q) (told-hit r)
+
+-- surveyed points
+pub record PointsTold (n : Counts) (at : Placement) : Type 0 where
+  pub cell-of : (p : Point) (r : Lookup) → r ≡ cell-of n at p → ByTests (cell-tests n at p) (told-lookup r)
+  pub see : (l : List ℕ) (camera ball : Point) (r : Sight) → Sees n l at camera ball r → ByTests (sight-tests n (length l) at camera ball) (told-sight r)
+
+-- records; a venue's part is empty exactly where its partner refuses
+pub record RecordsTold (s : List ℕ) : Type 0 where
+  pub read-venue : (r : VenueRead) → ReadsVenue s r → ByTests (venue-tests s) (told-venue r)
+  pub venue-cells : (part : List ℕ) → GivesCells s part → (part ≡ []) ↔ ((t : Told) × First (venue-tests s) t)
+  pub read-pair : (r : PairRead) → ReadsPair s r → ByTests (pair-tests s) (told-pair r)
+  pub write-venue : (n : Counts) (cells entry exit : List ℕ) (r : Written) → WritesVenue n cells entry r exit →
+      ByTests (write-tests n (length cells) (length entry)) (told-written r)
