@@ -1,4 +1,5 @@
--- Tests in a row: where all is fine, each of them was, and what follows a test counts only where it was. Assumes nothing.
+-- Tests in a row: where all is fine, each of them was, and what follows a test counts only where it was; and answers by a verdict.
+-- Assumes nothing.
 use mathlib.Core.Path.{_≡_, refl}
 use mathlib.Core.Bool.{Bool, true, false}
 use Prim.Native.Nat.{ℕ}
@@ -6,7 +7,7 @@ use native.Mathlib.Omega.{arith}
 use Rattle.cells.specs.declared.Refusal.{Refusal}
 use Rattle.cells.specs.declared.Verdict.{Verdict}
 use Rattle.cells.specs.declared.Verdict.the-variants.{Fine, Refused}
-use Rattle.cells.specs.Checks.{refuse-when, _then_}
+use Rattle.cells.specs.Checks.{refuse-when, _then_, by-verdict}
 
 refused-not-fine : {A : Type 0} {r : Refusal} → Refused r ≡ Fine → A
 refused-not-fine h = absurd (let z : _≡_ {A = ℕ} 0 1 = cc in omega arith)
@@ -36,3 +37,22 @@ pub then-four : (u v w x : Verdict) → (u then v then w then x) ≡ ((u then v 
 then-four (Refused r) v w x = refl
 then-four Fine (Refused r) w x = refl
 then-four Fine Fine w x = refl
+
+-- ---- an answer by a verdict
+
+module _ {A : Type 0} (refused : Refusal → A) where
+  -- two verdicts, one after the other, are one
+  pub by-both : (v w : Verdict) (a : A) → by-verdict refused (by-verdict refused a w) v ≡ by-verdict refused a (v then w)
+  by-both Fine w a = refl
+  by-both (Refused r) w a = refl
+
+  -- where the answer is no refusal the verdict is fine
+  pub by-fine : (v : Verdict) (a : A) {b : A} → ((r : Refusal) → ¬ (refused r ≡ b)) → by-verdict refused a v ≡ b → (v ≡ Fine) × (a ≡ b)
+  by-fine Fine a other e = (refl, e)
+  by-fine (Refused r) a other e = absurd (other r e)
+
+  -- a call that refuses leaves what it was lent
+  pub by-refusal : {M : Type 0} (v : Verdict) (a : A) (after : M) {b : A} {entry exit : M} → ¬ (a ≡ b) → by-verdict refused a v ≡ b →
+      exit ≡ by-verdict (λ r. entry) after v → exit ≡ entry
+  by-refusal Fine a after other e h = absurd (other e)
+  by-refusal (Refused r) a after other e h = h

@@ -14,3 +14,8 @@ infixr 20 _then_
 abbrev pub _then_ : Verdict → Verdict → Verdict
 _then_ Fine v = v
 _then_ (Refused r) v = Refused r
+
+-- an answer by the verdict on the inputs: the refusal as it stands in the answer, or what is answered where all is fine
+abbrev pub by-verdict : {A : Type 0} → (Refusal → A) → A → Verdict → A
+by-verdict refused answer Fine = answer
+by-verdict refused answer (Refused r) = refused r
