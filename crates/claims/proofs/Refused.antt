@@ -7,6 +7,7 @@ use mathlib.Core.List.{List, []}
 use mathlib.Core.Logic.{_↔_, _⊎_, inl, inr}
 use lib.IntN.{ℤ}
 use lib.ListN.{length}
+use denote.Ref.{RefT}
 use Rattle.cells.specs.declared.Cell as cell
 use Rattle.cells.specs.declared.Counts.{Counts}
 use Rattle.cells.specs.declared.End.the-variants.{P, Q}
@@ -23,7 +24,7 @@ use Rattle.lists.specs.declared.Listed.{Listed}
 use Rattle.lists.specs.Lists.{listed, Lists, told-listed}
 use Rattle.grids.specs.declared.LayerPart.{LayerPart}
 use Rattle.grids.specs.declared.LayerPart.the-variants.{Part, Refused as NoPart}
-use Rattle.grids.specs.Grid.{count-check, shape, part-by, layer-part, told-part, bytes-of, layer}
+use Rattle.grids.specs.Grid.{count-check, shape, part-by, layer-part, GivesLayerPart, told-part, bytes-of, layer, GivesLayer}
 use Rattle.grids.specs.Inside.{walk-check}
 use Rattle.grids.specs.Marks.{complete, yes-or-no, completeness-by, completeness, told-completeness}
 use Rattle.grids.proofs.Layers.{layer-empty}
@@ -38,7 +39,7 @@ use Rattle.survey.specs.declared.Lookup.{Lookup}
 use Rattle.survey.specs.declared.Lookup.the-variants.{Cell}
 use Rattle.survey.specs.declared.Placement.{Placement}
 use Rattle.survey.specs.declared.Point.{Point}
-use Rattle.survey.specs.Survey.{placement-check, Tested, quotients, point-check, cell-at, passed, look-up, cell-of, told-lookup}
+use Rattle.survey.specs.Survey.{placement-check, Tested, quotients, point-check, cell-at, passed, look-up, cell-of, LooksUp, told-lookup}
 use Rattle.survey.proofs.Lookups.{lookup-found}
 use Rattle.sight.specs.declared.Block.{Block}
 use Rattle.sight.specs.declared.Sight.{Sight}
@@ -46,13 +47,12 @@ use Rattle.sight.specs.Sight.{sight-of, seen, if-fine, looked, sight, Sees, tol
 use Rattle.sight.proofs.Walkable.{walkable}
 use Rattle.records.specs.declared.venues.VenueRead.{VenueRead}
 use Rattle.records.specs.declared.venues.VenueRead.the-variants.{Read, Refused as NoVenue}
-use Rattle.records.specs.Venues.{venue-in, venue-by, venue-read, part-of, venue-cells, told-venue}
+use Rattle.records.specs.Venues.{venue-in, venue-by, venue-read, ReadsVenue, part-of, venue-cells, GivesCells, told-venue}
 use Rattle.records.specs.Pairs.{pair-in, pair-by, pair-read, told-pair}
 use Rattle.records.specs.Writing.{written, told-written}
-use Rattle.claims.specs.Records.{ReadsVenue, GivesCells}
 use Rattle.claims.specs.Refused.{line-tests, LinesTold, layer-tests, GridsTold, cell-tests, sight-tests, PointsTold, venue-tests, RecordsTold}
 use Rattle.claims.proofs.Lines.{six-line-holds, line-26-holds}
-use Rattle.claims.proofs.Records.{empty-part}
+use Rattle.claims.proofs.Records.{the-part}
 use Rattle.claims.proofs.Judged.{line-judged, counts-judged, shape-judged, layer-judged, walk-judged, placement-judged, point-judged, venue-judged, pair-judged, write-judged}
 
 -- ---- line lists
@@ -84,9 +84,9 @@ yes-or-no-told : (b : Bool) → told-completeness (yes-or-no b) ≡ inr b
 yes-or-no-told true = refl
 yes-or-no-told false = refl
 
-layer-part-told : (n : Counts) (l : List ℕ) (z : ℤ) (r : LayerPart) → r ≡ layer-part n (length l) z → ByTests (layer-tests n (length l) z) (told-part r)
+layer-part-told : (n : Counts) (l : List ℕ) (z : ℤ) (r : LayerPart) → GivesLayerPart n (length l) z r → ByTests (layer-tests n (length l) z) (told-part r)
 unfolding layer-part
-layer-part-told n l z r c = answered told-part (λ v. part-by v n z) (λ r. refl) (layer-judged n (length l) z) (λ fine. (_, refl)) c
+layer-part-told n l z r c = answered told-part (λ v. part-by v n z) (λ r. refl) (layer-judged n (length l) z) (λ fine. (_, refl)) (c .says)
 
 -- a refusal is no value
 one-of-two : {A B C : Type 0} {a : A} {b : B} → inl a ≡ inr b → C
@@ -96,24 +96,27 @@ no-bytes : (a : LayerPart) (l : List ℕ) (t : Told) → told-part a ≡ inl t �
 no-bytes (NoPart r) l t e = refl
 no-bytes (Part start long) l t e = one-of-two (sym e)
 
-layer-told : (n : Counts) (l : List ℕ) (z : ℤ) (part : List ℕ) → part ≡ layer n l z → (part ≡ []) ↔ ((t : Told) × First (layer-tests n (length l) z) t)
+layer-told : (n : Counts) (z : ℤ) (cells part : RefT (List ℕ)) → GivesLayer n cells z part →
+    (part .now ≡ []) ↔ ((t : Told) × First (layer-tests n (length (cells .now)) z) t)
 unfolding layer
-layer-told n l z part c =
-    empty-by (told-part (layer-part n (length l) z)) (layer-part-told n l z (layer-part n (length l) z) refl)
-    (λ t e. c ∙ no-bytes (layer-part n (length l) z) l t e)
-    (λ v e none. let (r, refused) = layer-empty n l z .0 (sym c ∙ none) in one-of-two (sym (ap told-part refused) ∙ e))
+layer-told n z cells part c =
+    let l = cells .now in
+    let named = layer-part n (length l) z in
+    empty-by (told-part named) (layer-part-told n l z named (record { says = refl }))
+    (λ t e. c .says ∙ no-bytes named l t e)
+    (λ v e none. let (r, refused) = layer-empty n l z .0 (sym (c .says) ∙ none) in one-of-two (sym (ap told-part refused) ∙ e))
 
 pub grids-told : (n : Counts) (l : List ℕ) → GridsTold n l
 unfolding completeness first-hit
 grids-told n l =
     record {
-      shape = λ bytes r c. answered told-verdict (λ v. v) (λ r. refl) (shape-judged n bytes) (λ fine. (tt, refl)) c;
+      shape = λ bytes r c. answered told-verdict (λ v. v) (λ r. refl) (shape-judged n bytes) (λ fine. (tt, refl)) (c .says);
       mark = λ r exit c. answered told-verdict (λ v. v) (λ r. refl) (shape-judged n (length l)) (λ fine. (tt, refl)) (c .says);
       complete = λ r c.
           answered told-completeness (λ v. completeness-by v n l) (λ r. refl) (shape-judged n (length l))
-          (λ fine. (complete 3 n l, yes-or-no-told (complete 3 n l))) c;
+          (λ fine. (complete 3 n l, yes-or-no-told (complete 3 n l))) (c .says);
       layer-part = layer-part-told n l;
-      layer = layer-told n l;
+      layer = layer-told n;
       first-hit = λ k p q r c.
           answered told-hit (λ v. answer-by v (answer-of n l p q (walk-of k n l p q))) (λ r. refl) (walk-judged n (length l) p q)
           (λ fine. hit-told n l p q (walk-of k n l p q)) (c .says);
@@ -121,13 +124,13 @@ grids-told n l =
 
 -- ---- surveyed points
 
-cell-told : (n : Counts) (at : Placement) (p : Point) (r : Lookup) → r ≡ cell-of n at p → ByTests (cell-tests n at p) (told-lookup r)
+cell-told : (n : Counts) (at : Placement) (p : Point) (r : Lookup) → LooksUp n at p r → ByTests (cell-tests n at p) (told-lookup r)
 unfolding cell-of look-up
 cell-told n at p r c =
     answered told-lookup (λ v. passed v (Cell (cell-at n (quotients at p)))) (λ r. refl)
     (counts-judged n next placement-judged at next point-judged P n at p)
     (λ fine. (_, refl))
-    (c ∙ in-one (count-check n) (placement-check at) (point-check P n p (quotients at p)) (Cell (cell-at n (quotients at p))))
+    (c .says ∙ in-one (count-check n) (placement-check at) (point-check P n p (quotients at p)) (Cell (cell-at n (quotients at p))))
   where
     in-one : (u v w : Verdict) (x : Lookup) → passed (u then v) (passed w x) ≡ passed (u then v then w) x
     in-one (Refused r) v w x = refl
@@ -192,30 +195,32 @@ points-told n at = record { cell-of = cell-told n at; see = λ l. see-told n l a
 
 venue-told : (s : List ℕ) (r : VenueRead) → ReadsVenue s r → ByTests (venue-tests s) (told-venue r)
 unfolding venue-read
-venue-told s r c = answered told-venue (λ v. venue-by v (venue-in s)) (λ r. refl) (venue-judged s) (λ fine. (_, refl)) c
+venue-told s r c = answered told-venue (λ v. venue-by v (venue-in s)) (λ r. refl) (venue-judged s) (λ fine. (_, refl)) (c .says)
 
 no-cells : (a : VenueRead) (s : List ℕ) (t : Told) → told-venue a ≡ inl t → part-of a s ≡ []
 no-cells (NoVenue r) s t e = refl
 no-cells (Read v) s t e = one-of-two (sym e)
 
-some-cells : (s : List ℕ) (a : VenueRead) (w : Counts × ℕ × ℕ) → venue-read s ≡ a → told-venue a ≡ inr w → 1 ≤ length (venue-cells s)
-some-cells s (Read v) w is e = empty-part s .accepted v is
-some-cells s (NoVenue r) w is e = one-of-two e
+some-cells : (bytes part : RefT (List ℕ)) → GivesCells bytes part → (a : VenueRead) (w : Counts × ℕ × ℕ) → a ≡ venue-read (bytes .now) → told-venue a ≡ inr w →
+    1 ≤ length (part .now)
+some-cells bytes part c (Read v) w is e = the-part bytes part .accepted v (record { says = is }) c .2
+some-cells bytes part c (NoVenue r) w is e = one-of-two e
 
-cells-told : (s part : List ℕ) → GivesCells s part → (part ≡ []) ↔ ((t : Told) × First (venue-tests s) t)
+cells-told : (bytes part : RefT (List ℕ)) → GivesCells bytes part → (part .now ≡ []) ↔ ((t : Told) × First (venue-tests (bytes .now)) t)
 unfolding venue-cells
-cells-told s part c =
-    empty-by (told-venue (venue-read s)) (venue-told s (venue-read s) refl)
-    (λ t e. c ∙ no-cells (venue-read s) s t e)
-    (λ v e none. omega (arith, some-cells s (venue-read s) v refl e, ap length (sym c ∙ none)))
+cells-told bytes part c =
+    let read = venue-read (bytes .now) in
+    empty-by (told-venue read) (venue-told (bytes .now) read (record { says = refl }))
+    (λ t e. c .says ∙ no-cells read (bytes .now) t e)
+    (λ v e none. omega (arith, some-cells bytes part c read v refl e, ap length none))
 
-pub records-told : (s : List ℕ) → RecordsTold s
+pub records-told : RecordsTold
 unfolding pair-read
-records-told s =
+records-told =
     record {
-      read-venue = venue-told s;
-      venue-cells = cells-told s;
-      read-pair = λ r c. answered told-pair (λ v. pair-by v (pair-in s)) (λ r. refl) (pair-judged s) (λ fine. (_, refl)) c;
+      read-venue = venue-told;
+      venue-cells = cells-told;
+      read-pair = λ s r c. answered told-pair (λ v. pair-by v (pair-in s)) (λ r. refl) (pair-judged s) (λ fine. (_, refl)) (c .says);
       write-venue = λ n cells entry exit r c.
           answered told-written (λ v. written v n) (λ r. refl) (write-judged n (length cells) (length entry)) (λ fine. (_, refl)) (c .says);
     }

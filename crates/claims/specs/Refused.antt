@@ -8,6 +8,7 @@ use mathlib.Core.Logic.{_↔_, _⊎_}
 use lib.IntN.{ℤ, pos, negℤ}
 use lib.Signed.{_<ℤ_, _≤ℤ_}
 use lib.ListN.{length, getD}
+use denote.Ref.{RefT}
 use lib.Ieee.{Float, binary64, sub, div, lt, le}
 use lib.Ieee.Scale.{finite}
 use Rattle.cells.specs.declared.Axis.{Axis}
@@ -27,9 +28,9 @@ use Rattle.lists.specs.declared.Listed.{Listed}
 use Rattle.lists.specs.Lists.{Line6, Line26, told-listed}
 use Rattle.grids.specs.declared.LayerPart.{LayerPart}
 use Rattle.grids.specs.declared.Completeness.{Completeness}
-use Rattle.grids.specs.Grid.{shape, layer-part, layer, told-part}
+use Rattle.grids.specs.Grid.{Shapes, GivesLayerPart, GivesLayer, told-part}
 use Rattle.grids.specs.Inside.{count-on}
-use Rattle.grids.specs.Marks.{Marks, completeness, told-completeness}
+use Rattle.grids.specs.Marks.{Marks, Completes, told-completeness}
 use Rattle.walks.specs.declared.Walker.{Walker}
 use Rattle.walks.specs.declared.FirstHit.{FirstHit}
 use Rattle.walks.specs.Answers.{Finds, told-hit}
@@ -37,17 +38,16 @@ use Rattle.survey.specs.declared.Lookup.{Lookup}
 use Rattle.survey.specs.declared.Placement.{Placement}
 use Rattle.survey.specs.declared.Point.{Point}
 use Rattle.survey.specs.Quotient.{as-f64}
-use Rattle.survey.specs.Survey.{cell-of, told-lookup}
+use Rattle.survey.specs.Survey.{LooksUp, told-lookup}
 use Rattle.sight.specs.declared.Sight.{Sight}
 use Rattle.sight.specs.Sight.{Sees, told-sight}
 use Rattle.buffers.specs.Numbers.{two-at, four-at}
 use Rattle.records.specs.declared.venues.VenueRead.{VenueRead}
 use Rattle.records.specs.declared.pairs.PairRead.{PairRead}
 use Rattle.records.specs.declared.writing.Written.{Written}
-use Rattle.records.specs.Venues.{told-venue, venue-cells}
-use Rattle.records.specs.Pairs.{told-pair}
+use Rattle.records.specs.Venues.{ReadsVenue, GivesCells, told-venue}
+use Rattle.records.specs.Pairs.{ReadsPair, told-pair}
 use Rattle.records.specs.Writing.{WritesVenue, told-written}
-use Rattle.claims.specs.Records.{ReadsVenue, ReadsPair, GivesCells}
 
 -- ---- line lists
 
@@ -160,22 +160,22 @@ pub record LinesTold (p q : Cell) (entry exit : List ℤ) (r : Listed) : Type 0 
 
 -- grid calls; a layer is empty exactly where its partner refuses
 pub record GridsTold (n : Counts) (l : List ℕ) : Type 0 where
-  pub shape : (bytes : ℕ) (r : Verdict) → r ≡ shape n bytes → ByTests (shape-tests n bytes) (told-verdict r)
+  pub shape : (bytes : ℕ) (r : Verdict) → Shapes n bytes r → ByTests (shape-tests n bytes) (told-verdict r)
   pub mark : (r : Verdict) (exit : List ℕ) → Marks n l r exit → ByTests (shape-tests n (length l)) (told-verdict r)
-  pub complete : (r : Completeness) → r ≡ completeness n l → ByTests (shape-tests n (length l)) (told-completeness r)
-  pub layer-part : (z : ℤ) (r : LayerPart) → r ≡ layer-part n (length l) z → ByTests (layer-tests n (length l) z) (told-part r)
-  pub layer : (z : ℤ) (part : List ℕ) → part ≡ layer n l z → (part ≡ []) ↔ ((t : Told) × First (layer-tests n (length l) z) t)
+  pub complete : (r : Completeness) → Completes n l r → ByTests (shape-tests n (length l)) (told-completeness r)
+  pub layer-part : (z : ℤ) (r : LayerPart) → GivesLayerPart n (length l) z r → ByTests (layer-tests n (length l) z) (told-part r)
+  pub layer : (z : ℤ) (cells part : RefT (List ℕ)) → GivesLayer n cells z part → (part .now ≡ []) ↔ ((t : Told) × First (layer-tests n (length (cells .now)) z) t)
   pub first-hit : (k : Walker) (p q : Cell) (r : FirstHit) → Finds k n l p q r → ByTests (walk-tests n (length l) p q) (told-hit r)
 
 -- surveyed points
 pub record PointsTold (n : Counts) (at : Placement) : Type 0 where
-  pub cell-of : (p : Point) (r : Lookup) → r ≡ cell-of n at p → ByTests (cell-tests n at p) (told-lookup r)
+  pub cell-of : (p : Point) (r : Lookup) → LooksUp n at p r → ByTests (cell-tests n at p) (told-lookup r)
   pub see : (l : List ℕ) (camera ball : Point) (r : Sight) → Sees n l at camera ball r → ByTests (sight-tests n (length l) at camera ball) (told-sight r)
 
 -- records; a venue's part is empty exactly where its partner refuses
-pub record RecordsTold (s : List ℕ) : Type 0 where
-  pub read-venue : (r : VenueRead) → ReadsVenue s r → ByTests (venue-tests s) (told-venue r)
-  pub venue-cells : (part : List ℕ) → GivesCells s part → (part ≡ []) ↔ ((t : Told) × First (venue-tests s) t)
-  pub read-pair : (r : PairRead) → ReadsPair s r → ByTests (pair-tests s) (told-pair r)
+pub record RecordsTold : Type 0 where
+  pub read-venue : (s : List ℕ) (r : VenueRead) → ReadsVenue s r → ByTests (venue-tests s) (told-venue r)
+  pub venue-cells : (bytes part : RefT (List ℕ)) → GivesCells bytes part → (part .now ≡ []) ↔ ((t : Told) × First (venue-tests (bytes .now)) t)
+  pub read-pair : (s : List ℕ) (r : PairRead) → ReadsPair s r → ByTests (pair-tests s) (told-pair r)
   pub write-venue : (n : Counts) (cells entry exit : List ℕ) (r : Written) → WritesVenue n cells entry r exit →
       ByTests (write-tests n (length cells) (length entry)) (told-written r)
