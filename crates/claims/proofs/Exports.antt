@@ -9,7 +9,9 @@ use Rattle.cells.specs.declared.Refusal.{Refusal}
 use Rattle.cells.specs.declared.Verdict.{Verdict}
 use Rattle.cells.specs.declared.Verdict.the-variants.{Fine, Refused as Fails}
 use Rattle.lines.specs.Lines.{six-line}
-use Rattle.lists.specs.Lists.{list-check, listed, after-listing}
+use Rattle.cells.specs.Checks.{by-verdict}
+use Rattle.lists.specs.declared.Listed.the-variants.{Cells, Refused as NotListed}
+use Rattle.lists.specs.Lists.{list-check, filled}
 use Rattle.grids.specs.Grid.{shape, layer-part}
 use Rattle.grids.specs.Marks.{marked, after-marking, complete, completeness}
 use Rattle.records.specs.Venues.{venue-head}
@@ -67,7 +69,7 @@ pub refused-untouched : RefusedUntouched
 refused-untouched =
     record {
       lines = λ line p q entry r exit h.
-          untouched (λ f. f .said) (λ v. flat-listed (listed v (length line))) (λ v. after-listing v line entry) refl (λ x. refl)
+          untouched (λ f. f .said) (λ v. flat-listed (by-verdict NotListed (Cells (length line)) v)) (by-verdict (λ x. entry) (filled line entry)) refl (λ x. refl)
           (list-check p q (length line) (length entry)) (h .flat ∙ ap flat-listed (h .meets .says)) (h .meets .holds);
       mark = λ n entry r exit h.
           untouched (λ f. f .said) flat-verdict (λ v. after-marking v n entry) refl (λ x. refl) (shape n (length entry))

@@ -9,16 +9,14 @@ use lib.ListN.{length, getD}
 use Rattle.cells.specs.declared.Axis.{Axis}
 use Rattle.cells.specs.declared.Axis.the-variants.{X, Y, Z}
 use Rattle.cells.specs.declared.Cell.{Cell}
-use Rattle.cells.specs.declared.Refusal.{Refusal}
-use Rattle.cells.specs.declared.Verdict.{Verdict}
-use Rattle.cells.specs.declared.Verdict.the-variants.{Fine, Refused as Fails}
 use Rattle.cells.specs.Touching.{on}
+use Rattle.cells.proofs.Checks.{by-refusal}
 use Rattle.lines.specs.Preference.{rule-1}
 use Rattle.lines.specs.Lines.{six-line, line-26, in-limit, InLimit}
 use Rattle.lines.proofs.Cells.{limited-difference}
 use Rattle.lists.specs.declared.Listed.{Listed}
 use Rattle.lists.specs.declared.Listed.the-variants.{Cells, Refused}
-use Rattle.lists.specs.Lists.{list-check, listed, after-listing}
+use Rattle.lists.specs.Lists.{list-check, filled}
 use Rattle.lists.proofs.Front.{numbers-length}
 use Rattle.claims.specs.Lists.{ListedOnce, Longest, LongestLists, lowest, highest, WrongLists}
 use Rattle.claims.proofs.Lines.{six-line-holds, line-26-holds}
@@ -34,12 +32,10 @@ listed-once line p q entry =
     record {
       answer = λ r s exit last h k. h .says ∙ sym (k .says);
       memory = λ r s exit last h k. h .holds ∙ sym (k .holds);
-      untouched = λ r exit h. by (list-check p q (length line) (length entry)) r (h .says) (h .holds);
+      untouched = λ r exit h.
+          by-refusal Refused (list-check p q (length line) (length entry)) (Cells (length line)) (filled line entry)
+          (λ e. let z : _≡_ {A = ℕ} 1 0 = ap accepted e in omega arith) (sym (h .says)) (h .holds);
     }
-  where
-    by : (v : Verdict) {exit : List ℤ} (r : Refusal) → Refused r ≡ listed v (length line) → exit ≡ after-listing v line entry → exit ≡ entry
-    by Fine r h e = absurd (let z : _≡_ {A = ℕ} 0 1 = ap accepted h in omega arith)
-    by (Fails x) r h e = e
 
 -- the corners are accepted
 corners : InLimit lowest × InLimit highest

@@ -13,7 +13,7 @@ use Rattle.cells.specs.declared.Counts.{Counts}
 use Rattle.cells.specs.declared.End.the-variants.{P, Q}
 use Rattle.cells.specs.declared.Verdict.{Verdict}
 use Rattle.cells.specs.declared.Verdict.the-variants.{Fine, Refused}
-use Rattle.cells.specs.Checks.{_then_}
+use Rattle.cells.specs.Checks.{_then_, by-verdict}
 use Rattle.cells.specs.Refusals.{Told, told-verdict}
 use Rattle.cells.specs.Tests.{First, ByTests}
 use Rattle.cells.proofs.Checks.{each-fine}
@@ -21,7 +21,8 @@ use Rattle.cells.proofs.Tests.{_next_, answered, empty-by}
 use Rattle.lines.specs.Lines.{six-line, line-26}
 use Rattle.lines.specs.Preference.{rule-1}
 use Rattle.lists.specs.declared.Listed.{Listed}
-use Rattle.lists.specs.Lists.{listed, Lists, told-listed}
+use Rattle.lists.specs.declared.Listed.the-variants.{Cells, Refused as NotListed}
+use Rattle.lists.specs.Lists.{Lists, told-listed}
 use Rattle.grids.specs.declared.LayerPart.{LayerPart}
 use Rattle.grids.specs.declared.LayerPart.the-variants.{Part, Refused as NoPart}
 use Rattle.grids.specs.Grid.{count-check, shape, part-by, layer-part, GivesLayerPart, told-part, bytes-of, layer, GivesLayer}
@@ -34,16 +35,17 @@ use Rattle.walks.specs.declared.Hit.{Hit}
 use Rattle.walks.specs.declared.FirstHit.{FirstHit}
 use Rattle.walks.specs.declared.FirstHit.the-variants.{Clear, Hit as Blocked, Refused as NotWalked}
 use Rattle.walks.specs.Walks.{hit-at, walk-of}
-use Rattle.walks.specs.Answers.{last-of, answer-of, answer-by, first-hit, told-hit}
+use Rattle.walks.specs.Answers.{last-of, answer-of, first-hit, told-hit}
 use Rattle.survey.specs.declared.Lookup.{Lookup}
-use Rattle.survey.specs.declared.Lookup.the-variants.{Cell}
+use Rattle.survey.specs.declared.Lookup.the-variants.{Cell, Refused as NoCell}
 use Rattle.survey.specs.declared.Placement.{Placement}
 use Rattle.survey.specs.declared.Point.{Point}
-use Rattle.survey.specs.Survey.{placement-check, Tested, quotients, point-check, cell-at, passed, look-up, cell-of, LooksUp, told-lookup}
+use Rattle.survey.specs.Survey.{placement-check, Tested, quotients, point-check, cell-at, look-up, cell-of, LooksUp, told-lookup}
 use Rattle.survey.proofs.Lookups.{lookup-found}
 use Rattle.sight.specs.declared.Block.{Block}
 use Rattle.sight.specs.declared.Sight.{Sight}
-use Rattle.sight.specs.Sight.{sight-of, seen, if-fine, looked, sight, Sees, told-sight}
+use Rattle.sight.specs.declared.Sight.the-variants.{Refused as NotSeen}
+use Rattle.sight.specs.Sight.{sight-of, seen, looked, sight, Sees, told-sight}
 use Rattle.sight.proofs.Walkable.{walkable}
 use Rattle.records.specs.declared.venues.VenueRead.{VenueRead}
 use Rattle.records.specs.declared.venues.VenueRead.the-variants.{Read, Refused as NoVenue}
@@ -60,7 +62,7 @@ use Rattle.claims.proofs.Judged.{line-judged, counts-judged, shape-judg
 listed-told : (line : List cell.Cell) (p q : cell.Cell) (entry exit : List ℤ) (r : Listed) → Lists line p q entry r exit →
     ByTests (line-tests p q (length line) (length entry)) (told-listed r)
 listed-told line p q entry exit r c =
-    answered told-listed (λ v. listed v (length line)) (λ r. refl) (line-judged p q (length line) (length entry)) (λ fine. (length line, refl)) (c .says)
+    answered told-listed (by-verdict NotListed (Cells (length line))) (λ r. refl) (line-judged p q (length line) (length entry)) (λ fine. (length line, refl)) (c .says)
 
 pub lines-told : (p q : cell.Cell) (entry exit : List ℤ) (r : Listed) → LinesTold p q entry exit r
 lines-told p q entry exit r =
@@ -118,7 +120,7 @@ grids-told n l =
       layer-part = layer-part-told n l;
       layer = layer-told n;
       first-hit = λ k p q r c.
-          answered told-hit (λ v. answer-by v (answer-of n l p q (walk-of k n l p q))) (λ r. refl) (walk-judged n (length l) p q)
+          answered told-hit (by-verdict NotWalked (answer-of n l p q (walk-of k n l p q))) (λ r. refl) (walk-judged n (length l) p q)
           (λ fine. hit-told n l p q (walk-of k n l p q)) (c .says);
     }
 
@@ -127,12 +129,12 @@ grids-told n l =
 cell-told : (n : Counts) (at : Placement) (p : Point) (r : Lookup) → LooksUp n at p r → ByTests (cell-tests n at p) (told-lookup r)
 unfolding cell-of look-up
 cell-told n at p r c =
-    answered told-lookup (λ v. passed v (Cell (cell-at n (quotients at p)))) (λ r. refl)
+    answered told-lookup (by-verdict NoCell (Cell (cell-at n (quotients at p)))) (λ r. refl)
     (counts-judged n next placement-judged at next point-judged P n at p)
     (λ fine. (_, refl))
     (c .says ∙ in-one (count-check n) (placement-check at) (point-check P n p (quotients at p)) (Cell (cell-at n (quotients at p))))
   where
-    in-one : (u v w : Verdict) (x : Lookup) → passed (u then v) (passed w x) ≡ passed (u then v then w) x
+    in-one : (u v w : Verdict) (x : Lookup) → by-verdict NoCell (by-verdict NoCell x w) (u then v) ≡ by-verdict NoCell x (u then v then w)
     in-one (Refused r) v w x = refl
     in-one Fine (Refused r) w x = refl
     in-one Fine Fine w x = refl
@@ -156,12 +158,12 @@ module _ (n : Counts) (l : List ℕ) (at : Placement) (camera ball : Point) wher
   abbrev sight-check : Verdict
   sight-check = shape n (length l) then placement-check at then point-check P n camera (quotients at camera) then point-check Q n ball (quotients at ball)
 
-  sight-by : sight n l at camera ball ≡ if-fine sight-check (sight-of (first-hit Adaptive n l from to))
+  sight-by : sight n l at camera ball ≡ by-verdict NotSeen (sight-of (first-hit Adaptive n l from to)) sight-check
   unfolding sight looked look-up
   sight-by = in-one (shape n (length l)) (placement-check at) (point-check P n camera (quotients at camera)) (point-check Q n ball (quotients at ball))
     where
-      in-one : (u v w x : Verdict) → if-fine u (if-fine v (seen n l (passed w (Cell from)) (passed x (Cell to))))
-          ≡ if-fine (u then v then w then x) (sight-of (first-hit Adaptive n l from to))
+      in-one : (u v w x : Verdict) → by-verdict NotSeen (seen n l (by-verdict NoCell (Cell from) w) (by-verdict NoCell (Cell to) x)) (u then v)
+          ≡ by-verdict NotSeen (sight-of (first-hit Adaptive n l from to)) (u then v then w then x)
       in-one (Refused r) v w x = refl
       in-one Fine (Refused r) w x = refl
       in-one Fine Fine (Refused r) x = refl
@@ -183,7 +185,7 @@ module _ (n : Counts) (l : List ℕ) (at : Placement) (camera ball : Point) wher
 
   see-told : (r : Sight) → Sees n l at camera ball r → ByTests (sight-tests n (length l) at camera ball) (told-sight r)
   see-told r c =
-      answered told-sight (λ v. if-fine v (sight-of (first-hit Adaptive n l from to))) (λ r. refl)
+      answered told-sight (by-verdict NotSeen (sight-of (first-hit Adaptive n l from to))) (λ r. refl)
       (shape-judged n (length l) next placement-judged at next point-judged P n at camera next point-judged Q n at ball)
       (λ fine. let (w, is) = walked fine in sight-told (first-hit Adaptive n l from to) w is)
       (c .says ∙ sight-by)

@@ -9,8 +9,8 @@ use Rattle.cells.specs.declared.Cell as cell
 use Rattle.cells.specs.declared.Counts.{Counts}
 use Rattle.cells.specs.declared.End.the-variants.{P}
 use Rattle.cells.specs.declared.Refusal.{Refusal}
-use Rattle.cells.specs.declared.Verdict.{Verdict}
-use Rattle.cells.specs.declared.Verdict.the-variants.{Fine, Refused as Fails}
+use Rattle.cells.specs.Checks.{_then_, by-verdict}
+use Rattle.cells.proofs.Checks.{by-fine}
 use Rattle.grids.specs.Grid.{shape}
 use Rattle.walks.specs.declared.Walker.the-variants.{Adaptive}
 use Rattle.walks.specs.declared.FirstHit.{FirstHit}
@@ -23,7 +23,7 @@ use Rattle.survey.specs.declared.Point.{Point}
 use Rattle.survey.specs.Survey.{placement-check, look-up}
 use Rattle.sight.specs.declared.Sight.{Sight}
 use Rattle.sight.specs.declared.Sight.the-variants.{Clear, Blocked, Refused}
-use Rattle.sight.specs.Sight.{sight-of, seen, if-fine, looked, sight}
+use Rattle.sight.specs.Sight.{sight-of, seen, looked, sight}
 use Rattle.sight.proofs.Seen.{looked-is, sight-is, camera-refused, both-found}
 use Rattle.claims.proofs.Story.{nothing-in-the-way}
 use Rattle.claims.specs.Sights.{SeenOnce, AsTheWalk, NothingInSight, CameraFirst, WrongSights}
@@ -42,10 +42,9 @@ walk-clear (Open reads) e = (reads, refl)
 walk-clear (Hit h) e = absurd (let z : _≡_ {A = ℕ} 1 0 = ap kind e in omega arith)
 walk-clear (NotWalked r) e = absurd (let z : _≡_ {A = ℕ} 2 0 = ap kind e in omega arith)
 
-fine-clear : (v : Verdict) (s : Sight) → if-fine v s ≡ Clear → s ≡ Clear
+not-clear : (r : Refusal) → ¬ (Refused r ≡ Clear)
 unfolding kind
-fine-clear Fine s e = e
-fine-clear (Fails r) s e = absurd (let z : _≡_ {A = ℕ} 2 0 = ap kind e in omega arith)
+not-clear r e = let z : _≡_ {A = ℕ} 2 0 = ap kind e in omega arith
 
 seen-clear : (n : Counts) (l : List ℕ) (f t : Lookup) → seen n l f t ≡ Clear →
     (c : cell.Cell) × (b : cell.Cell) × (reads : ℕ) × (f ≡ Cell c) × (t ≡ Cell b) × (first-hit Adaptive n l c b ≡ Open reads)
@@ -65,7 +64,7 @@ module _ (n : Counts) (l : List ℕ) (at : Placement) (camera ball : Point) wher
       record {
         same = λ c b r h fine placed from to sees hit.
             sees .says ∙ sight-is n l at camera ball ∙
-            ap₂ (λ v w. if-fine v (if-fine w (looked n l at camera ball))) fine placed ∙
+            ap₂ (λ v w. by-verdict Refused (looked n l at camera ball) (v then w)) fine placed ∙
             both-found n l at camera ball (sym from) refl (sym to) refl (hit .says);
       }
 
@@ -73,7 +72,7 @@ module _ (n : Counts) (l : List ℕ) (at : Placement) (camera ball : Point) wher
   nothing-in-sight =
       record {
         open-way = λ whole sees.
-            let clear = fine-clear (placement-check at) _ (fine-clear (shape n (length l)) _ (sym (sight-is n l at camera ball) ∙ sym (sees .says))) in
+            let (fine, clear) = by-fine Refused (shape n (length l) then placement-check at) _ not-clear (sym (sight-is n l at camera ball) ∙ sym (sees .says)) in
             let (c, b, reads, from, to, walk) = seen-clear n l _ _ (sym (looked-is n l at camera ball) ∙ clear) in
             record {
               from = c;
@@ -87,13 +86,13 @@ module _ (n : Counts) (l : List ℕ) (at : Placement) (camera ball : Point) wher
 pub camera-first : (n : Counts) (l : List ℕ) (at : Placement) (camera : Point) → CameraFirst n l at camera
 camera-first n l at camera =
     record {
-      refusal = λ r fine placed lost ball s hs. hs .says ∙ alike r lost ball ∙ ap₂ (λ v w. if-fine v (if-fine w (Refused r))) fine placed;
+      refusal = λ r fine placed lost ball s hs. hs .says ∙ alike r lost ball ∙ ap₂ (λ v w. by-verdict Refused (Refused r) (v then w)) fine placed;
       any-ball = λ r lost ball other s t hs ht. hs .says ∙ alike r lost ball ∙ sym (alike r lost other) ∙ sym (ht .says);
     }
   where
     alike : (r : Refusal) → look-up P n at camera ≡ NoCell r → (ball : Point) →
-        sight n l at camera ball ≡ if-fine (shape n (length l)) (if-fine (placement-check at) (Refused r))
-    alike r lost ball = sight-is n l at camera ball ∙ ap (λ s. if-fine (shape n (length l)) (if-fine (placement-check at) s)) (camera-refused n l at camera ball (sym lost) refl)
+        sight n l at camera ball ≡ by-verdict Refused (Refused r) (shape n (length l) then placement-check at)
+    alike r lost ball = sight-is n l at camera ball ∙ ap (λ s. by-verdict Refused s (shape n (length l) then placement-check at)) (camera-refused n l at camera ball (sym lost) refl)
 
 -- ---- wrong sights
 

@@ -10,6 +10,7 @@ use Rattle.cells.specs.declared.Cell.{Cell}
 use Rattle.cells.specs.declared.Counts.{Counts}
 use Rattle.cells.specs.declared.Verdict.{Verdict}
 use Rattle.cells.specs.declared.Verdict.the-variants.{Fine, Refused as Fails}
+use Rattle.cells.specs.Checks.{by-verdict}
 use Rattle.lines.specs.Steps.{total}
 use Rattle.lines.specs.Preference.{rule-1}
 use Rattle.lines.specs.Lines.{differences, six-cell}
@@ -23,7 +24,7 @@ use Rattle.walks.specs.declared.Hit.{Hit}
 use Rattle.walks.specs.declared.FirstHit.{FirstHit}
 use Rattle.walks.specs.declared.FirstHit.the-variants.{Clear, Hit as Blocked, Refused}
 use Rattle.walks.specs.Walks.{hit-at, six-count}
-use Rattle.walks.specs.Answers.{entered-at, answer-by, first-hit}
+use Rattle.walks.specs.Answers.{entered-at, first-hit}
 use Rattle.grids.specs.Inside.{walk-check, InGrid}
 use Rattle.walks.proofs.Runs.{plain-first, by-one, visits-all}
 use Rattle.walks.specs.Numbers.{solid-at, end-of, reads-of, answer-at}
@@ -62,7 +63,7 @@ module _ (n : Counts) (l : List ℕ) (p q : Cell) where
       let a = accepted n (length l) p q fine in
       ends-alike n l p q 3 (omega arith) (a .p-in) (a .q-in) (complete-safe 3 n l (a .shaped) whole)
 
-  same-answers : complete 3 n l ≡ true → (v : Verdict) → check ≡ v → SameStory (answer-by v (answer-at n l p q (end-of n l p q Plain) (reads-of n l p q Plain))) (answer-by v (answer-at n l p q (end-of n l p q Adaptive) (reads-of n l p q Adaptive)))
+  same-answers : complete 3 n l ≡ true → (v : Verdict) → check ≡ v → SameStory (by-verdict Refused (answer-at n l p q (end-of n l p q Plain) (reads-of n l p q Plain)) v) (by-verdict Refused (answer-at n l p q (end-of n l p q Adaptive) (reads-of n l p q Adaptive)) v)
   same-answers whole (Fails r) h = refusals
   same-answers whole Fine h =
       let e = alike h whole in
@@ -85,7 +86,7 @@ module _ (n : Counts) (l : List ℕ) (p q : Cell) where
   -- ---- in any grid
 
   -- an answer that is a hit is the hit at the walk's end
-  hit-told : (v : Verdict) (k : Hit) (e r : ℕ) → Blocked k ≡ answer-by v (answer-at n l p q e r) →
+  hit-told : (v : Verdict) (k : Hit) (e r : ℕ) → Blocked k ≡ by-verdict Refused (answer-at n l p q e r) v →
       (v ≡ Fine) × (hit-at n l (six-cell rule-1 p q e) ≡ true) × (k ≡ record { cell = six-cell rule-1 p q e; code = byte-of n l (six-cell rule-1 p q e); place = entered-at p q e; reads = r })
   unfolding kind hit-or
   hit-told (Fails x) k e r h = absurd (let z : _≡_ {A = ℕ} 0 2 = ap kind h in omega arith)
@@ -99,7 +100,7 @@ module _ (n : Counts) (l : List ℕ) (p q : Cell) where
       by false b h = absurd (let z : _≡_ {A = ℕ} 0 1 = ap kind h in omega arith)
 
   -- an answer that is clear is so at the walk's end
-  clear-told : (v : Verdict) (k e r : ℕ) → Clear k ≡ answer-by v (answer-at n l p q e r) → (v ≡ Fine) × (hit-at n l (six-cell rule-1 p q e) ≡ false) × (k ≡ r)
+  clear-told : (v : Verdict) (k e r : ℕ) → Clear k ≡ by-verdict Refused (answer-at n l p q e r) v → (v ≡ Fine) × (hit-at n l (six-cell rule-1 p q e) ≡ false) × (k ≡ r)
   unfolding kind reads-or
   clear-told (Fails x) k e r h = absurd (let z : _≡_ {A = ℕ} 1 2 = ap kind h in omega arith)
   clear-told Fine k e r h = by _ (hit-at n l (six-cell rule-1 p q e)) refl h
@@ -110,7 +111,7 @@ module _ (n : Counts) (l : List ℕ) (p q : Cell) where
       by there true b h = absurd (let z : _≡_ {A = ℕ} 1 0 = ap kind h in omega arith)
       by there false b h = (refl, b, ap (reads-or k) h)
 
-  inside-at : (h : Hit) (e r : ℕ) → e ≤ total (differences p q) → Blocked h ≡ answer-by check (answer-at n l p q e r) → InGrid n (h .cell)
+  inside-at : (h : Hit) (e r : ℕ) → e ≤ total (differences p q) → Blocked h ≡ by-verdict Refused (answer-at n l p q e r) check → InGrid n (h .cell)
   inside-at h e r le is =
       let (fine, hit, there) = hit-told check h e r is in
       let a = accepted n (length l) p q fine in
@@ -125,7 +126,7 @@ module _ (n : Counts) (l : List ℕ) (p q : Cell) where
   pub hit-place : HitPlace n l p q
   hit-place = record { there = λ w h a. at h (end-of n l p q w) (reads-of n l p q w) (end-below n l p q w) (a .says ∙ first-hit-is n l p q w) }
     where
-      at : (h : Hit) (e r : ℕ) → e ≤ total (differences p q) → Blocked h ≡ answer-by check (answer-at n l p q e r) → (s : ℕ) × OnTheLine n l p q h s
+      at : (h : Hit) (e r : ℕ) → e ≤ total (differences p q) → Blocked h ≡ by-verdict Refused (answer-at n l p q e r) check → (s : ℕ) × OnTheLine n l p q h s
       at h e r le is =
           let (fine, hit, there) = hit-told check h e r is in
           let cell = ap (λ k. k .cell) there in
@@ -166,7 +167,7 @@ module _ (n : Counts) (l : List ℕ) (p q : Cell) where
             let (fine, hit, is) = hit-told check k (end-of n l p q Adaptive) (reads-of n l p q Adaptive) (ha .says ∙ first-hit-is n l p q Adaptive) in
             let there : Hit = record { cell = six-cell rule-1 p q (end-of n l p q Plain); code = byte-of n l (six-cell rule-1 p q (end-of n l p q Plain)); place = entered-at p q (end-of n l p q Plain); reads = reads-of n l p q Plain } in (
               there,
-              hp .says ∙ first-hit-is n l p q Plain ∙ ap (λ v. answer-by v (answer-at n l p q (end-of n l p q Plain) (reads-of n l p q Plain))) fine ∙ ap (λ b. cond b (Blocked there) (Clear (reads-of n l p q Plain))) (not-invented n l p q hit),
+              hp .says ∙ first-hit-is n l p q Plain ∙ ap (by-verdict Refused (answer-at n l p q (end-of n l p q Plain) (reads-of n l p q Plain))) fine ∙ ap (λ b. cond b (Blocked there) (Clear (reads-of n l p q Plain))) (not-invented n l p q hit),
               subst (λ h. there .place .num * h .place .den ≤ h .place .num * there .place .den) (sym is) (never-falls p q (end-of n l p q Plain) (end-of n l p q Adaptive) (no-earlier n l p q) (end-below n l p q Adaptive)),
               record {
                 of-c = end-of n l p q Plain;

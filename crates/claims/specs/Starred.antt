@@ -10,10 +10,12 @@ use Rattle.cells.specs.declared.Cell.{Cell}
 use Rattle.cells.specs.declared.Counts.{Counts}
 use Rattle.cells.specs.declared.Axis.the-variants.{X, Y}
 use Rattle.cells.specs.declared.End.the-variants.{P, Q}
+use Rattle.cells.specs.Checks.{by-verdict}
 use Rattle.cells.specs.Refusals.{Told, alone, at-end}
 use Rattle.lines.specs.Preference.{rule-1}
 use Rattle.lines.specs.Lines.{six-line, line-26}
-use Rattle.lists.specs.Lists.{list-check, listed, told-listed}
+use Rattle.lists.specs.declared.Listed.the-variants.{Cells, Refused as NotListed}
+use Rattle.lists.specs.Lists.{list-check, told-listed}
 use Rattle.grids.specs.Marks.{marked}
 use Rattle.records.specs.Venues.{venue-read, venue-cells, told-venue}
 use Rattle.records.specs.Pairs.{pair-read, told-pair}
@@ -65,7 +67,7 @@ pub data Row : Type 0 where
 abbrev pub Holds : Row → Type 0
 Holds (six p q l) = six-line rule-1 p q ≡ l
 Holds (twenty-six p q l) = line-26 p q ≡ l
-Holds (lists p q room says) = told-listed (listed (list-check p q (length (six-line rule-1 p q)) room) (length (six-line rule-1 p q))) ≡ says
+Holds (lists p q room says) = told-listed (by-verdict NotListed (Cells (length (six-line rule-1 p q))) (list-check p q (length (six-line rule-1 p q)) room)) ≡ says
 Holds (marks n l m) = marked 3 n l ≡ m
 Holds (finds w n l p q says) = told-hit (first-hit w n l p q) ≡ says
 Holds (venue s n cells) = told-venue (venue-read s) ≡ inr (n, length s - length cells, length cells)

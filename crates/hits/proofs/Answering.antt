@@ -1,6 +1,6 @@
 -- A first-hit call, whichever its walk: a refusal is the verdict's; an accepted walk stops where the definition's ends, and answers from there.
 -- Assumes nothing.
-use mathlib.Core.Path.{_≡_, sym, _∙_}
+use mathlib.Core.Path.{_≡_, sym, ap, _∙_}
 use mathlib.Core.List.{List}
 use Prim.Native.Nat.{ℕ}
 use lib.ListN.{length}
@@ -8,6 +8,7 @@ use Rattle.cells.specs.declared.Cell.{Cell}
 use Rattle.cells.specs.declared.Counts.{Counts}
 use Rattle.cells.specs.declared.Refusal.{Refusal}
 use Rattle.cells.specs.declared.Verdict.the-variants.{Fine, Refused}
+use Rattle.cells.specs.Checks.{by-verdict}
 use Rattle.walks.specs.declared.Walker.{Walker}
 use Rattle.walks.specs.declared.FirstHit.{FirstHit}
 use Rattle.walks.specs.declared.FirstHit.the-variants.{Refused as NotWalked}
@@ -18,7 +19,7 @@ use Rattle.walks.proofs.Story.{end-below, first-hit-is}
 use Rattle.routes.specs.declared.Route.{Route}
 use Rattle.routes.specs.Route.{RouteOf, Planned, HasByte}
 use Rattle.routes.proofs.Spots.{spot-byte, place-within}
-use Rattle.routes.proofs.Accepting.{of-route, answer-fine, answer-refused}
+use Rattle.routes.proofs.Accepting.{of-route}
 use Rattle.hits.specs.declared.Stop.{Stop}
 use Rattle.hits.specs.Found.{going, Stops, found}
 use Rattle.hits.specs.Answer.{answer-from}
@@ -34,12 +35,12 @@ module _ (w : Walker) (l : List ℕ) (k : Route) (plan : Planned (length l) k) (
 
 module _ (w : Walker) (n : Counts) (l : List ℕ) (p q : Cell) where
   pub refused-finds : {r : Refusal} → walk-check n (length l) p q ≡ Refused r → Finds w n l p q (NotWalked r)
-  refused-finds h = record { says = answer-refused _ _ h ∙ sym (first-hit-is n l p q w) }
+  refused-finds h = record { says = ap (by-verdict NotWalked _) (sym h) ∙ sym (first-hit-is n l p q w) }
 
   pub found-finds : (k : Route) → walk-check n (length l) p q ≡ Fine → RouteOf n p q k → {a : FirstHit} → a ≡ found l k w → Finds w n l p q a
   found-finds k fine route is =
       record {
         says =
             is ∙ of-route _ _ _ _ route (λ m c d. answer-at m l c d (end-of m l c d w) (reads-of m l c d w))
-            ∙ answer-fine _ fine ∙ sym (first-hit-is n l p q w);
+            ∙ ap (by-verdict NotWalked _) (sym fine) ∙ sym (first-hit-is n l p q w);
       }

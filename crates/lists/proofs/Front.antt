@@ -26,7 +26,7 @@ use Rattle.lines.specs.Lines.{in-limit, InLimit}
 use Rattle.cells.specs.Tabulate.{tabulate}
 use Rattle.cells.proofs.Tabulate.{tabulate-length}
 use Rattle.lists.specs.declared.Listed.the-variants.{Cells, Refused as NotListed}
-use Rattle.lists.specs.Lists.{end-check, ends-check, list-check, listed, numbers, filled, after-listing, Lists}
+use Rattle.lists.specs.Lists.{end-check, ends-check, numbers, filled, Lists}
 use Rattle.lists.specs.Way.{put3}
 
 -- ---- numbers

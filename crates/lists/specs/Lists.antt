@@ -14,8 +14,7 @@ use Rattle.cells.specs.declared.End.the-variants.{P, Q}
 use Rattle.cells.specs.declared.Cell.{Cell}
 use Rattle.cells.specs.declared.Refusal.the-variants.{Limit, Room}
 use Rattle.cells.specs.declared.Verdict.{Verdict}
-use Rattle.cells.specs.declared.Verdict.the-variants.{Fine, Refused}
-use Rattle.cells.specs.Checks.{refuse-when, _then_}
+use Rattle.cells.specs.Checks.{refuse-when, _then_, by-verdict}
 use Rattle.cells.specs.Refusals.{Told, told}
 use Rattle.lines.specs.Preference.{rule-1}
 use Rattle.lines.specs.Lines.{six-line, line-26, in-limit}
@@ -41,24 +40,14 @@ abbrev pub numbers : List Cell → List ℤ
 numbers [] = []
 numbers (c ∷ l) = c .x ∷ c .y ∷ c .z ∷ numbers l
 
--- the answer, by the verdict on the inputs
-abbrev pub listed : Verdict → ℕ → Listed
-listed Fine cells = Cells cells
-listed (Refused r) cells = NotListed r
-
 -- the line at the front, the rest as it was
 abbrev pub filled : List Cell → List ℤ → List ℤ
 filled line entry = numbers line ++ drop (3 * length line) entry
 
--- the memory then: refused, as it was
-abbrev pub after-listing : Verdict → List Cell → List ℤ → List ℤ
-after-listing Fine line entry = filled line entry
-after-listing (Refused r) line entry = entry
-
--- a call that lists a line: its answer and the memory at exit, from its inputs
+-- a call that lists a line: its answer and the memory at exit, from its inputs; refused, the memory as it was
 pub record Lists (line : List Cell) (p q : Cell) (entry : List ℤ) (r : Listed) (exit : List ℤ) : Type 0 where
-  pub says : r ≡ listed (list-check p q (length line) (length entry)) (length line)
-  pub holds : exit ≡ after-listing (list-check p q (length line) (length entry)) line entry
+  pub says : r ≡ by-verdict NotListed (Cells (length line)) (list-check p q (length line) (length entry))
+  pub holds : exit ≡ by-verdict (λ r. entry) (filled line entry) (list-check p q (length line) (length entry))
 
 -- the contracts of the two calls
 abbrev pub Line6 : Cell → Cell → List ℤ → Listed → List ℤ → Type 0

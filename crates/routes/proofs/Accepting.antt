@@ -1,19 +1,14 @@
--- A call that passed its tests has a route between two cells of the grid; what was found along it is the call's answer. Assumes nothing.
+-- A call that passed its tests has a route between two cells of the grid. Assumes nothing.
 use mathlib.Core.Path.{_≡_, sym, ap, ap₂, _∙_, subst}
 use Prim.Native.Nat.{ℕ}
 use Rattle.cells.specs.declared.Cell.{Cell}
 use Rattle.cells.specs.declared.Counts.{Counts}
-use Rattle.cells.specs.declared.Refusal.{Refusal}
-use Rattle.cells.specs.declared.Verdict.{Verdict}
-use Rattle.cells.specs.declared.Verdict.the-variants.{Fine, Refused}
+use Rattle.cells.specs.declared.Verdict.the-variants.{Fine}
 use Rattle.lines.specs.Lines.{differences}
 use Rattle.lines.specs.Decisions.{doubled}
 use Rattle.tripod.specs.Tripod.{steps, Short}
 use Rattle.grids.specs.Inside.{Shaped, walk-check, InGrid, Enclosed}
 use Rattle.grids.proofs.Shapes.{shaped}
-use Rattle.walks.specs.declared.FirstHit.{FirstHit}
-use Rattle.walks.specs.declared.FirstHit.the-variants.{Refused as NotWalked}
-use Rattle.walks.specs.Answers.{answer-by}
 use Rattle.grids.proofs.Inside.{accepted}
 use Rattle.routes.specs.declared.Route.{Route}
 use Rattle.routes.specs.Route.{strides, RouteOf, Planned}
@@ -45,10 +40,3 @@ p-enclosed {bytes} plan = (record { bytes = bytes; shaped = plan .shaped; inside
 -- what is said of a route's grid and ends is said of those of the call
 pub of-route : {A : Type 0} (n : Counts) (p q : Cell) (k : Route) → RouteOf n p q k → (f : Counts → Cell → Cell → A) → f (k .n) (k .p) (k .q) ≡ f n p q
 of-route n p q k r f = ap (λ m. f m (k .p) (k .q)) (r .grid) ∙ ap₂ (f n) (r .start) (r .end)
-
--- the answer, by the verdict
-pub answer-fine : {v : Verdict} (a : FirstHit) → v ≡ Fine → a ≡ answer-by v a
-answer-fine a e = ap (λ v. answer-by v a) (sym e)
-
-pub answer-refused : {v : Verdict} (r : Refusal) (a : FirstHit) → v ≡ Refused r → NotWalked r ≡ answer-by v a
-answer-refused r a e = ap (λ v. answer-by v a) (sym e)

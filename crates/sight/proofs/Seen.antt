@@ -7,6 +7,7 @@ use Rattle.cells.specs.declared.Cell as cell
 use Rattle.cells.specs.declared.Counts.{Counts}
 use Rattle.cells.specs.declared.End.the-variants.{P, Q}
 use Rattle.cells.specs.declared.Refusal.{Refusal}
+use Rattle.cells.specs.Checks.{_then_, by-verdict}
 use Rattle.grids.specs.Grid.{shape}
 use Rattle.walks.specs.declared.Walker.the-variants.{Adaptive}
 use Rattle.walks.specs.declared.FirstHit.{FirstHit}
@@ -17,14 +18,14 @@ use Rattle.survey.specs.declared.Placement.{Placement}
 use Rattle.survey.specs.declared.Point.{Point}
 use Rattle.survey.specs.Survey.{placement-check, look-up}
 use Rattle.sight.specs.declared.Sight.the-variants.{Refused}
-use Rattle.sight.specs.Sight.{sight-of, seen, if-fine, looked, sight}
+use Rattle.sight.specs.Sight.{sight-of, seen, looked, sight}
 
 module _ (n : Counts) (l : List ℕ) (at : Placement) (camera ball : Point) where
   pub looked-is : looked n l at camera ball ≡ seen n l (look-up P n at camera) (look-up Q n at ball)
   unfolding looked
   looked-is = refl
 
-  pub sight-is : sight n l at camera ball ≡ if-fine (shape n (length l)) (if-fine (placement-check at) (looked n l at camera ball))
+  pub sight-is : sight n l at camera ball ≡ by-verdict Refused (looked n l at camera ball) (shape n (length l) then placement-check at)
   unfolding sight
   sight-is = refl
 

@@ -8,8 +8,7 @@ use lib.ListN.{length}
 use Rattle.cells.specs.declared.Cell as cell
 use Rattle.cells.specs.declared.Counts.{Counts}
 use Rattle.cells.specs.declared.End.the-variants.{P, Q}
-use Rattle.cells.specs.declared.Verdict.{Verdict}
-use Rattle.cells.specs.declared.Verdict.the-variants.{Fine, Refused as Fails}
+use Rattle.cells.specs.Checks.{_then_, by-verdict}
 use Rattle.cells.specs.Refusals.{Told, told}
 use Rattle.grids.specs.Grid.{shape}
 use Rattle.walks.specs.declared.Walker.the-variants.{Adaptive}
@@ -42,11 +41,6 @@ seen n l (NoCell r) ball = Refused r
 seen n l (Cell c) (NoCell r) = Refused r
 seen n l (Cell c) (Cell b) = sight-of (first-hit Adaptive n l c b)
 
--- an answer that is given only where the tests before it are passed
-abbrev pub if-fine : Verdict → Sight → Sight
-if-fine Fine s = s
-if-fine (Fails r) s = Refused r
-
 -- the two lookups, camera P and ball Q, counts and placement being tested
 unfoldable pub looked : Counts → List ℕ → Placement → Point → Point → Sight
 unfolding look-up first-hit
@@ -55,7 +49,7 @@ looked n l at camera ball = seen n l (look-up P n at camera) (look-up Q n at bal
 -- "2, 3, 7 (origin x, y, z, edge), camera x (8, then 9), y, z, then the ball"
 unfoldable pub sight : Counts → List ℕ → Placement → Point → Point → Sight
 unfolding looked shape placement-check
-sight n l at camera ball = if-fine (shape n (length l)) (if-fine (placement-check at) (looked n l at camera ball))
+sight n l at camera ball = by-verdict Refused (looked n l at camera ball) (shape n (length l) then placement-check at)
 
 -- the contract of the sight call
 pub record Sees (n : Counts) (l : List ℕ) (at : Placement) (camera ball : Point) (r : Sight) : Type 0 where

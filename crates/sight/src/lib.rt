@@ -1,13 +1,14 @@
 // The sight answer: is anything in the way from a camera to the ball? Two lookups, then the adaptive walk.
 ghost use mathlib.Core.Path.{_≡_};
 ghost use Rattle.cells.specs.declared.Verdict.the-variants.{Fine};
+ghost use Rattle.cells.specs.Checks.{by-verdict};
 ghost use lib.ListN.{length};
 ghost use Rattle.grids.specs.Grid.{shape};
 ghost use Rattle.walks.specs.declared.Walker.the-variants.{Adaptive};
 ghost use Rattle.grids.specs.Inside.{walk-check};
 ghost use Rattle.walks.specs.Answers.{Finds};
 ghost use Rattle.survey.specs.Survey.{Tested, placement-check};
-ghost use Rattle.sight.specs.Sight.{share-of, sight-of, if-fine, looked, Sees};
+ghost use Rattle.sight.specs.Sight.{share-of, sight-of, looked, Sees};
 use cells::Axis;
 use cells::Cell;
 use cells::Counts;
@@ -97,7 +98,7 @@ fn look(n: Counts, cells: &[u8], at: Placement, camera: Point, ball: Point) -> S
 // Where the shape passed its test: refusal 7, then the lookups.
 fn look_from(n: Counts, cells: &[u8], at: Placement, camera: Point, ball: Point) -> Sight
     requires { ⌜ shape n (length (now cells)) ≡ Fine ⌝ }
-    ensures { λ r. ⌜ r ≡ if-fine (placement-check at) (looked n (now (cells .entry)) at camera ball) ⌝ }
+    ensures { λ r. ⌜ r ≡ by-verdict Sight.Refused (looked n (now (cells .entry)) at camera ball) (placement-check at) ⌝ }
 {
     match survey::check_placement(at) {
         Verdict::Refused(r) => Sight::Refused(r),

@@ -10,18 +10,18 @@ use Rattle.cells.specs.declared.End.the-variants.{P}
 use Rattle.cells.specs.declared.Refusal.{Refusal}
 use Rattle.cells.specs.declared.Verdict.{Verdict}
 use Rattle.cells.specs.declared.Verdict.the-variants.{Fine, Refused as Fails}
-use Rattle.cells.specs.Checks.{_then_}
+use Rattle.cells.specs.Checks.{_then_, by-verdict}
 use Rattle.survey.specs.declared.Lookup.{Lookup}
 use Rattle.survey.specs.declared.Lookup.the-variants.{Cell, Refused}
 use Rattle.survey.specs.declared.Placement.{Placement}
 use Rattle.survey.specs.declared.Point.{Point}
 use Rattle.survey.specs.Search.{AllInside}
-use Rattle.survey.specs.Survey.{count-check, placement-check, Tested, quotients, point-check, cell-at, passed, look-up, cell-of}
-use Rattle.cells.proofs.Checks.{each-fine}
+use Rattle.survey.specs.Survey.{count-check, placement-check, Tested, quotients, point-check, cell-at, look-up, cell-of}
+use Rattle.cells.proofs.Checks.{each-fine, by-fine}
 use Rattle.survey.proofs.Survey.{point-inside}
 
 module _ (e : End) (n : Counts) (at : Placement) (p : Point) where
-  look-up-is : look-up e n at p ≡ passed (point-check e n p (quotients at p)) (Cell (cell-at n (quotients at p)))
+  look-up-is : look-up e n at p ≡ by-verdict Refused (Cell (cell-at n (quotients at p))) (point-check e n p (quotients at p))
   unfolding look-up
   look-up-is = refl
 
@@ -32,15 +32,15 @@ module _ (e : End) (n : Counts) (at : Placement) (p : Point) where
   lookup-inside t hq hv h = subst (AllInside n) (sym hq) (point-inside e n at p t (verdict-is hq hv h))
 
   pub lookup-refused : {q : Point} {v : Verdict} {r : Refusal} → q ≡ quotients at p → v ≡ point-check e n p q → v ≡ Fails r → look-up e n at p ≡ Refused r
-  lookup-refused hq hv h = look-up-is ∙ ap (λ w. passed w (Cell (cell-at n (quotients at p)))) (verdict-is hq hv h)
+  lookup-refused hq hv h = look-up-is ∙ ap (by-verdict Refused (Cell (cell-at n (quotients at p)))) (verdict-is hq hv h)
 
   pub lookup-found : {q : Point} {v : Verdict} {c : cell.Cell} → q ≡ quotients at p → v ≡ point-check e n p q → v ≡ Fine → c ≡ cell-at n q → look-up e n at p ≡ Cell c
   lookup-found hq hv h hc =
-      look-up-is ∙ ap (λ w. passed w (Cell (cell-at n (quotients at p)))) (verdict-is hq hv h) ∙
+      look-up-is ∙ ap (by-verdict Refused (Cell (cell-at n (quotients at p)))) (verdict-is hq hv h) ∙
       ap (λ q. Cell (cell-at n q)) (sym hq) ∙ ap Cell (sym hc)
 
 module _ (n : Counts) (at : Placement) (p : Point) where
-  cell-of-is : cell-of n at p ≡ passed (count-check n then placement-check at) (look-up P n at p)
+  cell-of-is : cell-of n at p ≡ by-verdict Refused (look-up P n at p) (count-check n then placement-check at)
   unfolding cell-of
   cell-of-is = refl
 
@@ -53,27 +53,27 @@ module _ (n : Counts) (at : Placement) (p : Point) where
       record { counts = counts; placed = placed }
 
   pub cell-refused : {u v w : Verdict} {r : Refusal} → u ≡ count-check n → v ≡ placement-check at → w ≡ (u then v) → w ≡ Fails r → cell-of n at p ≡ Refused r
-  cell-refused hu hv hw h = cell-of-is ∙ ap (λ w. passed w (look-up P n at p)) (tests-are hu hv hw h)
+  cell-refused hu hv hw h = cell-of-is ∙ ap (by-verdict Refused (look-up P n at p)) (tests-are hu hv hw h)
 
   pub cell-looked-up : {u v w : Verdict} {l : Lookup} → u ≡ count-check n → v ≡ placement-check at → w ≡ (u then v) → w ≡ Fine → l ≡ look-up P n at p → cell-of n at p ≡ l
-  cell-looked-up hu hv hw h hl = cell-of-is ∙ ap (λ w. passed w (look-up P n at p)) (tests-are hu hv hw h) ∙ sym hl
+  cell-looked-up hu hv hw h hl = cell-of-is ∙ ap (by-verdict Refused (look-up P n at p)) (tests-are hu hv hw h) ∙ sym hl
 
 -- ---- an answer that is a cell
 
-passed-cell : (v : Verdict) (l : Lookup) (c : cell.Cell) → passed v l ≡ Cell c → (v ≡ Fine) × (l ≡ Cell c)
-passed-cell Fine l c h = (refl, h)
-passed-cell (Fails r) l c h = absurd (let z : _≡_ {A = ℕ} 0 1 = cc in omega arith)
+-- a cell is no refusal
+no-refusal : (c : cell.Cell) (r : Refusal) → ¬ (Refused r ≡ Cell c)
+no-refusal c r h = let z : _≡_ {A = ℕ} 0 1 = cc in omega arith
 
 -- the quotients lie inside, and the cell is where they lie
 pub look-given : (e : End) (n : Counts) (at : Placement) (p : Point) (c : cell.Cell) → Tested n at → look-up e n at p ≡ Cell c → AllInside n (quotients at p) × (c ≡ cell-at n (quotients at p))
 look-given e n at p c tested h =
-    let (fine, same) = passed-cell _ _ c (sym (look-up-is e n at p) ∙ h) in
+    let (fine, same) = by-fine Refused _ _ (no-refusal c) (sym (look-up-is e n at p) ∙ h) in
     (point-inside e n at p tested fine, cc)
 
 -- all tests are passed too
 pub cell-given : (n : Counts) (at : Placement) (p : Point) (c : cell.Cell) → cell-of n at p ≡ Cell c → Tested n at × AllInside n (quotients at p) × (c ≡ cell-at n (quotients at p))
 cell-given n at p c h =
-    let (tests, looked) = passed-cell _ _ c (sym (cell-of-is n at p) ∙ h) in
+    let (tests, looked) = by-fine Refused _ _ (no-refusal c) (sym (cell-of-is n at p) ∙ h) in
     let tested : Tested n at = cell-tested n at p refl refl refl tests in
     let (inside, same) = look-given P n at p c tested looked in
     (tested, inside, same)

@@ -15,8 +15,8 @@ use Rattle.cells.specs.declared.Counts.{Counts}
 use Rattle.cells.specs.declared.Part.the-variants.{OriginX, OriginY, OriginZ, Edge}
 use Rattle.cells.specs.declared.Refusal.the-variants.{NotFinite, OffSurvey, Placement as Misplaced}
 use Rattle.cells.specs.declared.Verdict.{Verdict}
-use Rattle.cells.specs.declared.Verdict.the-variants.{Fine, Refused as Fails}
-use Rattle.cells.specs.Checks.{refuse-when, _then_}
+use Rattle.cells.specs.declared.Verdict.the-variants.{Fine}
+use Rattle.cells.specs.Checks.{refuse-when, _then_, by-verdict}
 use Rattle.cells.specs.Refusals.{Told, told}
 pub use Rattle.grids.specs.Grid.{count-check}
 use Rattle.survey.specs.declared.Placement.{Placement}
@@ -66,20 +66,15 @@ point-check e n p q =
 abbrev pub cell-at : Counts → Point → cell.Cell
 cell-at n q = record { x = pos (cell-number (n .nx) (q .x)); y = pos (cell-number (n .ny) (q .y)); z = pos (cell-number (n .nz) (q .z)) }
 
--- an answer that is given only where the tests before it are passed
-abbrev pub passed : Verdict → Lookup → Lookup
-passed Fine l = l
-passed (Fails r) l = Refused r
-
 -- the lookup of an end's point, counts and placement being tested
 unfoldable pub look-up : End → Counts → Placement → Point → Lookup
 unfolding point-check cell-number
-look-up e n at p = passed (point-check e n p (quotients at p)) (Cell (cell-at n (quotients at p)))
+look-up e n at p = by-verdict Refused (Cell (cell-at n (quotients at p))) (point-check e n p (quotients at p))
 
 -- "turned into its cell alone, from counts, placement and point: 2, 7, then x (8, then 9), y, z, with P named as the end"
 unfoldable pub cell-of : Counts → Placement → Point → Lookup
 unfolding count-check placement-check look-up
-cell-of n at p = passed (count-check n then placement-check at) (look-up P n at p)
+cell-of n at p = by-verdict Refused (look-up P n at p) (count-check n then placement-check at)
 
 -- the contract of the call
 pub record LooksUp (n : Counts) (at : Placement) (p : Point) (r : Lookup) : Type 0 where

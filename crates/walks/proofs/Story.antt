@@ -18,12 +18,13 @@ use Rattle.lines.proofs.Steps.{Cmp, here, other, cmp, same-self}
 use Rattle.lines.proofs.Fractions.{place-start, place-suc, place-end}
 use Rattle.lines.proofs.Cells.{six-end}
 use Rattle.lines.proofs.Centres.{centres-good, longest-axis, is-place-26, moved-longest}
+use Rattle.cells.specs.Checks.{by-verdict}
 use Rattle.grids.specs.Grid.{byte-of, solid}
 use Rattle.walks.specs.declared.Walker.{Walker}
 use Rattle.walks.specs.declared.Walker.the-variants.{Plain, Adaptive}
-use Rattle.walks.specs.declared.FirstHit.the-variants.{Clear, Hit as Blocked}
+use Rattle.walks.specs.declared.FirstHit.the-variants.{Clear, Hit as Blocked, Refused as NotWalked}
 use Rattle.walks.specs.Walks.{hit-at, six-count, walk-of}
-use Rattle.walks.specs.Answers.{place-by, place-of, last-of, answer-of, answer-by, first-hit}
+use Rattle.walks.specs.Answers.{place-by, place-of, last-of, answer-of, first-hit}
 use Rattle.grids.specs.Inside.{walk-check, InGrid}
 use Rattle.walks.specs.Safe.{NoClearTouches}
 use Rattle.walks.specs.Numbers.{stop, ends, last-number, go, solid-at, step, end-of, reads-of, answer-at}
@@ -50,9 +51,9 @@ module _ (n : Counts) (l : List ℕ) (p q : Cell) where
   pub end-below : (k : Walker) → end-of n l p q k ≤ N
   end-below k = walk-ended k .most
 
-  pub first-hit-is : (k : Walker) → first-hit k n l p q ≡ answer-by (walk-check n (length l) p q) (answer-at n l p q (end-of n l p q k) (reads-of n l p q k))
+  pub first-hit-is : (k : Walker) → first-hit k n l p q ≡ by-verdict NotWalked (answer-at n l p q (end-of n l p q k) (reads-of n l p q k)) (walk-check n (length l) p q)
   unfolding first-hit
-  first-hit-is k = ap (answer-by (walk-check n (length l) p q)) (answer-is (walk-of k n l p q) _ _ (end-below k) (walk-last n l p q k p) (walk-length n l p q k))
+  first-hit-is k = ap (λ a. by-verdict NotWalked a (walk-check n (length l) p q)) (answer-is (walk-of k n l p q) _ _ (end-below k) (walk-last n l p q k p) (walk-length n l p q k))
 
   -- ---- no walk runs out: its last cell is solid, or Q
 

@@ -13,9 +13,7 @@ use Rattle.cells.specs.declared.Axis.{Axis}
 use Rattle.cells.specs.declared.End.the-variants.{P, Q}
 use Rattle.cells.specs.declared.Cell.{Cell}
 use Rattle.cells.specs.declared.Counts.{Counts}
-use Rattle.cells.specs.declared.Verdict.{Verdict}
-use Rattle.cells.specs.declared.Verdict.the-variants.{Fine, Refused}
-use Rattle.cells.specs.Checks.{_then_}
+use Rattle.cells.specs.Checks.{by-verdict}
 use Rattle.cells.specs.Refusals.{Told, told}
 use Rattle.lines.specs.Crossings.{Course, next, place}
 use Rattle.lines.specs.Preference.{rule-1}
@@ -65,17 +63,11 @@ answer-of n l p q cells =
     (Blocked (record { cell = w; code = byte-of n l w; place = place-of p q w; reads = length cells }))
     (Clear (length cells))
 
--- ---- refused, or answered
-
-abbrev pub answer-by : Verdict → FirstHit → FirstHit
-answer-by Fine a = a
-answer-by (Refused r) a = NotWalked r
-
 -- ---- the calls, by their walk
 
 unfoldable pub first-hit : Walker → Counts → List ℕ → Cell → Cell → FirstHit
 unfolding walk-check answer-of walk-of
-first-hit k n l p q = answer-by (walk-check n (length l) p q) (answer-of n l p q (walk-of k n l p q))
+first-hit k n l p q = by-verdict NotWalked (answer-of n l p q (walk-of k n l p q)) (walk-check n (length l) p q)
 
 -- their contract
 pub record Finds (k : Walker) (n : Counts) (l : List ℕ) (p q : Cell) (r : FirstHit) : Type 0 where
