@@ -13,7 +13,7 @@ use Rattle.cells.specs.Checks.{by-verdict}
 use Rattle.lists.specs.declared.Listed.the-variants.{Cells, Refused as NotListed}
 use Rattle.lists.specs.Lists.{list-check, filled}
 use Rattle.grids.specs.Grid.{shape, layer-part}
-use Rattle.grids.specs.Marks.{marked, after-marking, complete, completeness}
+use Rattle.grids.specs.Marks.{marked, complete, completeness}
 use Rattle.records.specs.Venues.{venue-head}
 use Rattle.records.specs.Writing.{write-check, written, after-writing}
 use Rattle.oatmarten.specs.declared.refusals.OatSaid.{OatSaid}
@@ -72,7 +72,7 @@ refused-untouched =
           untouched (λ f. f .said) (λ v. flat-listed (by-verdict NotListed (Cells (length line)) v)) (by-verdict (λ x. entry) (filled line entry)) refl (λ x. refl)
           (list-check p q (length line) (length entry)) (h .flat ∙ ap flat-listed (h .meets .says)) (h .meets .holds);
       mark = λ n entry r exit h.
-          untouched (λ f. f .said) flat-verdict (λ v. after-marking v n entry) refl (λ x. refl) (shape n (length entry))
+          untouched (λ f. f .said) flat-verdict (by-verdict (λ x. entry) (marked 3 n entry)) refl (λ x. refl) (shape n (length entry))
           (h .flat ∙ ap flat-verdict (h .meets .says)) (h .meets .holds);
       written = λ n cells entry r exit h.
           untouched (λ f. f .said) (λ v. flat-written (written v n)) (λ v. after-writing v n cells entry) refl (λ x. refl)

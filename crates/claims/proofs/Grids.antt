@@ -11,11 +11,12 @@ use Rattle.cells.specs.Parts.{StartsAt}
 use Rattle.cells.specs.declared.Counts.{Counts}
 use Rattle.cells.specs.declared.Verdict.{Verdict}
 use Rattle.cells.specs.declared.Verdict.the-variants.{Fine, Refused}
+use Rattle.cells.specs.Checks.{by-verdict}
 use Rattle.grids.specs.declared.LayerPart.{LayerPart}
 use Rattle.grids.specs.declared.Completeness.{Completeness}
-use Rattle.grids.specs.declared.Completeness.the-variants.{Yes, No}
+use Rattle.grids.specs.declared.Completeness.the-variants.{Yes, No, Refused as NotAsked}
 use Rattle.grids.specs.Grid.{shape, index, layer-part, layer, start-of}
-use Rattle.grids.specs.Marks.{after-marking, marked, complete, yes-or-no, completeness-by, completeness, Marks, Completes}
+use Rattle.grids.specs.Marks.{marked, complete, yes-or-no, completeness, Marks, Completes}
 use Rattle.grids.specs.Inside.{Shaped}
 use Rattle.grids.proofs.Shapes.{shaped}
 use Rattle.grids.proofs.Layers.{layer-empty, layer-long, layer-own}
@@ -83,12 +84,12 @@ marking k n l =
 
 pub marked-call : (n : Counts) (l : List ℕ) → MarkedCall n l
 unfolding completeness
-marked-call n l = record { says-yes = yes; refused = λ r a m. m .holds ∙ ap (λ (v : Verdict). after-marking v n l) (sym (m .says)) }
+marked-call n l = record { says-yes = yes; refused = λ r a m. m .holds ∙ ap (by-verdict (λ s. l) (marked 3 n l)) (sym (m .says)) }
   where
     yes : (r : Verdict) (a : List ℕ) (c : Completeness) → Marks n l r a → r ≡ Fine → Completes n a c → c ≡ Yes
     yes r a c m e f =
         let fine = sym (m .says) ∙ e in
-        f .says ∙ ap (completeness n) (m .holds ∙ ap (λ (v : Verdict). after-marking v n l) fine) ∙ rw (marked-length 3 n l, fine, marked-complete 3 n l)
+        f .says ∙ ap (completeness n) (m .holds ∙ ap (by-verdict (λ s. l) (marked 3 n l)) fine) ∙ rw (marked-length 3 n l, fine, marked-complete 3 n l)
 
 pub complete-means : (k : ℕ) (n : Counts) (l : List ℕ) → Complete k n l
 complete-means k n l = record { means = complete-iff k n l }
@@ -100,7 +101,7 @@ which false false e = refl
 which true false e = absurd (let z : _≡_ {A = ℕ} 0 1 = cc in omega arith)
 which false true e = absurd (let z : _≡_ {A = ℕ} 0 1 = cc in omega arith)
 
-answered : (v : Verdict) (n : Counts) (l : List ℕ) (t : Bool) → yes-or-no t ≡ completeness-by v n l → complete 3 n l ≡ t
+answered : (v : Verdict) (n : Counts) (l : List ℕ) (t : Bool) → yes-or-no t ≡ by-verdict NotAsked (yes-or-no (complete 3 n l)) v → complete 3 n l ≡ t
 answered Fine n l t e = which (complete 3 n l) t e
 answered (Refused r) n l true e = absurd (let z : _≡_ {A = ℕ} 0 1 = cc in omega arith)
 answered (Refused r) n l false e = absurd (let z : _≡_ {A = ℕ} 0 1 = cc in omega arith)

@@ -25,9 +25,10 @@ use Rattle.lists.specs.declared.Listed.the-variants.{Cells, Refused as NotListe
 use Rattle.lists.specs.Lists.{Lists, told-listed}
 use Rattle.grids.specs.declared.LayerPart.{LayerPart}
 use Rattle.grids.specs.declared.LayerPart.the-variants.{Part, Refused as NoPart}
-use Rattle.grids.specs.Grid.{count-check, shape, part-by, layer-part, GivesLayerPart, told-part, bytes-of, layer, GivesLayer}
+use Rattle.grids.specs.declared.Completeness.the-variants.{Refused as NotAsked}
+use Rattle.grids.specs.Grid.{count-check, shape, layer-start, layer-length, layer-part, GivesLayerPart, told-part, bytes-of, layer, GivesLayer}
 use Rattle.grids.specs.Inside.{walk-check}
-use Rattle.grids.specs.Marks.{complete, yes-or-no, completeness-by, completeness, told-completeness}
+use Rattle.grids.specs.Marks.{complete, yes-or-no, completeness, told-completeness}
 use Rattle.grids.proofs.Layers.{layer-empty}
 use Rattle.grids.proofs.Shapes.{shape-counts}
 use Rattle.walks.specs.declared.Walker.the-variants.{Adaptive}
@@ -88,7 +89,7 @@ yes-or-no-told false = refl
 
 layer-part-told : (n : Counts) (l : List ℕ) (z : ℤ) (r : LayerPart) → GivesLayerPart n (length l) z r → ByTests (layer-tests n (length l) z) (told-part r)
 unfolding layer-part
-layer-part-told n l z r c = answered told-part (λ v. part-by v n z) (λ r. refl) (layer-judged n (length l) z) (λ fine. (_, refl)) (c .says)
+layer-part-told n l z r c = answered told-part (by-verdict NoPart (Part (layer-start n z) (layer-length n))) (λ r. refl) (layer-judged n (length l) z) (λ fine. (_, refl)) (c .says)
 
 -- a refusal is no value
 one-of-two : {A B C : Type 0} {a : A} {b : B} → inl a ≡ inr b → C
@@ -115,7 +116,7 @@ grids-told n l =
       shape = λ bytes r c. answered told-verdict (λ v. v) (λ r. refl) (shape-judged n bytes) (λ fine. (tt, refl)) (c .says);
       mark = λ r exit c. answered told-verdict (λ v. v) (λ r. refl) (shape-judged n (length l)) (λ fine. (tt, refl)) (c .says);
       complete = λ r c.
-          answered told-completeness (λ v. completeness-by v n l) (λ r. refl) (shape-judged n (length l))
+          answered told-completeness (by-verdict NotAsked (yes-or-no (complete 3 n l))) (λ r. refl) (shape-judged n (length l))
           (λ fine. (complete 3 n l, yes-or-no-told (complete 3 n l))) (c .says);
       layer-part = layer-part-told n l;
       layer = layer-told n;

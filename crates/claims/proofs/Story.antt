@@ -16,7 +16,7 @@ use Rattle.lines.specs.Preference.{rule-1}
 use Rattle.lines.specs.Lines.{differences, six-cell}
 use Rattle.lines.proofs.Cells.{six-misses-none}
 use Rattle.grids.specs.Grid.{byte-of, solid}
-use Rattle.grids.specs.Marks.{complete, after-marking}
+use Rattle.grids.specs.Marks.{complete, marked}
 use Rattle.grids.proofs.Marking.{marked-complete}
 use Rattle.walks.specs.declared.Walker.the-variants.{Plain, Adaptive}
 use Rattle.walks.specs.declared.Place.{Place}
@@ -212,7 +212,7 @@ module _ (n : Counts) (l : List ℕ) (p q : Cell) where
 -- ---- mark, then walk
 
 pub marked-first : (n : Counts) (l exit : List ℕ) → MarkedFirst n l exit
-marked-first n l exit = record { premise = λ m. ap (complete 3 n) (m .holds ∙ ap (λ v. after-marking v n l) (sym (m .says))) ∙ marked-complete 3 n l; asked = says-complete n l .yes }
+marked-first n l exit = record { premise = λ m. ap (complete 3 n) (m .holds ∙ ap (by-verdict (λ s. l) (marked 3 n l)) (sym (m .says))) ∙ marked-complete 3 n l; asked = says-complete n l .yes }
 
 -- ---- wrong walks
 

@@ -15,14 +15,13 @@ use borrow.Author.Tests.{le-ltb, leb-false}
 use Rattle.cells.specs.declared.Counts.{Counts}
 use Rattle.cells.specs.declared.Refusal.{Refusal}
 use Rattle.cells.specs.declared.Refusal.the-variants.{Layer}
-use Rattle.cells.specs.declared.Verdict.{Verdict}
-use Rattle.cells.specs.declared.Verdict.the-variants.{Fine, Refused}
+use Rattle.cells.specs.declared.Verdict.the-variants.{Fine}
 use Rattle.grids.specs.declared.LayerPart.{LayerPart}
 use Rattle.grids.specs.declared.LayerPart.the-variants.{Part, Refused as NoPart}
-use Rattle.grids.specs.Grid.{shape, bad-layer, layer-check, layer-start, layer-length, part-by, layer-part, layer}
+use Rattle.grids.specs.Grid.{shape, bad-layer, layer-check, layer-start, layer-length, layer-part, layer}
 use Rattle.grids.specs.Inside.{Shaped}
 use Rattle.grids.proofs.Shapes.{shaped}
-use Rattle.cells.proofs.Checks.{fine-first, fine-rest, passed}
+use Rattle.cells.proofs.Checks.{fine-first, fine-rest, passed, by-fine}
 
 -- ---- the signed z
 
@@ -66,14 +65,11 @@ pub record Named (n : Counts) (bytes start long : ℕ) : Type 0 where
 
 pub part-named : (n : Counts) (bytes : ℕ) (z : ℤ) (start long : ℕ) → layer-part n bytes z ≡ Part start long → Named n bytes start long
 unfolding layer-part
-part-named n bytes z start long e = go (layer-check n bytes z) refl e
-  where
-    go : (v : Verdict) → layer-check n bytes z ≡ v → part-by v n z ≡ Part start long → Named n bytes start long
-    go Fine f e =
-        let a : layer-start n z ≡ start = cc in
-        let b : layer-length n ≡ long = cc in
-        record { within = omega (arith, layer-within n bytes z f); some = omega (arith, layer-shape n bytes z f .layer-some) }
-    go (Refused r) f e = absurd (let z : _≡_ {A = ℕ} 0 1 = cc in omega arith)
+part-named n bytes z start long e =
+    let (f, same) = by-fine NoPart (layer-check n bytes z) (Part (layer-start n z) (layer-length n)) (λ r no. let z : _≡_ {A = ℕ} 0 1 = cc no in omega arith) e in
+    let a : layer-start n z ≡ start = cc same in
+    let b : layer-length n ≡ long = cc same in
+    record { within = omega (arith, layer-within n bytes z f); some = omega (arith, layer-shape n bytes z f .layer-some) }
 
 -- the layer has as many bytes as the partner says
 pub layer-long : (n : Counts) (l : List ℕ) (z : ℤ) (start long : ℕ) → layer-part n (length l) z ≡ Part start long → length (layer n l z) ≡ long

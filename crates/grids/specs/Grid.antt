@@ -13,8 +13,7 @@ use Rattle.cells.specs.declared.Cell.{Cell}
 use Rattle.cells.specs.declared.Counts.{Counts}
 use Rattle.cells.specs.declared.Refusal.the-variants.{Count, Bytes, Layer}
 use Rattle.cells.specs.declared.Verdict.{Verdict}
-use Rattle.cells.specs.declared.Verdict.the-variants.{Fine, Refused}
-use Rattle.cells.specs.Checks.{refuse-when, _then_}
+use Rattle.cells.specs.Checks.{refuse-when, _then_, by-verdict}
 use denote.Ref.{RefT}
 use Rattle.cells.specs.Parts.{StartsAt}
 use Rattle.cells.specs.Refusals.{Told, told}
@@ -88,13 +87,9 @@ abbrev pub layer-start : Counts → ℤ → ℕ
 layer-start n z = natAbs z * layer-length n
 
 -- the partner's answer: the part's offset and length, or the refusal
-abbrev pub part-by : Verdict → Counts → ℤ → LayerPart
-part-by Fine n z = Part (layer-start n z) (layer-length n)
-part-by (Refused r) n z = NoPart r
-
 unfoldable pub layer-part : Counts → ℕ → ℤ → LayerPart
 unfolding layer-check
-layer-part n bytes z = part-by (layer-check n bytes z) n z
+layer-part n bytes z = by-verdict NoPart (Part (layer-start n z) (layer-length n)) (layer-check n bytes z)
 
 -- each case of the answer: what is said of a refusal, or the part's offset and length
 abbrev pub told-part : LayerPart → Told ⊎ (ℕ × ℕ)

@@ -9,7 +9,7 @@ use lib.ListN.{length, getD}
 use Rattle.cells.specs.declared.Cell.{Cell}
 use Rattle.cells.specs.declared.Counts.{Counts}
 use Rattle.cells.specs.declared.Verdict.{Verdict}
-use Rattle.cells.specs.declared.Verdict.the-variants.{Fine, Refused}
+use Rattle.cells.specs.Checks.{by-verdict}
 use Rattle.cells.specs.Refusals.{Told, told}
 use Rattle.cells.specs.Tabulate.{tabulate}
 use Rattle.cells.specs.Touching.{touching}
@@ -36,11 +36,6 @@ unfoldable pub marked : ℕ → Counts → List ℕ → List ℕ
 unfolding marked-byte
 marked k n l = tabulate (marked-byte k n l) (length l)
 
--- what the marking call leaves: refused, the bytes as they were
-abbrev pub after-marking : Verdict → Counts → List ℕ → List ℕ
-after-marking Fine n l = marked 3 n l
-after-marking (Refused r) n l = l
-
 -- "The marks are complete exactly when no clear cell touches a solid one"
 unfoldable pub complete : ℕ → Counts → List ℕ → Bool
 unfolding any touches-solid
@@ -51,13 +46,9 @@ abbrev pub yes-or-no : Bool → Completeness
 yes-or-no true = Yes
 yes-or-no false = No
 
-abbrev pub completeness-by : Verdict → Counts → List ℕ → Completeness
-completeness-by Fine n l = yes-or-no (complete 3 n l)
-completeness-by (Refused r) n l = NotAsked r
-
 unfoldable pub completeness : Counts → List ℕ → Completeness
 unfolding shape
-completeness n l = completeness-by (shape n (length l)) n l
+completeness n l = by-verdict NotAsked (yes-or-no (complete 3 n l)) (shape n (length l))
 
 -- each case of the answer: what is said of a refusal, or whether the marks are complete
 abbrev pub told-completeness : Completeness → Told ⊎ Bool
@@ -65,11 +56,11 @@ told-completeness (NotAsked r) = inl (told r)
 told-completeness Yes = inr true
 told-completeness No = inr false
 
--- ---- the contracts of the calls: of marking, one answer and one final memory
+-- ---- the contracts of the calls: of marking, one answer and one final memory; refused, the bytes as they were
 
 pub record Marks (n : Counts) (entry : List ℕ) (r : Verdict) (exit : List ℕ) : Type 0 where
   pub says : r ≡ shape n (length entry)
-  pub holds : exit ≡ after-marking (shape n (length entry)) n entry
+  pub holds : exit ≡ by-verdict (λ r. entry) (marked 3 n entry) (shape n (length entry))
 
 pub record Completes (n : Counts) (l : List ℕ) (r : Completeness) : Type 0 where
   pub says : r ≡ completeness n l
