@@ -15,7 +15,8 @@ use Rattle.lists.specs.Lists.{list-check, filled}
 use Rattle.grids.specs.Grid.{shape, layer-part}
 use Rattle.grids.specs.Marks.{marked, complete, completeness}
 use Rattle.records.specs.Venues.{venue-head}
-use Rattle.records.specs.Writing.{write-check, written, after-writing}
+use Rattle.records.specs.declared.writing.Written.the-variants.{Wrote, Refused as NotWritten}
+use Rattle.records.specs.Writing.{record-length, write-check, after-writing}
 use Rattle.oatmarten.specs.declared.refusals.OatSaid.{OatSaid}
 use Rattle.oatmarten.specs.Refusals.{accepted}
 use Rattle.oatmarten.specs.Flattening.{Flattens}
@@ -75,7 +76,7 @@ refused-untouched =
           untouched (λ f. f .said) flat-verdict (by-verdict (λ x. entry) (marked 3 n entry)) refl (λ x. refl) (shape n (length entry))
           (h .flat ∙ ap flat-verdict (h .meets .says)) (h .meets .holds);
       written = λ n cells entry r exit h.
-          untouched (λ f. f .said) (λ v. flat-written (written v n)) (λ v. after-writing v n cells entry) refl (λ x. refl)
+          untouched (λ f. f .said) (λ v. flat-written (by-verdict NotWritten (Wrote (record-length n)) v)) (by-verdict (λ x. entry) (after-writing n cells entry)) refl (λ x. refl)
           (write-check n (length cells) (length entry)) (h .flat ∙ ap flat-written (h .meets .says)) (h .meets .holds);
     }
 

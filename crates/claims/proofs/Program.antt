@@ -18,6 +18,7 @@ use Rattle.cells.specs.declared.Refusal.the-variants.{OffGrid}
 use Rattle.cells.specs.declared.Verdict.{Verdict}
 use Rattle.cells.specs.declared.Verdict.the-variants.{Fine, Refused}
 use Rattle.cells.specs.Checks.{refuse-when, _then_}
+use Rattle.cells.proofs.Checks.{by-fine}
 use Rattle.cells.specs.Refusals.{told}
 use Rattle.lines.specs.Preference.{rule-1}
 use Rattle.lines.specs.Lines.{six-cell}
@@ -33,7 +34,7 @@ use Rattle.walks.specs.Answers.{first-hit}
 use Rattle.walks.specs.Numbers.{end-of}
 use Rattle.walks.proofs.Story.{first-hit-is}
 use Rattle.records.specs.declared.pairs.Pair.{Pair}
-use Rattle.records.specs.declared.pairs.PairRead.the-variants.{Read as ReadPair}
+use Rattle.records.specs.declared.pairs.PairRead.the-variants.{Read as ReadPair, Refused as NoPair}
 use Rattle.records.proofs.HeadTests.{pair-whole}
 use Rattle.records.proofs.RoundTrip.{record-fits}
 use Rattle.records.specs.declared.venues.Venue.{Venue}
@@ -41,7 +42,7 @@ use Rattle.records.specs.declared.venues.VenueRead.{VenueRead}
 use Rattle.records.specs.declared.venues.VenueRead.the-variants.{Read, Refused as NoVenue}
 use Rattle.records.specs.Heads.{whole-check, announced}
 use Rattle.records.specs.Venues.{venue-check, venue-read, venue-cells, start-of}
-use Rattle.records.specs.Pairs.{pair-check, pair-read, pair-length, pair-in, pair-by}
+use Rattle.records.specs.Pairs.{pair-check, pair-read, pair-length, pair-in}
 use Rattle.program.specs.declared.Next.{Next}
 use Rattle.program.specs.declared.Next.the-variants.{On, Over}
 use Rattle.program.specs.declared.Step.{Step}
@@ -241,15 +242,12 @@ walked w n l p q fine = subst Walked (sym (first-hit-is n l p q w)) (rw fine (by
     by false h reads = tt
 
 -- a pair that is read is neither empty nor beyond the most
-pair-fine : (v : Verdict) (a e : Pair) → pair-by v a ≡ ReadPair e → v ≡ Fine
-pair-fine Fine a e h = refl
-pair-fine (Refused r) a e h = absurd (let z : _≡_ {A = ℕ} 0 1 = cc in omega arith)
-
 read-said : (n : Counts) (cells : List ℕ) (k : ℕ) (t : List ℕ) (e : Pair) → pair-read t ≡ ReadPair e
     → pair-said n cells k t ≡ said-of-walks k (walk-check n (length cells) (e .p) (e .q)) (answers n cells (e .p) (e .q))
 unfolding pair-said pair-read pair-length
 read-said n cells k t e read =
-    let w = pair-whole t (pair-fine (pair-check t) (pair-in t) e read) in
+    let (fine, same) = by-fine NoPair (pair-check t) (ReadPair (pair-in t)) (λ r no. let z : _≡_ {A = ℕ} 0 1 = cc no in omega arith) read in
+    let w = pair-whole t fine in
     let there = w .there in
     let long : announced t ≡ 13 = w .long in
     rw (

@@ -2,16 +2,15 @@
 use Prim.Native.Nat.{ℕ, _+_, _-_, _*_, _≤_}
 use native.Mathlib.Nat.{mul-le-mul}
 use native.Mathlib.Omega.{arith}
-use mathlib.Core.Path.{_≡_, refl, sym, ap, _∙_, subst}
+use mathlib.Core.Path.{_≡_, sym, ap, _∙_, subst}
 use mathlib.Core.List.{List, _++_, append-assoc}
 use lib.ListN.{length, getD, take, drop, take-append-drop}
 use borrow.Author.Tests.{eqb-true, le-ltb, ne-eqb, not-false}
 use denote.Ref.{RefT}
 use Rattle.cells.specs.Parts.{StartsAt}
 use Rattle.cells.specs.declared.Counts.{Counts}
-use Rattle.cells.specs.declared.Refusal.{Refusal}
-use Rattle.cells.specs.declared.Verdict.{Verdict}
-use Rattle.cells.specs.declared.Verdict.the-variants.{Fine, Refused as Fails}
+use Rattle.cells.specs.declared.Verdict.the-variants.{Fine}
+use Rattle.cells.proofs.Checks.{by-fine, by-refusal}
 use Rattle.cells.proofs.Signed.{up}
 use Rattle.grids.specs.Grid.{size, shape}
 use Rattle.grids.proofs.Shapes.{shaped}
@@ -19,15 +18,15 @@ use Rattle.records.specs.declared.pairs.Pair.{Pair}
 use Rattle.records.specs.declared.venues.Venue.{Venue}
 use Rattle.records.specs.declared.venues.VenueRead.{VenueRead}
 use Rattle.records.specs.declared.venues.VenueRead.the-variants.{Read}
-use Rattle.records.specs.declared.pairs.PairRead.the-variants.{Read as ReadPair}
+use Rattle.records.specs.declared.pairs.PairRead.the-variants.{Read as ReadPair, Refused as NoPair}
 use Rattle.records.specs.Heads.{length-field, announced, version-of, whole-check}
 use Rattle.records.specs.Venues.{cells-from, counts-at, venue-version, venue-head, venue-check, venue-read, venue-cells, start-of, ReadsVenue, GivesCells}
-use Rattle.records.specs.Pairs.{signed, pair-version, pair-length, pair-in, pair-check, pair-by, pair-read}
+use Rattle.records.specs.Pairs.{signed, pair-version, pair-length, pair-in, pair-check, pair-read}
 use Rattle.records.proofs.HeadTests.{head-fits, venue-accepted}
 use Rattle.records.proofs.Following.{venue-unread, cells-unread, pair-unread}
 use Rattle.records.specs.declared.writing.Written.{Written}
 use Rattle.records.specs.declared.writing.Written.the-variants.{Wrote, Refused as NotWritten}
-use Rattle.records.specs.Writing.{written-version, head-bytes, write-check, written, after-writing, WritesVenue}
+use Rattle.records.specs.Writing.{written-version, head-bytes, record-length, write-check, after-writing, WritesVenue}
 use Rattle.records.proofs.RoundTrip.{read-back, cells-back, front-written, record-fits, same-bytes}
 use Rattle.claims.specs.Example.{example-counts, example-cells}
 use Rattle.claims.specs.Records.{OneAnswer, Right, RightPair, Accepted, LengthTested, ThePart, SameVenue, ReadBack, WrittenBack, NotLookedAt, example-venue, example-room, minus-one-pair, Refuses, WritesNothing, ReadsUnsigned, WrongRecords}
@@ -46,12 +45,10 @@ one-answer =
       cells = λ bytes a b e f. (one (a .now) (b .now) (e .says) (f .says), one-place (e .there) (f .there));
       pair = λ s r t e f. one r t (e .says) (f .says);
       written = λ n cells entry r t x y e f. (one r t (e .says) (f .says), one x y (e .holds) (f .holds));
-      untouched = λ n cells entry r x e. by n cells entry (write-check n (length cells) (length entry)) r (e .says) (e .holds);
+      untouched = λ n cells entry r x e.
+          by-refusal NotWritten (write-check n (length cells) (length entry)) (Wrote (record-length n)) (after-writing n cells entry)
+          (λ no. let z : _≡_ {A = ℕ} 1 0 = ap accepts no in omega arith) (sym (e .says)) (e .holds);
     }
-  where
-    by : (n : Counts) (cells entry : List ℕ) (v : Verdict) {x : List ℕ} (r : Refusal) → NotWritten r ≡ written v n → x ≡ after-writing v n cells entry → x ≡ entry
-    by n cells entry Fine r h e = absurd (let z : _≡_ {A = ℕ} 0 1 = ap accepts h in omega arith)
-    by n cells entry (Fails r) x h e = e
 
 pub not-looked-at : (s rest : List ℕ) → NotLookedAt s rest
 not-looked-at s rest =
@@ -105,20 +102,17 @@ accepted-venue s v r =
 
 right-pair : (s : List ℕ) (e : Pair) → ReadPair e ≡ pair-read s → RightPair s e
 unfolding pair-read pair-check pair-version pair-length
-right-pair s e h = go (pair-check s) refl h
-  where
-    go : (v : Verdict) → pair-check s ≡ v → ReadPair e ≡ pair-by v (pair-in s) → RightPair s e
-    go (Fails r) f h = absurd (let z : _≡_ {A = ℕ} 0 1 = cc in omega arith)
-    go Fine f h =
-        let same : e ≡ pair-in s = cc in
-        let w = head-fits s (pair-version (version-of s)) _ f in
-        record {
-          whole = w .there;
-          version = eqb-true _ _ (w .version);
-          length-is = eqb-true _ _ (not-false _ (w .long));
-          p-is = ap (λ (u : Pair). u .p) same;
-          q-is = ap (λ (u : Pair). u .q) same;
-        }
+right-pair s e h =
+    let (f, is) = by-fine NoPair (pair-check s) (ReadPair (pair-in s)) (λ r no. let z : _≡_ {A = ℕ} 0 1 = cc no in omega arith) (sym h) in
+    let same : e ≡ pair-in s = cc is in
+    let w = head-fits s (pair-version (version-of s)) _ f in
+    record {
+      whole = w .there;
+      version = eqb-true _ _ (w .version);
+      length-is = eqb-true _ _ (not-false _ (w .long));
+      p-is = ap (λ (u : Pair). u .p) same;
+      q-is = ap (λ (u : Pair). u .q) same;
+    }
 
 accepted-pair : (s : List ℕ) (e : Pair) → RightPair s e → ReadPair e ≡ pair-read s
 unfolding pair-read pair-check pair-version pair-length

@@ -50,9 +50,11 @@ use Rattle.sight.specs.Sight.{sight-of, seen, looked, sight, Sees, told-sight}
 use Rattle.sight.proofs.Walkable.{walkable}
 use Rattle.records.specs.declared.venues.VenueRead.{VenueRead}
 use Rattle.records.specs.declared.venues.VenueRead.the-variants.{Read, Refused as NoVenue}
-use Rattle.records.specs.Venues.{venue-in, venue-by, venue-read, ReadsVenue, part-of, venue-cells, GivesCells, told-venue}
-use Rattle.records.specs.Pairs.{pair-in, pair-by, pair-read, told-pair}
-use Rattle.records.specs.Writing.{written, told-written}
+use Rattle.records.specs.declared.pairs.PairRead.the-variants.{Read as ReadPair, Refused as NoPair}
+use Rattle.records.specs.declared.writing.Written.the-variants.{Wrote, Refused as NotWritten}
+use Rattle.records.specs.Venues.{venue-in, venue-read, ReadsVenue, part-of, venue-cells, GivesCells, told-venue}
+use Rattle.records.specs.Pairs.{pair-in, pair-read, told-pair}
+use Rattle.records.specs.Writing.{record-length, told-written}
 use Rattle.claims.specs.Refused.{line-tests, LinesTold, layer-tests, GridsTold, cell-tests, sight-tests, PointsTold, venue-tests, RecordsTold}
 use Rattle.claims.proofs.Lines.{six-line-holds, line-26-holds}
 use Rattle.claims.proofs.Records.{the-part}
@@ -198,7 +200,7 @@ points-told n at = record { cell-of = cell-told n at; see = λ l. see-told n l a
 
 venue-told : (s : List ℕ) (r : VenueRead) → ReadsVenue s r → ByTests (venue-tests s) (told-venue r)
 unfolding venue-read
-venue-told s r c = answered told-venue (λ v. venue-by v (venue-in s)) (λ r. refl) (venue-judged s) (λ fine. (_, refl)) (c .says)
+venue-told s r c = answered told-venue (by-verdict NoVenue (Read (venue-in s))) (λ r. refl) (venue-judged s) (λ fine. (_, refl)) (c .says)
 
 no-cells : (a : VenueRead) (s : List ℕ) (t : Told) → told-venue a ≡ inl t → part-of a s ≡ []
 no-cells (NoVenue r) s t e = refl
@@ -223,7 +225,7 @@ records-told =
     record {
       read-venue = venue-told;
       venue-cells = cells-told;
-      read-pair = λ s r c. answered told-pair (λ v. pair-by v (pair-in s)) (λ r. refl) (pair-judged s) (λ fine. (_, refl)) (c .says);
+      read-pair = λ s r c. answered told-pair (by-verdict NoPair (ReadPair (pair-in s))) (λ r. refl) (pair-judged s) (λ fine. (_, refl)) (c .says);
       write-venue = λ n cells entry exit r c.
-          answered told-written (λ v. written v n) (λ r. refl) (write-judged n (length cells) (length entry)) (λ fine. (_, refl)) (c .says);
+          answered told-written (by-verdict NotWritten (Wrote (record-length n))) (λ r. refl) (write-judged n (length cells) (length entry)) (λ fine. (_, refl)) (c .says);
     }

@@ -12,14 +12,14 @@ use Rattle.buffers.specs.Numbers.{two-at}
 use Rattle.cells.specs.declared.Refusal.the-variants.{Record, Version}
 use Rattle.cells.specs.declared.Verdict.{Verdict}
 use Rattle.cells.specs.declared.Verdict.the-variants.{Fine, Refused}
-use Rattle.cells.specs.Checks.{refuse-when}
+use Rattle.cells.specs.Checks.{refuse-when, by-verdict}
 use Rattle.cells.proofs.Checks.{passed, then-same}
 use Rattle.records.specs.declared.venues.VenueRead.{VenueRead}
 use Rattle.records.specs.declared.venues.VenueRead.the-variants.{Read, Refused as NoVenue}
-use Rattle.records.specs.declared.pairs.PairRead.the-variants.{Read as ReadPair}
+use Rattle.records.specs.declared.pairs.PairRead.the-variants.{Read as ReadPair, Refused as NoPair}
 use Rattle.records.specs.Heads.{length-field, announced, version-of, whole-check}
-use Rattle.records.specs.Venues.{venue-version, venue-head, counts-from, counts-at, venue-in, venue-check, venue-by, venue-read, part-of, venue-cells}
-use Rattle.records.specs.Pairs.{pair-length, ends-from, cell-in, pair-in, pair-check, pair-by, pair-read}
+use Rattle.records.specs.Venues.{venue-version, venue-head, counts-from, counts-at, venue-in, venue-check, venue-read, part-of, venue-cells}
+use Rattle.records.specs.Pairs.{pair-length, ends-from, cell-in, pair-in, pair-check, pair-read}
 use Rattle.records.proofs.HeadTests.{head-least, pair-least, whole-is, venue-whole, pair-whole, part-within}
 
 -- what stands in the first bytes
@@ -94,7 +94,7 @@ module _ (s rest : List ℕ) (exact : length s ≡ length-field + announced s) w
   unfolding venue-read
   venue-unread = rw same-venue-check (go (venue-check s) refl)
     where
-      go : (v : Verdict) → venue-check s ≡ v → venue-by v (venue-in (s ++ rest)) ≡ venue-by v (venue-in s)
+      go : (v : Verdict) → venue-check s ≡ v → by-verdict NoVenue (Read (venue-in (s ++ rest))) v ≡ by-verdict NoVenue (Read (venue-in s)) v
       go Fine e = ap Read (same-venue (venue-whole s e .head))
       go (Refused r) e = refl
 
@@ -102,7 +102,7 @@ module _ (s rest : List ℕ) (exact : length s ≡ length-field + announced s) w
   unfolding pair-read
   pair-unread = rw same-pair-check (go (pair-check s) refl)
     where
-      go : (v : Verdict) → pair-check s ≡ v → pair-by v (pair-in (s ++ rest)) ≡ pair-by v (pair-in s)
+      go : (v : Verdict) → pair-check s ≡ v → by-verdict NoPair (ReadPair (pair-in (s ++ rest))) v ≡ by-verdict NoPair (ReadPair (pair-in s)) v
       go Fine e = ap ReadPair (same-pair (pair-whole s e .long))
       go (Refused r) e = refl
 

@@ -10,14 +10,14 @@ use lib.ListN.{length}
 use borrow.Author.Tests.{le-ltb, ltb-false, eqb-true, eqb-false, not-false}
 use Rattle.cells.specs.declared.Refusal.the-variants.{Record, Version}
 use Rattle.cells.specs.declared.Verdict.{Verdict}
-use Rattle.cells.specs.declared.Verdict.the-variants.{Fine, Refused}
+use Rattle.cells.specs.declared.Verdict.the-variants.{Fine}
 use Rattle.cells.specs.Checks.{refuse-when, _then_}
 use Rattle.grids.specs.Grid.{shape}
-use Rattle.cells.proofs.Checks.{fine-first, fine-rest, each-fine, passed, then-same, then-four}
+use Rattle.cells.proofs.Checks.{fine-first, fine-rest, each-fine, passed, then-same, then-four, by-fine}
 use Rattle.records.specs.declared.venues.Venue.{Venue}
-use Rattle.records.specs.declared.venues.VenueRead.the-variants.{Read}
+use Rattle.records.specs.declared.venues.VenueRead.the-variants.{Read, Refused as NoVenue}
 use Rattle.records.specs.Heads.{length-field, announced, version-of, whole-check}
-use Rattle.records.specs.Venues.{venue-version, venue-head, venue-in, venue-check, venue-by, venue-read}
+use Rattle.records.specs.Venues.{venue-version, venue-head, venue-in, venue-check, venue-read}
 use Rattle.records.specs.Pairs.{pair-version, pair-length, pair-check}
 
 -- a venue's head holds the version and the counts
@@ -125,13 +125,11 @@ pair-whole s e = let w = head-fits s (pair-version (version-of s)) _ e in record
 -- ---- an accepted venue
 
 -- the verdict and the venue of an answer
-pub by-fine : (t : Verdict) (a b : Venue) → venue-by t a ≡ Read b → (t ≡ Fine) × (a ≡ b)
-by-fine Fine a b e = (refl, cc)
-by-fine (Refused r) a b e = absurd (let z : _≡_ {A = ℕ} 0 1 = cc in omega arith)
-
 pub venue-accepted : (s : List ℕ) (v : Venue) → venue-read s ≡ Read v → VenueWhole s × (venue-in s ≡ v)
 unfolding venue-read
-venue-accepted s v e = let b = by-fine (venue-check s) (venue-in s) v e in (venue-whole s (b .0), b .1)
+venue-accepted s v e =
+    let (fine, same) = by-fine NoVenue (venue-check s) (Read (venue-in s)) (λ r no. let z : _≡_ {A = ℕ} 0 1 = cc no in omega arith) e in
+    (venue-whole s fine, cc same)
 
 -- its part lies within the record
 pub part-within : (s : List ℕ) (v : Venue) → venue-read s ≡ Read v → v .start + v .long ≤ length s

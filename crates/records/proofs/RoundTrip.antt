@@ -11,18 +11,19 @@ use borrow.Author.Tests.{ne-eqb, le-ltb, eqb-true}
 use Rattle.buffers.specs.Numbers.{four, AllBytes}
 use Rattle.buffers.proofs.Numbers.{two-read, four-read, joined, two-back, four-back}
 use Rattle.cells.specs.declared.Counts.{Counts}
-use Rattle.cells.specs.declared.Verdict.{Verdict}
-use Rattle.cells.specs.declared.Verdict.the-variants.{Fine, Refused}
+use Rattle.cells.specs.declared.Verdict.the-variants.{Fine}
+use Rattle.cells.specs.Checks.{by-verdict}
+use Rattle.cells.proofs.Checks.{by-fine}
 use Rattle.grids.specs.Grid.{size, shape}
 use Rattle.grids.proofs.Shapes.{shaped}
 use Rattle.records.specs.declared.venues.Venue.{Venue}
-use Rattle.records.specs.declared.venues.VenueRead.the-variants.{Read}
+use Rattle.records.specs.declared.venues.VenueRead.the-variants.{Read, Refused as NoVenue}
 use Rattle.records.specs.Heads.{length-field, announced, version-of, whole-check}
-use Rattle.records.specs.Venues.{venue-version, venue-head, cells-from, counts-from, counts-at, venue-in, venue-check, venue-by, venue-read, venue-cells}
+use Rattle.records.specs.Venues.{venue-version, venue-head, cells-from, counts-from, counts-at, venue-in, venue-check, venue-read, venue-cells}
 use Rattle.records.proofs.HeadTests.{VenueWhole, venue-accepted, part-within, head-least}
 use Rattle.records.specs.declared.writing.Written.{Written}
-use Rattle.records.specs.declared.writing.Written.the-variants.{Wrote}
-use Rattle.records.specs.Writing.{written-version, count-bytes, head-bytes, record-length, write-check, written, after-writing, WritesVenue}
+use Rattle.records.specs.declared.writing.Written.the-variants.{Wrote, Refused as NotWritten}
+use Rattle.records.specs.Writing.{written-version, count-bytes, head-bytes, record-length, write-check, after-writing, WritesVenue}
 use Rattle.records.proofs.WriteTests.{head-length, writable}
 
 -- the counts are those of their bytes
@@ -75,7 +76,7 @@ module _ (n : Counts) (cells rest : List ℕ) (fine : shape n (length cells) ≡
       judged s all-there refl (omega (arith, long-is))
       ∙ ap (λ (v : Venue). shape (v .counts) (v .long)) in-is
       ∙ ap (shape n) (sym (shaped n (length cells) fine .bytes-are)) ∙ fine in
-      ap₂ venue-by check in-is
+      ap₂ (λ v u. by-verdict NoVenue (Read u) v) check in-is
 
   pub cells-back : venue-cells (head-bytes written-version n ++ (cells ++ rest)) ≡ cells
   unfolding venue-cells
@@ -130,10 +131,6 @@ record-back s v bytes e =
 
 -- ---- the contract of writing, taken apart
 
-by-fine : (v : Verdict) (n : Counts) (k : ℕ) → Wrote k ≡ written v n → (v ≡ Fine) × (k ≡ record-length n)
-by-fine Fine n k e = (refl, cc)
-by-fine (Refused r) n k e = absurd (let z : _≡_ {A = ℕ} 0 1 = cc in omega arith)
-
 -- where bytes were written, the shape was fine, and the front is the head and the cells
 pub record Front (n : Counts) (cells : List ℕ) (k : ℕ) (exit : List ℕ) : Type 0 where
   pub fine : shape n (length cells) ≡ Fine
@@ -142,10 +139,11 @@ pub record Front (n : Counts) (cells : List ℕ) (k : ℕ) (exit : List ℕ) : T
 pub front-written : (n : Counts) (cells entry exit : List ℕ) (k : ℕ) → WritesVenue n cells entry (Wrote k) exit → Front n cells k exit
 front-written n cells entry exit k c =
     let H = head-bytes written-version n in
-    let (f, count) = by-fine (write-check n (length cells) (length entry)) n k (c .says) in
+    let (f, same) = by-fine NotWritten (write-check n (length cells) (length entry)) (Wrote (record-length n)) (λ r no. let z : _≡_ {A = ℕ} 0 1 = cc no in omega arith) (sym (c .says)) in
+    let count : record-length n ≡ k = cc same in
     let w = writable n (length cells) (length entry) f in
     let rest = drop (record-length n) entry in
-    let all : exit ≡ H ++ cells ++ rest = c .holds ∙ ap (λ v. after-writing v n cells entry) f ∙ sym (append-assoc H cells rest) in
+    let all : exit ≡ H ++ cells ++ rest = c .holds ∙ ap (by-verdict (λ r. entry) (after-writing n cells entry)) f ∙ sym (append-assoc H cells rest) in
     let long : length (H ++ cells) ≡ k = length-append H cells ∙ omega (arith, head-length n, w .bytes-are, count) in
     record { fine = w .fine; front = ap (take k) all ∙ take-at (H ++ cells) rest k long }
 
@@ -177,7 +175,7 @@ same-bytes s v entry exit w bytes e room c =
     let check : write-check n (length (venue-cells s)) (length entry) ≡ Fine =
     rw (fits .fine, le-ltb (length entry) (record-length n) (omega (arith, fits .total))) in
     let none : drop (record-length n) entry ≡ [] = drop-of-length-le entry {i = record-length n} (omega (arith, fits .total)) in (
-      c .says ∙ ap (λ t. written t n) check ∙ ap Wrote (fits .total),
-      c .holds ∙ ap (λ t. after-writing t n (venue-cells s) entry) check ∙ ap (λ l. H ++ (venue-cells s ++ l)) none
+      c .says ∙ ap (by-verdict NotWritten (Wrote (record-length n))) check ∙ ap Wrote (fits .total),
+      c .holds ∙ ap (by-verdict (λ r. entry) (after-writing n (venue-cells s) entry)) check ∙ ap (λ l. H ++ (venue-cells s ++ l)) none
           ∙ ap (λ l. H ++ l) (append-nil (venue-cells s)) ∙ record-back s v bytes e,
     )

@@ -11,11 +11,12 @@ use Rattle.cells.specs.declared.Counts.{Counts}
 use Rattle.cells.specs.declared.Refusal.{Refusal}
 use Rattle.cells.specs.declared.Verdict.the-variants.{Fine, Refused}
 use Rattle.grids.specs.Grid.{size, shape}
+use Rattle.cells.specs.Checks.{by-verdict}
 use Rattle.cells.proofs.Checks.{fine-first, fine-rest, passed}
 use Rattle.grids.proofs.Shapes.{shaped}
 use Rattle.records.specs.declared.writing.Written.the-variants.{Wrote, Refused as NotWritten}
 use Rattle.records.specs.Venues.{venue-head, cells-from}
-use Rattle.records.specs.Writing.{written-version, head-bytes, record-length, write-check, written, after-writing, WritesVenue}
+use Rattle.records.specs.Writing.{written-version, head-bytes, record-length, write-check, after-writing, WritesVenue}
 
 -- the head is as long as the version says
 pub head-length : (n : Counts) → length (head-bytes written-version n) ≡ cells-from written-version
@@ -42,11 +43,11 @@ writable n bytes room e =
 
 module _ (n : Counts) (cells entry : List ℕ) where
   pub not-written : (r : Refusal) → write-check n (length cells) (length entry) ≡ Refused r → WritesVenue n cells entry (NotWritten r) entry
-  not-written r e = record { says = sym (ap (λ v. written v n) e); holds = sym (ap (λ v. after-writing v n cells entry) e) }
+  not-written r e = record { says = sym (ap (by-verdict NotWritten (Wrote (record-length n))) e); holds = sym (ap (by-verdict (λ s. entry) (after-writing n cells entry)) e) }
 
   -- head and cells stored one behind the other
   filled : {start : ℕ} {m exit : List ℕ} → Writable n (length cells) (length entry) → start ≡ cells-from written-version
-      → m ≡ over 0 (head-bytes written-version n) entry → exit ≡ over start cells m → exit ≡ after-writing Fine n cells entry
+      → m ≡ over 0 (head-bytes written-version n) entry → exit ≡ over start cells m → exit ≡ after-writing n cells entry
   filled w e head rest =
       let H = head-bytes written-version n in
       let l = head-length n in
@@ -61,6 +62,6 @@ module _ (n : Counts) (cells entry : List ℕ) where
   wrote f e head rest =
       let w = writable n (length cells) (length entry) f in
       record {
-        says = ap₂ (λ s b. Wrote (s + b)) e (w .bytes-are) ∙ sym (ap (λ v. written v n) f);
-        holds = filled w e head rest ∙ sym (ap (λ v. after-writing v n cells entry) f);
+        says = ap₂ (λ s b. Wrote (s + b)) e (w .bytes-are) ∙ sym (ap (by-verdict NotWritten (Wrote (record-length n))) f);
+        holds = filled w e head rest ∙ sym (ap (by-verdict (λ r. entry) (after-writing n cells entry)) f);
       }

@@ -10,8 +10,7 @@ use Rattle.buffers.specs.Numbers.{two-at}
 use Rattle.cells.specs.declared.Cell.{Cell}
 use Rattle.cells.specs.declared.Refusal.the-variants.{Record, Version}
 use Rattle.cells.specs.declared.Verdict.{Verdict}
-use Rattle.cells.specs.declared.Verdict.the-variants.{Fine, Refused}
-use Rattle.cells.specs.Checks.{refuse-when, _then_}
+use Rattle.cells.specs.Checks.{refuse-when, _then_, by-verdict}
 use Rattle.cells.specs.Refusals.{Told, told}
 use Rattle.records.specs.declared.pairs.Pair.{Pair}
 use Rattle.records.specs.declared.pairs.PairRead.{PairRead}
@@ -49,14 +48,9 @@ pair-check s =
     refuse-when (not (pair-version (version-of s))) Version then
     refuse-when (not (eqb (announced s) (pair-length (version-of s)))) Record
 
--- the answer, by the verdict on the bytes
-abbrev pub pair-by : Verdict → Pair → PairRead
-pair-by Fine e = ReadPair e
-pair-by (Refused r) e = NoPair r
-
 -- "reading a pair answers P and Q"
 unfoldable pub pair-read : List ℕ → PairRead
-pair-read s = pair-by (pair-check s) (pair-in s)
+pair-read s = by-verdict NoPair (ReadPair (pair-in s)) (pair-check s)
 
 -- the contract of the call
 pub record ReadsPair (s : List ℕ) (r : PairRead) : Type 0 where

@@ -11,8 +11,7 @@ use Rattle.buffers.specs.Numbers.{two-at}
 use Rattle.cells.specs.declared.Counts.{Counts}
 use Rattle.cells.specs.declared.Refusal.the-variants.{Record, Version}
 use Rattle.cells.specs.declared.Verdict.{Verdict}
-use Rattle.cells.specs.declared.Verdict.the-variants.{Fine, Refused}
-use Rattle.cells.specs.Checks.{refuse-when, _then_}
+use Rattle.cells.specs.Checks.{refuse-when, _then_, by-verdict}
 use Rattle.cells.specs.Parts.{StartsAt}
 use Rattle.cells.specs.Refusals.{Told, told}
 use Rattle.grids.specs.Grid.{shape}
@@ -58,14 +57,9 @@ venue-check s =
     refuse-when (ltb (announced s) (venue-head (version-of s))) Record then
     shape (venue-in s .counts) (venue-in s .long)
 
--- the answer, by the verdict on the bytes
-abbrev pub venue-by : Verdict → Venue → VenueRead
-venue-by Fine v = Read v
-venue-by (Refused r) v = NoVenue r
-
 -- "Reading a venue answers the counts and the part that holds the cells"
 unfoldable pub venue-read : List ℕ → VenueRead
-venue-read s = venue-by (venue-check s) (venue-in s)
+venue-read s = by-verdict NoVenue (Read (venue-in s)) (venue-check s)
 
 -- the part itself, empty where the venue is refused
 abbrev pub part-of : VenueRead → List ℕ → List ℕ

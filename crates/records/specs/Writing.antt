@@ -9,8 +9,7 @@ use Rattle.buffers.specs.Numbers.{two, four}
 use Rattle.cells.specs.declared.Counts.{Counts}
 use Rattle.cells.specs.declared.Refusal.the-variants.{Room}
 use Rattle.cells.specs.declared.Verdict.{Verdict}
-use Rattle.cells.specs.declared.Verdict.the-variants.{Fine, Refused}
-use Rattle.cells.specs.Checks.{refuse-when, _then_}
+use Rattle.cells.specs.Checks.{refuse-when, _then_, by-verdict}
 use Rattle.cells.specs.Refusals.{Told, told}
 use Rattle.grids.specs.Grid.{size, shape}
 use Rattle.records.specs.declared.writing.Written.{Written}
@@ -37,20 +36,14 @@ record-length n = cells-from written-version + size n
 unfoldable pub write-check : Counts → ℕ → ℕ → Verdict
 write-check n bytes room = shape n bytes then refuse-when (ltb room (record-length n)) Room
 
--- "it answers the number written"
-abbrev pub written : Verdict → Counts → Written
-written Fine n = Wrote (record-length n)
-written (Refused r) n = NotWritten r
+-- "it fills the front, the rest stays"
+abbrev pub after-writing : Counts → List ℕ → List ℕ → List ℕ
+after-writing n cells entry = head-bytes written-version n ++ (cells ++ drop (record-length n) entry)
 
--- "it fills the front, the rest stays"; refused, the memory is as it was
-abbrev pub after-writing : Verdict → Counts → List ℕ → List ℕ → List ℕ
-after-writing Fine n cells entry = head-bytes written-version n ++ (cells ++ drop (record-length n) entry)
-after-writing (Refused r) n cells entry = entry
-
--- the contract of the writing call: one answer, one final memory
+-- the contract of the writing call: one answer, "the number written", and one final memory; refused, the memory as it was
 pub record WritesVenue (n : Counts) (cells entry : List ℕ) (r : Written) (exit : List ℕ) : Type 0 where
-  pub says : r ≡ written (write-check n (length cells) (length entry)) n
-  pub holds : exit ≡ after-writing (write-check n (length cells) (length entry)) n cells entry
+  pub says : r ≡ by-verdict NotWritten (Wrote (record-length n)) (write-check n (length cells) (length entry))
+  pub holds : exit ≡ by-verdict (λ r. entry) (after-writing n cells entry) (write-check n (length cells) (length entry))
 
 -- each case of the answer: what is said of a refusal, or the number of bytes written
 abbrev pub told-written : Written → Told ⊎ ℕ
