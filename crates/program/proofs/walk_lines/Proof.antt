@@ -1,8 +1,7 @@
 -- `program::walk_lines` meets its contract: each line stands right behind the one before it. Assumes nothing.
-use mathlib.Core.Path.{sym}
-use mathlib.Core.List.{append-nil}
 use native.Mathlib.Omega.{arith}
-use Rattle.texts.proofs.Pieces.{then-puts}
+use Rattle.program.specs.Program.{plain-letter, adaptive-letter}
+use Rattle.program.proofs.Lines.{no-line, and-line}
 use borrow.Author.Needs.{needs}
 use Rattle.program.proofs.walk_lines.Statement.{statement}
 use Rattle.program.proofs.walk_lines.Tie as tie
@@ -26,10 +25,12 @@ returns : tie.Need-returns
 returns c =
     let adaptive = c .before .before in
     let plain = adaptive .before .before .before .before .before in
-    let room = plain .before .before .before .before .before .pre in
+    let start = plain .before .before .before .before .before in
+    let k = start .args .k in
+    let room = start .pre in
     let after-plain = plain .walk-line .ensures .1 in
-    rw (sym (plain .before .first-plain .ensures .says), sym (adaptive .before .first-adaptive .ensures .says), append-nil)
-    (then-puts (omega arith) (plain .walk-line .ensures .0) (adaptive .walk-line2 .ensures .0))
+    let one = and-line k plain-letter (omega arith) (no-line k) (plain .walk-line .ensures .0) (plain .before .first-plain .ensures .says) in
+    and-line k adaptive-letter (omega arith) one (adaptive .walk-line2 .ensures .0) (adaptive .before .first-adaptive .ensures .says) .puts
 
 pub walk-lines-spec : {M : Type 1} → statement M
 walk-lines-spec =
