@@ -50,7 +50,7 @@ use Rattle.records.specs.Venues.{told-venue}
 use Rattle.records.specs.Pairs.{told-pair}
 use Rattle.records.specs.declared.writing.Written.{Written}
 use Rattle.records.specs.declared.writing.Written.the-variants.{Wrote, Refused as NotWritten}
-use Rattle.records.specs.Writing.{written, told-written}
+use Rattle.records.specs.Writing.{told-written}
 use Rattle.oatmarten.specs.declared.refusals.OatSaid.{OatSaid}
 use Rattle.oatmarten.specs.declared.line_calls.OatListed.{OatListed}
 use Rattle.oatmarten.specs.declared.grid_calls.OatVerdict.{OatVerdict}
