@@ -6,7 +6,6 @@ use mathlib.Core.List.{List}
 use Prim.Native.Nat.{ℕ, zero, suc, _+_, _-_, _≤_, _<_}
 use native.Mathlib.Omega.{arith}
 use native.Mathlib.Nat.{eq-or-lt-of-le}
-use lib.IntN.{pos}
 use lib.ListN.{length}
 use borrow.Author.Tests.{ne-eqb}
 use Rattle.lines.specs.Steps.{Axis, X, Y, Z, Steps, at, total}
@@ -84,7 +83,9 @@ module _ (bytes : ℕ) (k : Route) (plan : Planned bytes k) (l : List ℕ) where
 
     -- over clear cells, a long step from each
     runs-on : (n : ℕ) → m + n ≤ longest D → ClearTo l k m (m + n) → OnWay (hits l k) (last l k) go (at-number (m + n)) (reads + n)
-    runs-on zero le cl = subst (λ j. OnWay (hits l k) (last l k) go (at-number j) (reads + 0)) (omega arith) (subst (OnWay (hits l k) (last l k) go (at-number m)) (omega arith) (here .walking .on))
+    runs-on zero le cl =
+        subst (λ j. OnWay (hits l k) (last l k) go (at-number j) (reads + 0)) (omega arith)
+        (subst (OnWay (hits l k) (last l k) go (at-number m)) (omega arith) (here .walking .on))
     runs-on (suc n) le cl =
         let j : ℕ = m + n in
         let lt : j < longest D = omega arith in
@@ -97,7 +98,9 @@ module _ (bytes : ℕ) (k : Route) (plan : Planned bytes k) (l : List ℕ) where
         zero-at : m + n < longest D → byte-of (k .n) l (six-cell rule-1 (k .p) (k .q) (at-number (m + n))) ≡ 0
         zero-at lt = sym (ap (byte-of (k .n) l) (six-at-26 rule-1 (k .p) (k .q) (m + n) (omega arith))) ∙ cl (m + n) (omega arith) (omega arith)
 
-    pub clear-turn : (u : Axis) (e : ℕ) → e < left → ClearTo l k m (cell-left k e) → Walking l k go (at-number (cell-left k e)) (reads + (left - e)) (spot-back u D (run-cell k u (cell-left k e)))
+    pub clear-turn :
+        (u : Axis) (e : ℕ) → e < left → ClearTo l k m (cell-left k e) →
+        Walking l k go (at-number (cell-left k e)) (reads + (left - e)) (spot-back u D (run-cell k u (cell-left k e)))
     clear-turn u e fewer cl =
         let is : m + (left - e) ≡ cell-left k e = omega (arith, here .most) in
         record {
@@ -192,7 +195,9 @@ module _ (l : List ℕ) (k : Route) (u : Axis) (s : Spot) (reads left : ℕ) (c 
       end-small = subst SmallDue (sym end-is) (dues-small (length l) k (c .plan) u (cell-left k (r .left)) (omega arith))
 
       -- and leads there
-      pub run-leads : (t : Spot) → t ≡ spot-back u (steps (k .d)) (r .spot) → Reached l k left (record { spot = t; reads = reads + (left - r .left); hit = false; left = r .left })
+      pub run-leads :
+          (t : Spot) → t ≡ spot-back u (steps (k .d)) (r .spot) →
+          Reached l k left (record { spot = t; reads = reads + (left - r .left); hit = false; left = r .left })
       run-leads t e =
           record {
             fewer = ran .fewer;

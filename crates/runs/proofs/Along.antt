@@ -6,7 +6,7 @@ use mathlib.Core.Bool.{Bool, true, false, cond}
 use mathlib.Core.List.{List}
 use Prim.Native.Nat.{ℕ, _+_, _-_, _*_, _≤_, _<_}
 use native.Mathlib.Omega.{arith}
-use native.Mathlib.Nat.{eq-or-lt-of-le, lt-of-lt-of-le}
+use native.Mathlib.Nat.{eq-or-lt-of-le}
 use lib.IntN.{ℤ, pos, _+ℤ_, _-ℤ_}
 use lib.Signed.{leZ}
 use lib.ListN.{length}
@@ -28,8 +28,10 @@ use Rattle.routes.specs.Route.{stride, strides, stride-on, Planned, SpotAt, Has
 use Rattle.routes.proofs.Spots.{short-at, index-next, spot-byte, byte-is, can-cross}
 use Rattle.runs.specs.declared.RunRoute.{RunRoute}
 use Rattle.runs.specs.declared.RunSpot.{RunSpot}
-use Rattle.runs.specs.Run.{v-of, w-of, twice-on, ordered, sides, run-route, due-on, run-spot, spot-back, by-sign, long-step, SmallDue, SmallRoute, CanStep, index-26, cell-left, run-cell, Running, ClearTo, Ran}
-use Rattle.runs.proofs.Due.{nothing-more, turned, turned-back, taken-back, due-small, goes, after-u, after-v, after-w, leads-to, v-moves, w-moves, third-by-v, third-by-w}
+use Rattle.runs.specs.Run.{v-of, w-of, twice-on, sides-by, run-route, due-on, run-spot, spot-back, by-sign, long-step}
+use Rattle.runs.specs.Run.{SmallDue, SmallRoute, CanStep, index-26, cell-left, run-cell, Running, ClearTo, Ran}
+use Rattle.runs.proofs.Due.{nothing-more, turned, turned-back, taken-back, due-small}
+use Rattle.runs.proofs.Due.{goes, after-v, after-w, leads-to, v-moves, w-moves, third-by-v, third-by-w}
 
 -- a stride is so small that the sum of two is
 module _ (p q : ℤ) (w : ℕ) (most : w ≤ 1048576) where
@@ -82,10 +84,10 @@ module _ (bytes : ℕ) (k : Route) (plan : Planned bytes k) where
 
   -- the route of its runs, from the ends
   abbrev run-there : Axis → RunRoute
-  run-there u = sides (ordered by u) (ordered twice u)
+  run-there u = sides-by by twice u
 
   pub route-is : (u : Axis) → run-route k u ≡ run-there u
-  route-is u = ap₂ (λ s d. sides (ordered (stride-on s) u) (ordered d u)) (plan .moves) (ap twice-on (plan .twice) ∙ twice-is D)
+  route-is u = ap₂ (λ s d. sides-by (stride-on s) d u) (plan .moves) (ap twice-on (plan .twice) ∙ twice-is D)
 
   -- a spot of any place
   abbrev spot-there : Steps → Spot
@@ -123,12 +125,16 @@ module _ (bytes : ℕ) (k : Route) (plan : Planned bytes k) where
   none-small = nat-small 0 (omega arith)
 
   -- the byte's place after a step that is made where it is asked for
-  index-where : (go : Bool) (n : Axis) (t : Steps) → ((a : Axis) → where-to go n t a ≤ D a) → pos (index-of t) +ℤ cond go (by n) (pos 0) ≡ pos (index-of (where-to go n t))
+  index-where :
+      (go : Bool) (n : Axis) (t : Steps) → ((a : Axis) → where-to go n t a ≤ D a) →
+      pos (index-of t) +ℤ cond go (by n) (pos 0) ≡ pos (index-of (where-to go n t))
   index-where true n t le = index-next bytes k plan t n le
   index-where false n t le = nothing-more (pos (index-of t))
 
   -- and after one along u before it
-  index-with : (go : Bool) (u n : Axis) (t : Steps) → ((a : Axis) → where-to go n (where-to true u t) a ≤ D a) → pos (index-of t) +ℤ cond go (by u +ℤ by n) (by u) ≡ pos (index-of (where-to go n (where-to true u t)))
+  index-with :
+      (go : Bool) (u n : Axis) (t : Steps) → ((a : Axis) → where-to go n (where-to true u t) a ≤ D a) →
+      pos (index-of t) +ℤ cond go (by u +ℤ by n) (by u) ≡ pos (index-of (where-to go n (where-to true u t)))
   index-with true u n t le =
       at-once (pos (index-of t)) (by u) (by n)
       ∙ ap (λ i. i +ℤ by n) (index-next bytes k plan t u (λ a. omega (arith, le a, where-at true n (where-to true u t) a)))
@@ -136,56 +142,67 @@ module _ (bytes : ℕ) (k : Route) (plan : Planned bytes k) where
   index-with false u n t le = index-next bytes k plan t u le
 
   module _ (u : Axis) (long : D u ≡ longest D) (m : ℕ) (lt : m < longest D) where
+    abbrev v : Axis
+    v = v-of u
+
+    abbrev w : Axis
+    w = w-of u
+
     abbrev t : Steps
     t = place-26 D m
 
     abbrev t-v : Steps
     t-v = after-v D u long m lt
 
+    within-t : (a : Axis) → t a ≤ D a
+    within-t = within-26 D m (omega arith)
+
     within-w : (a : Axis) → after-w D u long m lt a ≤ D a
     within-w a = omega (arith, leads-to D u long m lt a, within-26 D (m + 1) (omega arith) a)
 
     within-v : (a : Axis) → t-v a ≤ D a
-    within-v a = omega (arith, within-w a, where-at (goes D u long m lt (w-of u)) (w-of u) t-v a)
+    within-v a = omega (arith, within-w a, where-at (goes D u long m lt w) w t-v a)
 
-    index-v : pos (index-26 k m) +ℤ by-sign (due-on D t u (v-of u)) (by u +ℤ by (v-of u)) (by u) ≡ pos (index-of t-v)
-    index-v = index-with (goes D u long m lt (v-of u)) u (v-of u) t within-v
+    index-v : pos (index-26 k m) +ℤ by-sign (due-on D t u v) (by u +ℤ by v) (by u) ≡ pos (index-of t-v)
+    index-v = index-with (goes D u long m lt v) u v t within-v
 
     -- so it leads to the next cell
     step-there : long-step (run-there u) (run-cell k u m) ≡ run-cell k u (m + 1)
     step-there =
         (λ i. record {
-          at =
-              (ap (λ z. z +ℤ by-sign (due-on D t u (w-of u)) (by (w-of u)) (pos 0)) index-v
-              ∙ index-where (goes D u long m lt (w-of u)) (w-of u) t-v within-w) i;
+          at = (ap (λ z. z +ℤ by-sign (due-on D t u w) (by w) (pos 0)) index-v ∙ index-where (goes D u long m lt w) w t-v within-w) i;
           v = sym (v-moves D u long m lt) i;
           w = sym (w-moves D u long m lt) i;
-          wv = (ap (λ z. z +ℤ by-sign (due-on D t u (w-of u)) (twice (v-of u)) (pos 0)) (sym (third-by-v D u long m lt)) ∙ sym (third-by-w D u long m lt)) i;
+          wv = (ap (λ z. z +ℤ by-sign (due-on D t u w) (twice v) (pos 0)) (sym (third-by-v D u long m lt)) ∙ sym (third-by-w D u long m lt)) i;
         })
-        ∙ ap (λ s. record { at = pos (index-of s); v = due-on D s u (v-of u); w = due-on D s u (w-of u); wv = decision D s (w-of u) (v-of u) }) (fun-ext (leads-to D u long m lt))
+        ∙ ap (λ s. record { at = pos (index-of s); v = due-on D s u v; w = due-on D s u w; wv = decision D s w v }) (fun-ext (leads-to D u long m lt))
 
     pub step-next : long-step (run-route k u) (run-cell k u m) ≡ run-cell k u (m + 1)
     step-next = ap (λ h. long-step h (run-cell k u m)) (route-is u) ∙ step-there
 
-    within-t : (a : Axis) → t a ≤ D a
-    within-t = within-26 D m (omega arith)
+    -- and every sum fits
+    due-at : (b : Axis) → Small (due-on D t u b)
+    due-at b = due-small D t u b (short-at bytes k plan) within-t
+
+    third-at : (s : Steps) → ((a : Axis) → s a ≤ D a) → Small (decision D s w v)
+    third-at s le = decision-small D s (short-at bytes k plan) le w v
 
     pub can-step : CanStep (run-route k u) (run-cell k u m)
     can-step =
         subst (λ h. CanStep h (run-cell k u m)) (sym (route-is u))
         (record {
           v = record {
-            stay = record { at = by-small u; due = twice-small (v-of u); wv = none-small };
-            go = record { at = sum-small (by u) (by (v-of u)) (by-most u) (by-most (v-of u)); due = less-small (v-of u) u; wv = back-small (w-of u) };
-            from = record { at = index-small t within-t; due = due-small D t u (v-of u) (short-at bytes k plan) within-t; wv = decision-small D t (short-at bytes k plan) within-t (w-of u) (v-of u) };
+            stay = record { at = by-small u; due = twice-small v; wv = none-small };
+            go = record { at = sum-small (by u) (by v) (by-most u) (by-most v); due = less-small v u; wv = back-small w };
+            from = record { at = index-small t within-t; due = due-at v; wv = third-at t within-t };
           };
           w = record {
-            stay = record { at = none-small; due = twice-small (w-of u); wv = none-small };
-            go = record { at = by-small (w-of u); due = less-small (w-of u) u; wv = twice-small (v-of u) };
+            stay = record { at = none-small; due = twice-small w; wv = none-small };
+            go = record { at = by-small w; due = less-small w u; wv = twice-small v };
             from = record {
               at = subst Small (sym index-v) (index-small t-v within-v);
-              due = due-small D t u (w-of u) (short-at bytes k plan) within-t;
-              wv = subst Small (third-by-v D u long m lt) (decision-small D t-v (short-at bytes k plan) within-v (w-of u) (v-of u));
+              due = due-at w;
+              wv = subst Small (third-by-v D u long m lt) (third-at t-v within-v);
             };
           };
         })
@@ -197,7 +214,9 @@ module _ (bytes : ℕ) (k : Route) (plan : Planned bytes k) where
     run-byte = spot-byte bytes k plan (place-26 D m) (spot-there (place-26 D m)) (within-26 D m le) (is-spot (place-26 D m))
 
     pub run-byte-is : (cells : List ℕ) → byte-there cells (run-cell k u m .at) ≡ byte-of (k .n) cells (cell-26 (k .p) (k .q) m)
-    run-byte-is cells = byte-is bytes k plan cells (place-26 D m) (spot-there (place-26 D m)) (is-spot (place-26 D m)) ∙ ap (byte-of (k .n) cells) (sym (is-26 rule-1 (k .p) (k .q) m))
+    run-byte-is cells =
+        byte-is bytes k plan cells (place-26 D m) (spot-there (place-26 D m)) (is-spot (place-26 D m))
+        ∙ ap (byte-of (k .n) cells) (sym (is-26 rule-1 (k .p) (k .q) m))
 
     -- what is due may be added
     pub dues-small : SmallDue (run-cell k u m)
@@ -210,16 +229,30 @@ module _ (bytes : ℕ) (k : Route) (plan : Planned bytes k) where
   pub run-starts : (u : Axis) (m : ℕ) (s : Spot) → SpotAt k (place-26 D m) s → run-spot u D s ≡ run-cell k u m
   run-starts u m s h = ap₂ (λ i e. run-spot u D (record { at = i; e = e })) (h .index) (h .value) ∙ from u
     where
+      t : Steps
+      t = place-26 D m
+
       from : (u : Axis) → run-spot u D (spot-there (place-26 D m)) ≡ run-cell k u m
       from X = refl
-      from Y = λ i. record { at = pos (index-26 k m); v = turned D (place-26 D m) Y Z i; w = turned D (place-26 D m) Y X i; wv = decision D (place-26 D m) X Z }
-      from Z = λ i. record { at = pos (index-26 k m); v = due-on D (place-26 D m) Z Y; w = turned D (place-26 D m) Z X i; wv = decision D (place-26 D m) X Y }
+      from Y = λ i. record { at = pos (index-26 k m); v = turned D t Y Z i; w = turned D t Y X i; wv = decision D t X Z }
+      from Z = λ i. record { at = pos (index-26 k m); v = due-on D t Z Y; w = turned D t Z X i; wv = decision D t X Y }
 
   -- and back
   pub run-ends : (u : Axis) (m : ℕ) → SpotAt k (place-26 D m) (spot-back u D (run-cell k u m))
-  run-ends X m = record { index = refl; value = λ i. record { xy = taken-back D (place-26 D m) X Y i; xz = taken-back D (place-26 D m) X Z i; zy = decision D (place-26 D m) Z Y } }
-  run-ends Y m = record { index = refl; value = λ i. record { xy = turned-back D (place-26 D m) Y X i; xz = decision D (place-26 D m) X Z; zy = turned-back D (place-26 D m) Y Z i } }
-  run-ends Z m = record { index = refl; value = λ i. record { xy = decision D (place-26 D m) X Y; xz = turned-back D (place-26 D m) Z X i; zy = taken-back D (place-26 D m) Z Y i } }
+  run-ends u m = record { index = at u; value = values-back u }
+    where
+      t : Steps
+      t = place-26 D m
+
+      at : (u : Axis) → spot-back u D (run-cell k u m) .at ≡ pos (index-26 k m)
+      at X = refl
+      at Y = refl
+      at Z = refl
+
+      values-back : (u : Axis) → spot-back u D (run-cell k u m) .e ≡ values D (place-26 D m)
+      values-back X = λ i. record { xy = taken-back D t X Y i; xz = taken-back D t X Z i; zy = decision D t Z Y }
+      values-back Y = λ i. record { xy = turned-back D t Y X i; xz = decision D t X Z; zy = turned-back D t Y Z i }
+      values-back Z = λ i. record { xy = decision D t X Y; xz = turned-back D t Z X i; zy = taken-back D t Z Y i }
 
 -- ---- a run on its way
 
@@ -227,7 +260,9 @@ module _ (bytes : ℕ) (k : Route) (plan : Planned bytes k) where
 pub record Follows (cells : List ℕ) (h : RunRoute) (start : RunSpot) (from left : ℕ) (s : RunSpot) : Type 0 where
   pub most : left ≤ from
   pub clear : from ≤ left → byte-there cells (s .at) ≡ 0
-  pub leads : (k : Route) (u : Axis) → Running cells h start from k u → (s ≡ run-cell k u (cell-left k left)) × ClearTo cells k (cell-left k from) (cell-left k left)
+  pub leads :
+      (k : Route) (u : Axis) → Running cells h start from k u →
+      (s ≡ run-cell k u (cell-left k left)) × ClearTo cells k (cell-left k from) (cell-left k left)
 
 module _ (cells : List ℕ) (h : RunRoute) (start : RunSpot) (from : ℕ) where
   -- it starts
@@ -248,10 +283,14 @@ module _ (cells : List ℕ) (h : RunRoute) (start : RunSpot) (from : ℕ) where
     -- every sum of a step from there fits, and there is a byte
     pub steps-on : {k : Route} {u : Axis} → Running cells h start from k u → 0 < left → CanStep h s
     steps-on {k} {u} r some =
-        subst (CanStep h) (sym (w .leads k u r .0)) (subst (λ g. CanStep g (run-cell k u (cell-left k left))) (sym (r .route)) (can-step (length cells) k (r .plan) u (r .long) (cell-left k left) (below r some)))
+        subst (CanStep h) (sym (w .leads k u r .0))
+        (subst (λ g. CanStep g (run-cell k u (cell-left k left))) (sym (r .route))
+        (can-step (length cells) k (r .plan) u (r .long) (cell-left k left) (below r some)))
 
     pub byte-on : {k : Route} {u : Axis} → Running cells h start from k u → HasByte (length cells) (s .at)
-    byte-on {k} {u} r = subst (λ z. HasByte (length cells) (z .at)) (sym (w .leads k u r .0)) (run-byte (length cells) k (r .plan) u (cell-left k left) (within r))
+    byte-on {k} {u} r =
+        subst (λ z. HasByte (length cells) (z .at)) (sym (w .leads k u r .0))
+        (run-byte (length cells) k (r .plan) u (cell-left k left) (within r))
 
     -- a clear cell leads on
     pub one-step : 0 < left → byte-there cells (s .at) ≡ 0 → Follows cells h start from (left - 1) (long-step h s)
@@ -260,7 +299,8 @@ module _ (cells : List ℕ) (h : RunRoute) (start : RunSpot) (from : ℕ) where
           most = omega (arith, w .most);
           clear = λ le. absurd (omega (arith, w .most));
           leads = λ k u r. (
-            ap₂ long-step (r .route) (w .leads k u r .0) ∙ step-next (length cells) k (r .plan) u (r .long) (cell-left k left) (below r some) ∙ ap (run-cell k u) (one-less r some),
+            ap₂ long-step (r .route) (w .leads k u r .0) ∙ step-next (length cells) k (r .plan) u (r .long) (cell-left k left) (below r some)
+                ∙ ap (run-cell k u) (one-less r some),
             λ j ge less.
                 ⊎-elim (λ e. subst (λ i. byte-of (k .n) cells (cell-26 (k .p) (k .q) i) ≡ 0) (sym e) (zero-here r)) (λ before. w .leads k u r .1 j ge before)
                 (eq-or-lt-of-le {n = j} {m = cell-left k left} (omega (arith, one-less r some))),
@@ -268,7 +308,9 @@ module _ (cells : List ℕ) (h : RunRoute) (start : RunSpot) (from : ℕ) where
         }
       where
         zero-here : {k : Route} {u : Axis} → Running cells h start from k u → byte-of (k .n) cells (cell-26 (k .p) (k .q) (cell-left k left)) ≡ 0
-        zero-here {k} {u} r = sym (run-byte-is (length cells) k (r .plan) u (cell-left k left) (within r) cells) ∙ ap (λ z. byte-there cells (z .at)) (sym (w .leads k u r .0)) ∙ zero-there
+        zero-here {k} {u} r =
+            sym (run-byte-is (length cells) k (r .plan) u (cell-left k left) (within r) cells)
+            ∙ ap (λ z. byte-there cells (z .at)) (sym (w .leads k u r .0)) ∙ zero-there
 
     -- it stops at a cell that is not clear, or at the last
     pub stopped : left < from → Ran cells h start from (record { spot = s; left = left })

@@ -22,10 +22,14 @@ use Rattle.runs.specs.Run.{v-of, w-of, due-on, by-sign}
 
 -- the pair in the other order: B - e_bu
 other-order : (p q n : ℕ) → pos n -ℤ (pos q -ℤ pos p) ≡ (pos p -ℤ pos q) +ℤ pos n
-other-order p q n = same-number _ _ (omega (arith, diff-is (pos n) (pos q -ℤ pos p), diff-is (pos q) (pos p), sum-is (pos p -ℤ pos q) (pos n), diff-is (pos p) (pos q)))
+other-order p q n =
+    same-number _ _
+    (omega (arith, diff-is (pos n) (pos q -ℤ pos p), diff-is (pos q) (pos p), sum-is (pos p -ℤ pos q) (pos n), diff-is (pos p) (pos q)))
 
 other-back : (p q n : ℕ) → pos n -ℤ ((pos p -ℤ pos q) +ℤ pos n) ≡ pos q -ℤ pos p
-other-back p q n = same-number _ _ (omega (arith, diff-is (pos n) ((pos p -ℤ pos q) +ℤ pos n), sum-is (pos p -ℤ pos q) (pos n), diff-is (pos p) (pos q), diff-is (pos q) (pos p)))
+other-back p q n =
+    same-number _ _
+    (omega (arith, diff-is (pos n) ((pos p -ℤ pos q) +ℤ pos n), sum-is (pos p -ℤ pos q) (pos n), diff-is (pos p) (pos q), diff-is (pos q) (pos p)))
 
 module _ (D t : Steps) (u b : Axis) where
   pub turned : pos (D b) -ℤ decision D t b u ≡ due-on D t u b
@@ -85,29 +89,68 @@ three-apart Z = record { uv = refl; uw = refl; vu = refl; vw = refl; wu = refl; 
 
 -- ---- the long step from 26-line cell m
 
+-- a move takes back what the step along u adds
+move-taken : (go : Bool) (e : ℤ) (n x y : ℕ) → ((e +ℤ pos x) +ℤ cond go (pos 0 -ℤ pos y) (pos 0)) +ℤ pos n ≡ (e +ℤ pos n) +ℤ cond go (pos x -ℤ pos y) (pos x)
+move-taken true e n x y =
+    same-number _ _
+    (omega (
+      arith,
+      sum-is ((e +ℤ pos x) +ℤ (pos 0 -ℤ pos y)) (pos n),
+      sum-is (e +ℤ pos x) (pos 0 -ℤ pos y),
+      sum-is e (pos x),
+      diff-is (pos 0) (pos y),
+      sum-is (e +ℤ pos n) (pos x -ℤ pos y),
+      sum-is e (pos n),
+      diff-is (pos x) (pos y),
+    ))
+move-taken false e n x y =
+    same-number _ _
+    (omega (
+      arith,
+      sum-is ((e +ℤ pos x) +ℤ pos 0) (pos n),
+      sum-is (e +ℤ pos x) (pos 0),
+      sum-is e (pos x),
+      sum-is (e +ℤ pos n) (pos x),
+      sum-is e (pos n),
+    ))
+
 module _ (D : Steps) (u : Axis) (long : D u ≡ longest D) (m : ℕ) (lt : m < longest D) where
+  abbrev v : Axis
+  v = v-of u
+
+  abbrev w : Axis
+  w = w-of u
+
   abbrev t : Steps
   t = place-26 D m
 
+  abbrev due : Axis → ℤ
+  due b = due-on D t u b
+
+  abbrev twice : Axis → ℤ
+  twice a = pos (2 * D a)
+
   -- whether an axis moves
   abbrev pub goes : Axis → Bool
-  goes b = leZ (pos 0) (due-on D t u b)
+  goes b = leZ (pos 0) (due b)
 
   -- the place after the step along u, then v, then w
-  abbrev pub after-u : Steps
+  abbrev after-u : Steps
   after-u = where-to true u t
 
   abbrev pub after-v : Steps
-  after-v = where-to (goes (v-of u)) (v-of u) after-u
+  after-v = where-to (goes v) v after-u
 
   abbrev pub after-w : Steps
-  after-w = where-to (goes (w-of u)) (w-of u) after-v
+  after-w = where-to (goes w) w after-v
 
   pub leads-to : (a : Axis) → after-w a ≡ place-26 D (m + 1) a
-  leads-to a = parts ∙ sums u a t (place-26 D (m + 1)) (bit (goes (v-of u))) (bit (goes (w-of u))) (longest-goes D m lt u long) (first-goes D m lt u (v-of u) long) (first-goes D m lt u (w-of u) long)
+  leads-to a =
+      parts
+      ∙ sums u a t (place-26 D (m + 1)) (bit (goes v)) (bit (goes w)) (longest-goes D m lt u long) (first-goes D m lt u v long) (first-goes D m lt u w long)
     where
-      parts : after-w a ≡ t a + same u a + bit (goes (v-of u)) * same (v-of u) a + bit (goes (w-of u)) * same (w-of u) a
-      parts = omega (arith, where-at true u t a, where-at (goes (v-of u)) (v-of u) after-u a, where-at (goes (w-of u)) (w-of u) after-v a)
+      parts : after-w a ≡ t a + same u a + bit (goes v) * same v a + bit (goes w) * same w a
+      parts = omega (arith, where-at true u t a, where-at (goes v) v after-u a, where-at (goes w) w after-v a)
 
       sums :
           (u a : Axis) (t t′ : Steps) (f g : ℕ) → t′ u ≡ t u + 1 → t′ (v-of u) ≡ t (v-of u) + f → t′ (w-of u) ≡ t (w-of u) + g →
@@ -122,46 +165,33 @@ module _ (D : Steps) (u : Axis) (long : D u ≡ longest D) (m : ℕ) (lt : m < l
       sums Z Y t t′ f g p q r = omega arith
       sums Z Z t t′ f g p q r = omega arith
 
-  -- what is due on an axis: its own move takes back what the step along u adds
-  due-moves : (b : Axis) → decision D after-w u b ≡ (decision D t u b +ℤ pos (2 * D b)) +ℤ cond (goes b) (pos 0 -ℤ pos (2 * D u)) (pos 0) → due-on D after-w u b ≡ due-on D t u b +ℤ by-sign (due-on D t u b) (pos (2 * D b) -ℤ pos (2 * D u)) (pos (2 * D b))
-  due-moves b is = ap (λ z. z +ℤ pos (D b)) is ∙ by (goes b) (decision D t u b) (D b) (2 * D b) (2 * D u)
-    where
-      by : (go : Bool) (e : ℤ) (n x y : ℕ) → ((e +ℤ pos x) +ℤ cond go (pos 0 -ℤ pos y) (pos 0)) +ℤ pos n ≡ (e +ℤ pos n) +ℤ cond go (pos x -ℤ pos y) (pos x)
-      by true e n x y =
-          same-number _ _
-          (omega (
-            arith,
-            sum-is ((e +ℤ pos x) +ℤ (pos 0 -ℤ pos y)) (pos n),
-            sum-is (e +ℤ pos x) (pos 0 -ℤ pos y),
-            sum-is e (pos x),
-            diff-is (pos 0) (pos y),
-            sum-is (e +ℤ pos n) (pos x -ℤ pos y),
-            sum-is e (pos n),
-            diff-is (pos x) (pos y),
-          ))
-      by false e n x y = same-number _ _ (omega (arith, sum-is ((e +ℤ pos x) +ℤ pos 0) (pos n), sum-is (e +ℤ pos x) (pos 0), sum-is e (pos x), sum-is (e +ℤ pos n) (pos x), sum-is e (pos n)))
+  -- what is due on an axis, from its decision value
+  due-moves :
+      (b : Axis) → decision D after-w u b ≡ (decision D t u b +ℤ twice b) +ℤ cond (goes b) (pos 0 -ℤ twice u) (pos 0) →
+      due-on D after-w u b ≡ due b +ℤ by-sign (due b) (twice b -ℤ twice u) (twice b)
+  due-moves b is = ap (λ z. z +ℤ pos (D b)) is ∙ move-taken (goes b) (decision D t u b) (D b) (2 * D b) (2 * D u)
 
-  pub v-moves : due-on D after-w u (v-of u) ≡ due-on D t u (v-of u) +ℤ by-sign (due-on D t u (v-of u)) (pos (2 * D (v-of u)) -ℤ pos (2 * D u)) (pos (2 * D (v-of u)))
+  pub v-moves : due-on D after-w u v ≡ due v +ℤ by-sign (due v) (twice v -ℤ twice u) (twice v)
   v-moves =
       let k = three-apart u in
-      due-moves (v-of u)
-      (where-keeps D after-v u (v-of u) (goes (w-of u)) (w-of u) (k .wu) (k .wv)
-      ∙ where-takes D after-u u (v-of u) (goes (v-of u)) (k .vu)
-      ∙ ap (λ z. z +ℤ cond (goes (v-of u)) (pos 0 -ℤ pos (2 * D u)) (pos 0)) (where-adds D t u (v-of u) true (k .uv)))
+      due-moves v
+      (where-keeps D after-v u v (goes w) w (k .wu) (k .wv)
+      ∙ where-takes D after-u u v (goes v) (k .vu)
+      ∙ ap (λ z. z +ℤ cond (goes v) (pos 0 -ℤ twice u) (pos 0)) (where-adds D t u v true (k .uv)))
 
-  pub w-moves : due-on D after-w u (w-of u) ≡ due-on D t u (w-of u) +ℤ by-sign (due-on D t u (w-of u)) (pos (2 * D (w-of u)) -ℤ pos (2 * D u)) (pos (2 * D (w-of u)))
+  pub w-moves : due-on D after-w u w ≡ due w +ℤ by-sign (due w) (twice w -ℤ twice u) (twice w)
   w-moves =
       let k = three-apart u in
-      due-moves (w-of u)
-      (where-takes D after-v u (w-of u) (goes (w-of u)) (k .wu)
-      ∙ ap (λ z. z +ℤ cond (goes (w-of u)) (pos 0 -ℤ pos (2 * D u)) (pos 0)) (where-keeps D after-u u (w-of u) (goes (v-of u)) (v-of u) (k .vu) (k .vw) ∙ where-adds D t u (w-of u) true (k .uw)))
+      due-moves w
+      (where-takes D after-v u w (goes w) (k .wu)
+      ∙ ap (λ z. z +ℤ cond (goes w) (pos 0 -ℤ twice u) (pos 0)) (where-keeps D after-u u w (goes v) v (k .vu) (k .vw) ∙ where-adds D t u w true (k .uw)))
 
   -- the third value, by the same two signs
-  pub third-by-v : decision D after-v (w-of u) (v-of u) ≡ decision D t (w-of u) (v-of u) +ℤ by-sign (due-on D t u (v-of u)) (pos 0 -ℤ pos (2 * D (w-of u))) (pos 0)
+  pub third-by-v : decision D after-v w v ≡ decision D t w v +ℤ by-sign (due v) (pos 0 -ℤ twice w) (pos 0)
   third-by-v =
       let k = three-apart u in
-      where-takes D after-u (w-of u) (v-of u) (goes (v-of u)) (k .vw)
-      ∙ ap (λ z. z +ℤ cond (goes (v-of u)) (pos 0 -ℤ pos (2 * D (w-of u))) (pos 0)) (where-keeps D t (w-of u) (v-of u) true u (k .uw) (k .uv))
+      where-takes D after-u w v (goes v) (k .vw)
+      ∙ ap (λ z. z +ℤ cond (goes v) (pos 0 -ℤ twice w) (pos 0)) (where-keeps D t w v true u (k .uw) (k .uv))
 
-  pub third-by-w : decision D after-w (w-of u) (v-of u) ≡ decision D after-v (w-of u) (v-of u) +ℤ by-sign (due-on D t u (w-of u)) (pos (2 * D (v-of u))) (pos 0)
-  third-by-w = where-adds D after-v (w-of u) (v-of u) (goes (w-of u)) (three-apart u .wv)
+  pub third-by-w : decision D after-w w v ≡ decision D after-v w v +ℤ by-sign (due w) (twice v) (pos 0)
+  third-by-w = where-adds D after-v w v (goes w) (three-apart u .wv)

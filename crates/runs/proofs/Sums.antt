@@ -11,8 +11,7 @@ use Rattle.cells.specs.Small.{Small}
 use Rattle.cells.proofs.Machine.{held, held-is, small-held, small-diff, sum-fits, sum-held, nat-held, nat-small}
 use Rattle.tripod.proofs.Laws.{plus-fits}
 use Rattle.runs.specs.declared.Triple.{Triple}
-use Rattle.runs.specs.declared.Ordered.{Ordered}
-use Rattle.runs.specs.Run.{by-sign, SmallTriple, SmallOrdered}
+use Rattle.runs.specs.Run.{by-sign, SmallTriple}
 
 -- ---- the long step
 
@@ -43,13 +42,6 @@ held-triple t = record { at = held (t .at); due = held (t .due); wv = held (t .w
 
 pub triple-held : (t : Triple) → SmallTriple t → held-triple t ≡ t
 triple-held t h = λ i. record { at = small-held (t .at) (h .at) i; due = small-held (t .due) (h .due) i; wv = small-held (t .wv) (h .wv) i }
-
--- and so a number of each axis
-abbrev pub held-ordered : Ordered → Ordered
-held-ordered n = record { u = held (n .u); v = held (n .v); w = held (n .w) }
-
-pub ordered-held : (n : Ordered) → SmallOrdered n → held-ordered n ≡ n
-ordered-held n h = λ i. record { u = small-held (n .u) (h .u) i; v = small-held (n .v) (h .v) i; w = small-held (n .w) (h .w) i }
 
 -- ---- the tripod's values
 

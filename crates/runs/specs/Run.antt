@@ -17,7 +17,6 @@ use Rattle.grids.specs.Grid.{byte-of, byte-index}
 use Rattle.routes.specs.declared.Route.{Route}
 use Rattle.routes.specs.declared.Spot.{Spot}
 use Rattle.routes.specs.Route.{stride-on, byte-there, Planned}
-use Rattle.runs.specs.declared.Ordered.{Ordered}
 use Rattle.runs.specs.declared.Triple.{Triple}
 use Rattle.runs.specs.declared.Side.{Side}
 use Rattle.runs.specs.declared.RunRoute.{RunRoute}
@@ -37,18 +36,14 @@ w-of X = Z
 w-of Y = X
 w-of Z = X
 
--- a number of each axis, in that order
-abbrev pub ordered : (Axis → ℤ) → Axis → Ordered
-ordered n u = record { u = n u; v = n (v-of u); w = n (w-of u) }
-
 -- ---- what stays the same
 
 -- what a long step adds: along u and v to what v moves, along w to what w moves
-abbrev pub sides : Ordered → Ordered → RunRoute
-sides s d =
+abbrev pub sides : (su sv sw u2 v2 w2 : ℤ) → RunRoute
+sides su sv sw u2 v2 w2 =
     record {
-      v = record { stay = record { at = s .u; due = d .v; wv = pos 0 }; go = record { at = s .u +ℤ s .v; due = d .v -ℤ d .u; wv = pos 0 -ℤ d .w } };
-      w = record { stay = record { at = pos 0; due = d .w; wv = pos 0 }; go = record { at = s .w; due = d .w -ℤ d .u; wv = d .v } };
+      v = record { stay = record { at = su; due = v2; wv = pos 0 }; go = record { at = su +ℤ sv; due = v2 -ℤ u2; wv = pos 0 -ℤ w2 } };
+      w = record { stay = record { at = pos 0; due = w2; wv = pos 0 }; go = record { at = sw; due = w2 -ℤ u2; wv = v2 } };
     }
 
 -- twice the difference along an axis
@@ -57,9 +52,13 @@ twice-on d X = d .a2
 twice-on d Y = d .b2
 twice-on d Z = d .c2
 
--- of a route whose longest axis is u
+-- by the numbers of each axis, the longest being u
+abbrev pub sides-by : (Axis → ℤ) → (Axis → ℤ) → Axis → RunRoute
+sides-by stride twice u = sides (stride u) (stride (v-of u)) (stride (w-of u)) (twice u) (twice (v-of u)) (twice (w-of u))
+
+-- of a route
 abbrev pub run-route : Route → Axis → RunRoute
-run-route k u = sides (ordered (stride-on (k .strides)) u) (ordered (twice-on (k .twice)) u)
+run-route k u = sides-by (stride-on (k .strides)) (twice-on (k .twice)) u
 
 -- ---- a cell of a run
 
@@ -112,11 +111,6 @@ long-step k s =
     }
 
 -- ---- what is asked: every sum fits
-
-pub record SmallOrdered (n : Ordered) : Type 0 where
-  pub u : Small (n .u)
-  pub v : Small (n .v)
-  pub w : Small (n .w)
 
 pub record SmallRoute (k : Route) : Type 0 where
   pub x : Small (k .strides .x)
@@ -182,4 +176,6 @@ ClearTo cells k m e = (j : ℕ) → m ≤ j → j < e → byte-of (k .n) cells (
 -- and whichever it is, it went on over clear cells alone
 pub record Ran (cells : List ℕ) (h : RunRoute) (start : RunSpot) (left : ℕ) (r : Run) : Type 0 where
   pub fewer : r .left < left
-  pub leads : (k : Route) (u : Axis) → Running cells h start left k u → (r .spot ≡ run-cell k u (cell-left k (r .left))) × ClearTo cells k (cell-left k left) (cell-left k (r .left))
+  pub leads :
+      (k : Route) (u : Axis) → Running cells h start left k u →
+      (r .spot ≡ run-cell k u (cell-left k (r .left))) × ClearTo cells k (cell-left k left) (cell-left k (r .left))

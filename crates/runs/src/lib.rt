@@ -1,23 +1,17 @@
 // Clear runs: long steps one after another while the byte is 0. u is the longest axis, v and w are the two others. What is due on v and on w tells by
-// its sign whether the long step moves along it, and it and the third of the tripod's values move by sums, with no branch; so a run goes from spot to
-// spot.
+// its sign whether the long step moves along it. It moves by sums, with no branch, and so does the third of the tripod's values, by the same signs:
+// where a run ends all three are at hand.
 ghost use mathlib.Core.Path.{_≡_};
 ghost use lib.ListN.{length};
+ghost use Rattle.cells.specs.Small.{Small};
 ghost use Rattle.tripod.specs.Tripod.{steps, Short, SmallTripod};
 ghost use Rattle.routes.specs.Route.{HasByte, byte-there};
-ghost use Rattle.runs.specs.Run.{by-sign, sides, run-route, run-spot, spot-back, moved-by, long-step, SmallOrdered, SmallRoute, SmallDue, CanMove, CanStep, CanRun, Ran};
+ghost use Rattle.runs.specs.Run.{by-sign, sides, run-route, run-spot, spot-back, moved-by, long-step, SmallRoute, SmallDue, CanMove, CanStep, CanRun, Ran};
 use cells::Axis;
 use lines::Tripod;
 use routes::Route;
 use routes::Spot;
 use tripod::Diffs;
-
-// A number of each axis, the longest first.
-pub struct Ordered {
-    pub u: i32,
-    pub v: i32,
-    pub w: i32,
-}
 
 // The three numbers that a shorter axis moves: the place of the byte, what is due on the axis, and the third value, that of w and v.
 pub struct Triple {
@@ -52,39 +46,40 @@ pub struct Run {
     pub left: u32,
 }
 
-// What a long step adds, from the strides and from twice the differences.
-fn sides_of(stride: Ordered, twice: Ordered) -> RunRoute
-    requires { ⌜ SmallOrdered stride × SmallOrdered twice ⌝ }
-    ensures { λ r. ⌜ r ≡ sides stride twice ⌝ }
+// What a long step adds, from the strides along u, v and w and twice their differences. Its sums are made once, here: a step chooses and adds.
+fn sides_of(su: i32, sv: i32, sw: i32, u2: i32, v2: i32, w2: i32) -> RunRoute
+    requires { ⌜ Small su × Small sv × Small sw × Small u2 × Small v2 × Small w2 ⌝ }
+    ensures { λ r. ⌜ r ≡ sides su sv sw u2 v2 w2 ⌝ }
 {
     let v = Side {
         stay: Triple {
-            at: stride.u,
-            due: twice.v,
+            at: su,
+            due: v2,
             wv: 0,
         },
         go: Triple {
-            at: stride.u + stride.v,
-            due: twice.v - twice.u,
-            wv: 0 - twice.w,
+            at: su + sv,
+            due: v2 - u2,
+            wv: 0 - w2,
         },
     };
     let w = Side {
         stay: Triple {
             at: 0,
-            due: twice.w,
+            due: w2,
             wv: 0,
         },
         go: Triple {
-            at: stride.w,
-            due: twice.w - twice.u,
-            wv: twice.v,
+            at: sw,
+            due: w2 - u2,
+            wv: v2,
         },
     };
     RunRoute { v: v, w: w }
 }
 
-// The route of the runs, the longest axis being `long`. The others follow so that the third value is one of the tripod's own.
+// The route of the runs, the longest axis being `long`. The two others follow so that the third value is one of the tripod's own. The sums are made
+// in each arm, since the compiler would make them again in the loop if it saw there what they are made of.
 pub fn run_route_of(k: Route, long: Axis) -> RunRoute
     requires { ⌜ SmallRoute k ⌝ }
     ensures { λ r. ⌜ r ≡ run-route k long ⌝ }
@@ -92,42 +87,9 @@ pub fn run_route_of(k: Route, long: Axis) -> RunRoute
     let s = k.strides;
     let t = k.twice;
     match long {
-        Axis::X => sides_of(
-            Ordered {
-                u: s.x,
-                v: s.y,
-                w: s.z,
-            },
-            Ordered {
-                u: t.a2,
-                v: t.b2,
-                w: t.c2,
-            },
-        ),
-        Axis::Y => sides_of(
-            Ordered {
-                u: s.y,
-                v: s.z,
-                w: s.x,
-            },
-            Ordered {
-                u: t.b2,
-                v: t.c2,
-                w: t.a2,
-            },
-        ),
-        Axis::Z => sides_of(
-            Ordered {
-                u: s.z,
-                v: s.y,
-                w: s.x,
-            },
-            Ordered {
-                u: t.c2,
-                v: t.b2,
-                w: t.a2,
-            },
-        ),
+        Axis::X => sides_of(s.x, s.y, s.z, t.a2, t.b2, t.c2),
+        Axis::Y => sides_of(s.y, s.z, s.x, t.b2, t.c2, t.a2),
+        Axis::Z => sides_of(s.z, s.y, s.x, t.c2, t.b2, t.a2),
     }
 }
 

@@ -30,7 +30,8 @@ led : (c : tie.After-spot-of) →
     let a = c .before .before in
     let s = a .before .before .before .before in
     let r = a .clear-run .result in
-    Reached (s .args .cells .now) (s .args .k) (s .args .left) (record { spot = c .spot-of .result; reads = s .args .reads + (s .args .left - r .left); hit = false; left = r .left })
+    Reached (s .args .cells .now) (s .args .k) (s .args .left)
+    (record { spot = c .spot-of .result; reads = s .args .reads + (s .args .left - r .left); hit = false; left = r .left })
 led c =
     let a = c .before .before in
     let (g, is, clear) = a .before .before .before .before .pre in

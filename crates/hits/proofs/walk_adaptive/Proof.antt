@@ -1,7 +1,7 @@
 -- `hits::walk_adaptive` meets its contract. The invariant: the walk is at the cell of the 26-line from which t.left long steps are left; a turn leads
 -- it to a later one, or stops it. The measure is how many are left. Assumes nothing.
 use mathlib.Core.Path.{_≡_, sym, ap, _∙_, subst}
-use Prim.Native.Nat.{_-_, _≤_}
+use Prim.Native.Nat.{_≤_}
 use native.Mathlib.Omega.{arith}
 use borrow.Author.Needs.{needs}
 use Rattle.lines.specs.Steps.{X, Y, Z}
@@ -17,7 +17,9 @@ use Rattle.hits.proofs.walk_adaptive.Statement.{statement}
 use Rattle.hits.proofs.walk_adaptive.Tie as tie
 
 abbrev Inv-loop : tie.InvT-loop
-Inv-loop cells k long h t₀ t = (t .left ≤ longest (differences (k .p) (k .q))) × Walking cells k (going cells k Adaptive) (number-26 (k .p) (k .q) (cell-left k (t .left))) (t .reads) (t .spot)
+Inv-loop cells k long h t₀ t =
+    (t .left ≤ longest (differences (k .p) (k .q)))
+    × Walking cells k (going cells k Adaptive) (number-26 (k .p) (k .q) (cell-left k (t .left))) (t .reads) (t .spot)
 
 abbrev μ-loop : tie.MeasureT-loop
 μ-loop cells k long h t₀ t = t .left
@@ -32,7 +34,9 @@ along-requires : tie.Need-along-requires Inv-loop μ-loop
 along-requires c κs = search needs
 
 -- at the start all are left
-all-left : (c : tie.After-along Inv-loop μ-loop) → let k = c .before .before .before .before .before .args .k in c .along .result ≡ longest (differences (k .p) (k .q))
+all-left : (c : tie.After-along Inv-loop μ-loop) →
+    let k = c .before .before .before .before .before .args .k in
+    c .along .result ≡ longest (differences (k .p) (k .q))
 all-left c = c .along .ensures ∙ c .before .before .longest-axis .ensures ∙ ap longest (c .before .before .before .before .before .pre .0 .is)
 
 loop-holds : tie.Need-loop-holds Inv-loop μ-loop

@@ -41,7 +41,8 @@ loop-again c =
     let a = c .before .before .before .before in
     let s = a .before .before in
     subst (Follows (s .args .cells .now) (s .args .k) (s .args .start) (s .args .from) (a .loop .left - 1)) (sym (c .long-step .ensures))
-    (one-step _ _ _ _ _ _ (a .loop .inv) (omega (arith, c .before .before .before .loop-test .taken)) (sym (c .before .before .byte-of .ensures) ∙ c .before .if1 .left))
+    (one-step _ _ _ _ _ _ (a .loop .inv) (omega (arith, c .before .before .before .loop-test .taken))
+    (sym (c .before .before .byte-of .ensures) ∙ c .before .if1 .left))
 
 returns-2 : tie.Need-returns-2 Inv-loop μ-loop
 returns-2 c = let a = c .before in stopped _ _ _ _ _ _ (a .loop .inv) (omega (arith, a .before .before .pre .some))

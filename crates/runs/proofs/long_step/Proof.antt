@@ -1,7 +1,7 @@
 -- `runs::long_step` meets its contract: v's numbers are moved, then w's from there. Assumes nothing.
 use mathlib.Core.Path.{_≡_, sym, ap, _∙_, subst}
 use borrow.Author.Needs.{needs}
-use Rattle.cells.proofs.Machine.{held, held-is, small-held}
+use Rattle.cells.proofs.Machine.{held, held-is}
 use Rattle.runs.specs.Run.{of-v, of-w, moved-by, CanMove}
 use Rattle.runs.proofs.Sums.{held-triple, triple-held}
 use Rattle.runs.proofs.long_step.Statement.{statement}

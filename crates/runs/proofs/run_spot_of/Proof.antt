@@ -49,21 +49,36 @@ returns : tie.Need-returns
 returns c =
     let s = c .before .before .before .before .before .before .before .before .before .before in
     let (e, d) = s .pre in
-    (λ i. record { at = held-is (s .args .s .at) (search needs) i; v = plus-held _ _ (e .xy) (d .b) i; w = plus-held _ _ (e .xz) (d .c) i; wv = small-held _ (e .zy) i })
+    (λ i. record {
+      at = held-is (s .args .s .at) (search needs) i;
+      v = plus-held _ _ (e .xy) (d .b) i;
+      w = plus-held _ _ (e .xz) (d .c) i;
+      wv = small-held _ (e .zy) i;
+    })
     ∙ ap (λ u. run-spot u (steps (s .args .d)) (s .args .s)) (sym (c .enum-told .given .1))
 
 returns-2 : tie.Need-returns-2
 returns-2 c =
     let s = c .before .before .before .before .before .before .before .before .before .before in
     let (e, d) = s .pre in
-    (λ i. record { at = held-is (s .args .s .at) (search needs) i; v = less-held _ _ (e .zy) (d .c) i; w = less-held _ _ (e .xy) (d .a) i; wv = small-held _ (e .xz) i })
+    (λ i. record {
+      at = held-is (s .args .s .at) (search needs) i;
+      v = less-held _ _ (e .zy) (d .c) i;
+      w = less-held _ _ (e .xy) (d .a) i;
+      wv = small-held _ (e .xz) i;
+    })
     ∙ ap (λ u. run-spot u (steps (s .args .d)) (s .args .s)) (sym (c .enum-told2 .given .1))
 
 returns-3 : tie.Need-returns-3
 returns-3 c =
     let s = c .before .before .before .before .before .before .before .before .before .before in
     let (e, d) = s .pre in
-    (λ i. record { at = held-is (s .args .s .at) (search needs) i; v = plus-held _ _ (e .zy) (d .b) i; w = less-held _ _ (e .xz) (d .a) i; wv = small-held _ (e .xy) i })
+    (λ i. record {
+      at = held-is (s .args .s .at) (search needs) i;
+      v = plus-held _ _ (e .zy) (d .b) i;
+      w = less-held _ _ (e .xz) (d .a) i;
+      wv = small-held _ (e .xy) i;
+    })
     ∙ ap (λ u. run-spot u (steps (s .args .d)) (s .args .s)) (sym (c .enum-told3 .given .1))
 
 pub run-spot-of-spec : {M : Type 1} → statement M

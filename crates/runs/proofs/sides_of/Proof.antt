@@ -5,31 +5,31 @@ use Rattle.runs.proofs.Sums.{zero-less-fits, zero-less-held}
 use Rattle.runs.proofs.sides_of.Statement.{statement}
 use Rattle.runs.proofs.sides_of.Tie as tie
 
-add-t6 : tie.Need-add-t6
-add-t6 c = let (s, d) = c .before .before .before .before .pre in search (sum-fits, s)
+add-t10 : tie.Need-add-t10
+add-t10 c = let k = c .pre in search (sum-fits, k)
 
-sub-t7 : tie.Need-sub-t7
-sub-t7 c = let (s, d) = c .before .before .before .before .before .before .pre in search (diff-fits, d)
+sub-t11 : tie.Need-sub-t11
+sub-t11 c = let k = c .pre in search (diff-fits, k)
 
-sub-t8 : tie.Need-sub-t8
-sub-t8 c = let (s, d) = c .before .before .before .before .before .before .before .before .pre in search (zero-less-fits, d)
+sub-t12 : tie.Need-sub-t12
+sub-t12 c = let k = c .pre in search (zero-less-fits, k)
 
-sub-t6 : tie.Need-sub-t6
-sub-t6 c = let (s, d) = c .before .before .before .before .before .before .before .before .before .before .before .pre in search (diff-fits, d)
+sub-t10 : tie.Need-sub-t10
+sub-t10 c = let k = c .pre in search (diff-fits, k)
 
 returns : tie.Need-returns
 returns c =
-    let (s, d) = c .before .before .before .before .before .before .before .before .before .before .before .before .before .pre in
+    let (su, sv, sw, u2, v2, w2) = c .pre in
     λ i. record {
       v = record {
-        stay = record { at = small-held _ (s .u) i; due = small-held _ (d .v) i; wv = pos 0 };
-        go = record { at = sum-held _ _ (s .u) (s .v) i; due = diff-held _ _ (d .v) (d .u) i; wv = zero-less-held _ (d .w) i };
+        stay = record { at = small-held _ su i; due = small-held _ v2 i; wv = pos 0 };
+        go = record { at = sum-held _ _ su sv i; due = diff-held _ _ v2 u2 i; wv = zero-less-held _ w2 i };
       };
       w = record {
-        stay = record { at = pos 0; due = small-held _ (d .w) i; wv = pos 0 };
-        go = record { at = small-held _ (s .w) i; due = diff-held _ _ (d .w) (d .u) i; wv = small-held _ (d .v) i };
+        stay = record { at = pos 0; due = small-held _ w2 i; wv = pos 0 };
+        go = record { at = small-held _ sw i; due = diff-held _ _ w2 u2 i; wv = small-held _ v2 i };
       };
     }
 
 pub sides-of-spec : {M : Type 1} → statement M
-sides-of-spec = tie.close (tie.spec add-t6 sub-t7 sub-t8 sub-t6 returns)
+sides-of-spec = tie.close (tie.spec add-t10 sub-t11 sub-t12 sub-t10 returns)

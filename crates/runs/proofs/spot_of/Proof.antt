@@ -48,21 +48,42 @@ returns : tie.Need-returns
 returns c =
     let s = c .before .before .before .before .before .before .before .before .before in
     let (e, d) = s .pre in
-    (λ i. record { at = held-is (s .args .s .at) (search needs) i; e = record { xy = back-held _ _ (e .v) (d .b) i; xz = back-held _ _ (e .w) (d .c) i; zy = held-is (s .args .s .wv) (search needs) i } })
+    (λ i. record {
+      at = held-is (s .args .s .at) (search needs) i;
+      e = record {
+        xy = back-held _ _ (e .v) (d .b) i;
+        xz = back-held _ _ (e .w) (d .c) i;
+        zy = held-is (s .args .s .wv) (search needs) i;
+      };
+    })
     ∙ ap (λ u. spot-back u (steps (s .args .d)) (s .args .s)) (sym (c .enum-told .given .1))
 
 returns-2 : tie.Need-returns-2
 returns-2 c =
     let s = c .before .before .before .before .before .before .before .before .before in
     let (e, d) = s .pre in
-    (λ i. record { at = held-is (s .args .s .at) (search needs) i; e = record { xy = less-held _ _ (e .w) (d .a) i; xz = held-is (s .args .s .wv) (search needs) i; zy = less-held _ _ (e .v) (d .c) i } })
+    (λ i. record {
+      at = held-is (s .args .s .at) (search needs) i;
+      e = record {
+        xy = less-held _ _ (e .w) (d .a) i;
+        xz = held-is (s .args .s .wv) (search needs) i;
+        zy = less-held _ _ (e .v) (d .c) i;
+      };
+    })
     ∙ ap (λ u. spot-back u (steps (s .args .d)) (s .args .s)) (sym (c .enum-told2 .given .1))
 
 returns-3 : tie.Need-returns-3
 returns-3 c =
     let s = c .before .before .before .before .before .before .before .before .before in
     let (e, d) = s .pre in
-    (λ i. record { at = held-is (s .args .s .at) (search needs) i; e = record { xy = held-is (s .args .s .wv) (search needs) i; xz = less-held _ _ (e .w) (d .a) i; zy = back-held _ _ (e .v) (d .b) i } })
+    (λ i. record {
+      at = held-is (s .args .s .at) (search needs) i;
+      e = record {
+        xy = held-is (s .args .s .wv) (search needs) i;
+        xz = less-held _ _ (e .w) (d .a) i;
+        zy = back-held _ _ (e .v) (d .b) i;
+      };
+    })
     ∙ ap (λ u. spot-back u (steps (s .args .d)) (s .args .s)) (sym (c .enum-told3 .given .1))
 
 pub spot-of-spec : {M : Type 1} → statement M
