@@ -7,15 +7,15 @@ use lib.IntN.{pos, natAbs}
 use lib.ListN.{length, getD}
 use Rattle.cells.specs.declared.Refusal.{Refusal}
 use Rattle.cells.specs.declared.Verdict.{Verdict}
-use Rattle.cells.specs.declared.Verdict.the-variants.{Fine, Refused as Fails}
+use Rattle.cells.specs.declared.Verdict.the-variants as Verdict
 use Rattle.lines.specs.Lines.{six-line}
 use Rattle.cells.specs.Checks.{by-verdict}
-use Rattle.lists.specs.declared.Listed.the-variants.{Cells, Refused as NotListed}
+use Rattle.lists.specs.declared.Listed.the-variants as Listed
 use Rattle.lists.specs.Lists.{list-check, filled}
 use Rattle.grids.specs.Grid.{shape, layer-part}
 use Rattle.grids.specs.Marks.{marked, complete, completeness}
 use Rattle.records.specs.Venues.{venue-head}
-use Rattle.records.specs.declared.writing.Written.the-variants.{Wrote, Refused as NotWritten}
+use Rattle.records.specs.declared.writing.Written.the-variants as Written
 use Rattle.records.specs.Writing.{record-length, write-check, after-writing}
 use Rattle.oatmarten.specs.declared.refusals.OatSaid.{OatSaid}
 use Rattle.oatmarten.specs.Refusals.{accepted}
@@ -61,22 +61,22 @@ exports-once =
 
 -- a verdict that is not fine leaves the memory; one that is fine is flattened to 0
 untouched : {F M : Type 0} (said : F → OatSaid) (flat : Verdict → F) (after : Verdict → M) {entry : M} →
-    said (flat Fine) ≡ accepted → ((x : Refusal) → after (Fails x) ≡ entry) → (v : Verdict) {r : F} {exit : M} →
+    said (flat Verdict.Fine) ≡ accepted → ((x : Refusal) → after (Verdict.Refused x) ≡ entry) → (v : Verdict) {r : F} {exit : M} →
     r ≡ flat v → exit ≡ after v → (said r .refusal ≡ 0 → ⊥) → exit ≡ entry
-untouched said flat after fine kept Fine e f refused = absurd (refused (ap (λ s. s .refusal) (ap said e ∙ fine)))
-untouched said flat after fine kept (Fails x) e f refused = f ∙ kept x
+untouched said flat after fine kept Verdict.Fine e f refused = absurd (refused (ap (λ s. s .refusal) (ap said e ∙ fine)))
+untouched said flat after fine kept (Verdict.Refused x) e f refused = f ∙ kept x
 
 pub refused-untouched : RefusedUntouched
 refused-untouched =
     record {
       lines = λ line p q entry r exit h.
-          untouched (λ f. f .said) (λ v. flat-listed (by-verdict NotListed (Cells (length line)) v)) (by-verdict (λ x. entry) (filled line entry)) refl (λ x. refl)
+          untouched (λ f. f .said) (λ v. flat-listed (by-verdict Listed.Refused (Listed.Cells (length line)) v)) (by-verdict (λ x. entry) (filled line entry)) refl (λ x. refl)
           (list-check p q (length line) (length entry)) (h .flat ∙ ap flat-listed (h .meets .says)) (h .meets .holds);
       mark = λ n entry r exit h.
           untouched (λ f. f .said) flat-verdict (by-verdict (λ x. entry) (marked 3 n entry)) refl (λ x. refl) (shape n (length entry))
           (h .flat ∙ ap flat-verdict (h .meets .says)) (h .meets .holds);
       written = λ n cells entry r exit h.
-          untouched (λ f. f .said) (λ v. flat-written (by-verdict NotWritten (Wrote (record-length n)) v)) (by-verdict (λ x. entry) (after-writing n cells entry)) refl (λ x. refl)
+          untouched (λ f. f .said) (λ v. flat-written (by-verdict Written.Refused (Written.Wrote (record-length n)) v)) (by-verdict (λ x. entry) (after-writing n cells entry)) refl (λ x. refl)
           (write-check n (length cells) (length entry)) (h .flat ∙ ap flat-written (h .meets .says)) (h .meets .holds);
     }
 

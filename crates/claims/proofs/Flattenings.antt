@@ -18,38 +18,40 @@ use Rattle.cells.specs.declared.Part.the-variants.{OriginX, OriginY, OriginZ, E
 use Rattle.cells.specs.declared.Refusal.{Refusal}
 use Rattle.cells.specs.declared.Refusal.the-variants.{Limit, Count, Bytes, Layer, OffGrid, Room, Placement, NotFinite, OffSurvey, Record, Version}
 use Rattle.cells.specs.declared.Verdict.{Verdict}
-use Rattle.cells.specs.declared.Verdict.the-variants.{Fine, Refused as Fails}
+use Rattle.cells.specs.declared.Verdict.the-variants as Verdict
 use Rattle.cells.specs.Refusals.{Told, told, told-verdict}
 use Rattle.cells.proofs.Refusals.{untold, told-back, tells-apart}
 use Rattle.lists.specs.declared.Listed.{Listed}
-use Rattle.lists.specs.declared.Listed.the-variants.{Cells, Refused as NotListed}
+use Rattle.lists.specs.declared.Listed.the-variants as Listed
 use Rattle.lists.specs.Lists.{told-listed}
 use Rattle.grids.specs.declared.LayerPart.{LayerPart}
-use Rattle.grids.specs.declared.LayerPart.the-variants.{Part as LayerAt, Refused as NoPart}
+use Rattle.grids.specs.declared.LayerPart.the-variants as LayerPart
 use Rattle.grids.specs.declared.Completeness.{Completeness}
-use Rattle.grids.specs.declared.Completeness.the-variants.{Yes, No, Refused as NotAsked}
+use Rattle.grids.specs.declared.Completeness.the-variants as Completeness
 use Rattle.grids.specs.Grid.{shape, told-part}
 use Rattle.grids.specs.Inside.{walk-check}
 use Rattle.grids.specs.Marks.{complete, told-completeness}
 use Rattle.walks.specs.declared.Hit.{Hit}
 use Rattle.walks.specs.declared.FirstHit.{FirstHit}
-use Rattle.walks.specs.declared.FirstHit.the-variants.{Clear, Hit as Blocked, Refused as NotWalked}
-use Rattle.walks.specs.Answers.{first-hit, told-hit}
+use Rattle.walks.specs.declared.FirstHit.the-variants as FirstHit
+use Rattle.walks.specs.Answers as walk
+use Rattle.walks.specs.Answers.{first-hit, told-hit, WalkSaid}
 use Rattle.survey.specs.declared.Lookup.{Lookup}
-use Rattle.survey.specs.declared.Lookup.the-variants.{Cell as At, Refused as NotFound}
+use Rattle.survey.specs.declared.Lookup.the-variants as Lookup
 use Rattle.survey.specs.Survey.{told-lookup}
 use Rattle.sight.specs.declared.Block.{Block}
 use Rattle.sight.specs.declared.Sight.{Sight}
-use Rattle.sight.specs.declared.Sight.the-variants.{Clear as Seen, Blocked as InTheWay, Refused as NotSeen}
-use Rattle.sight.specs.Sight.{told-sight}
+use Rattle.sight.specs.declared.Sight.the-variants as Sight
+use Rattle.sight.specs.Sight as sights
+use Rattle.sight.specs.Sight.{told-sight, SightSaid}
 use Rattle.records.specs.declared.venues.VenueRead.{VenueRead}
-use Rattle.records.specs.declared.venues.VenueRead.the-variants.{Read as ReadVenue, Refused as NoVenue}
+use Rattle.records.specs.declared.venues.VenueRead.the-variants as VenueRead
 use Rattle.records.specs.declared.pairs.PairRead.{PairRead}
-use Rattle.records.specs.declared.pairs.PairRead.the-variants.{Read as ReadPair, Refused as NoPair}
+use Rattle.records.specs.declared.pairs.PairRead.the-variants as PairRead
 use Rattle.records.specs.Venues.{told-venue}
 use Rattle.records.specs.Pairs.{told-pair}
 use Rattle.records.specs.declared.writing.Written.{Written}
-use Rattle.records.specs.declared.writing.Written.the-variants.{Wrote, Refused as NotWritten}
+use Rattle.records.specs.declared.writing.Written.the-variants as Written
 use Rattle.records.specs.Writing.{told-written}
 use Rattle.oatmarten.specs.declared.refusals.OatSaid.{OatSaid}
 use Rattle.oatmarten.specs.declared.line_calls.OatListed.{OatListed}
@@ -212,33 +214,33 @@ module _ {A B F : Type 0} {says : A → Told ⊎ B} {flat : A → F} {said : F �
       }
 
 abbrev listed-values : OatListed → Listed
-listed-values f = Cells (f .count)
+listed-values f = Listed.Cells (f .count)
 
-listed-case : (a : Listed) → Case told-listed flat-listed (λ f. f .said) NotListed listed-values a
-listed-case (Cells n) = fine n refl refl refl
-listed-case (NotListed r) = refused r refl refl refl
+listed-case : (a : Listed) → Case told-listed flat-listed (λ f. f .said) Listed.Refused listed-values a
+listed-case (Listed.Cells n) = fine n refl refl refl
+listed-case (Listed.Refused r) = refused r refl refl refl
 
 abbrev verdict-values : OatVerdict → Verdict
-verdict-values f = Fine
+verdict-values f = Verdict.Fine
 
-verdict-case : (a : Verdict) → Case told-verdict flat-verdict (λ f. f .said) Fails verdict-values a
-verdict-case Fine = fine tt refl refl refl
-verdict-case (Fails r) = refused r refl refl refl
+verdict-case : (a : Verdict) → Case told-verdict flat-verdict (λ f. f .said) Verdict.Refused verdict-values a
+verdict-case Verdict.Fine = fine tt refl refl refl
+verdict-case (Verdict.Refused r) = refused r refl refl refl
 
 abbrev complete-values : OatComplete → Completeness
-complete-values f = cond (eqb (f .yes) 1) Yes No
+complete-values f = cond (eqb (f .yes) 1) Completeness.Yes Completeness.No
 
-complete-case : (a : Completeness) → Case told-completeness flat-complete (λ f. f .said) NotAsked complete-values a
-complete-case Yes = fine true refl refl refl
-complete-case No = fine false refl refl refl
-complete-case (NotAsked r) = refused r refl refl refl
+complete-case : (a : Completeness) → Case told-completeness flat-complete (λ f. f .said) Completeness.Refused complete-values a
+complete-case Completeness.Yes = fine true refl refl refl
+complete-case Completeness.No = fine false refl refl refl
+complete-case (Completeness.Refused r) = refused r refl refl refl
 
 abbrev part-values : OatPart → LayerPart
-part-values f = LayerAt (f .offset) (f .length)
+part-values f = LayerPart.Part (f .offset) (f .length)
 
-part-case : (a : LayerPart) → Case told-part flat-part (λ f. f .said) NoPart part-values a
-part-case (LayerAt start many) = fine (start, many) refl refl refl
-part-case (NoPart r) = refused r refl refl refl
+part-case : (a : LayerPart) → Case told-part flat-part (λ f. f .said) LayerPart.Refused part-values a
+part-case (LayerPart.Part start many) = fine (start, many) refl refl refl
+part-case (LayerPart.Refused r) = refused r refl refl refl
 
 abbrev hit-values : OatHit → Hit
 hit-values f =
@@ -250,51 +252,51 @@ hit-values f =
     }
 
 abbrev walk-values : OatHit → FirstHit
-walk-values f = cond (eqb (f .hit) 1) (Blocked (hit-values f)) (Clear (f .reads))
+walk-values f = cond (eqb (f .hit) 1) (FirstHit.Hit (hit-values f)) (FirstHit.Clear (f .reads))
 
-hit-case : (a : FirstHit) → Case told-hit flat-hit (λ f. f .said) NotWalked walk-values a
-hit-case (Clear reads) = fine (inl reads) refl refl refl
-hit-case (Blocked h) = fine (inr h) refl refl refl
-hit-case (NotWalked r) = refused r refl refl refl
+hit-case : (a : FirstHit) → Case told-hit flat-hit (λ f. f .said) FirstHit.Refused walk-values a
+hit-case (FirstHit.Clear reads) = fine (walk.clear reads) refl refl refl
+hit-case (FirstHit.Hit h) = fine (walk.hit h) refl refl refl
+hit-case (FirstHit.Refused r) = refused r refl refl refl
 
 abbrev found-values : OatFound → Lookup
-found-values f = At (record { x = f .x; y = f .y; z = f .z })
+found-values f = Lookup.Cell (record { x = f .x; y = f .y; z = f .z })
 
-found-case : (a : Lookup) → Case told-lookup flat-found (λ f. f .said) NotFound found-values a
-found-case (At c) = fine c refl refl refl
-found-case (NotFound r) = refused r refl refl refl
+found-case : (a : Lookup) → Case told-lookup flat-found (λ f. f .said) Lookup.Refused found-values a
+found-case (Lookup.Cell c) = fine c refl refl refl
+found-case (Lookup.Refused r) = refused r refl refl refl
 
 abbrev block-values : OatSight → Block
 block-values f = record { share = f .share; cell = record { x = f .x; y = f .y; z = f .z }; code = f .code; reads = f .reads }
 
 abbrev sight-values : OatSight → Sight
-sight-values f = cond (eqb (f .blocked) 1) (InTheWay (block-values f)) Seen
+sight-values f = cond (eqb (f .blocked) 1) (Sight.Blocked (block-values f)) Sight.Clear
 
-sight-case : (a : Sight) → Case told-sight flat-sight (λ f. f .said) NotSeen sight-values a
-sight-case Seen = fine (inl tt) refl refl refl
-sight-case (InTheWay b) = fine (inr b) refl refl refl
-sight-case (NotSeen r) = refused r refl refl refl
+sight-case : (a : Sight) → Case told-sight flat-sight (λ f. f .said) Sight.Refused sight-values a
+sight-case Sight.Clear = fine sights.clear refl refl refl
+sight-case (Sight.Blocked b) = fine (sights.blocked b) refl refl refl
+sight-case (Sight.Refused r) = refused r refl refl refl
 
 abbrev venue-values : OatVenue → VenueRead
-venue-values f = ReadVenue (record { counts = record { nx = f .nx; ny = f .ny; nz = f .nz }; start = f .offset; long = f .length })
+venue-values f = VenueRead.Read (record { counts = record { nx = f .nx; ny = f .ny; nz = f .nz }; start = f .offset; long = f .length })
 
-venue-case : (a : VenueRead) → Case told-venue flat-venue (λ f. f .said) NoVenue venue-values a
-venue-case (ReadVenue v) = fine (v .counts, v .start, v .long) refl refl refl
-venue-case (NoVenue r) = refused r refl refl refl
+venue-case : (a : VenueRead) → Case told-venue flat-venue (λ f. f .said) VenueRead.Refused venue-values a
+venue-case (VenueRead.Read v) = fine (v .counts, v .start, v .long) refl refl refl
+venue-case (VenueRead.Refused r) = refused r refl refl refl
 
 abbrev pair-values : OatPair → PairRead
-pair-values f = ReadPair (record { p = record { x = f .px; y = f .py; z = f .pz }; q = record { x = f .qx; y = f .qy; z = f .qz } })
+pair-values f = PairRead.Read (record { p = record { x = f .px; y = f .py; z = f .pz }; q = record { x = f .qx; y = f .qy; z = f .qz } })
 
-pair-case : (a : PairRead) → Case told-pair flat-pair (λ f. f .said) NoPair pair-values a
-pair-case (ReadPair e) = fine (e .p, e .q) refl refl refl
-pair-case (NoPair r) = refused r refl refl refl
+pair-case : (a : PairRead) → Case told-pair flat-pair (λ f. f .said) PairRead.Refused pair-values a
+pair-case (PairRead.Read e) = fine (e .p, e .q) refl refl refl
+pair-case (PairRead.Refused r) = refused r refl refl refl
 
 abbrev written-values : OatWritten → Written
-written-values f = Wrote (f .written)
+written-values f = Written.Wrote (f .written)
 
-written-case : (a : Written) → Case told-written flat-written (λ f. f .said) NotWritten written-values a
-written-case (Wrote many) = fine many refl refl refl
-written-case (NotWritten r) = refused r refl refl refl
+written-case : (a : Written) → Case told-written flat-written (λ f. f .said) Written.Refused written-values a
+written-case (Written.Wrote many) = fine many refl refl refl
+written-case (Written.Refused r) = refused r refl refl refl
 
 pub flattenings : Flattenings
 flattenings =

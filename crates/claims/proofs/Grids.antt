@@ -14,7 +14,7 @@ use Rattle.cells.specs.declared.Verdict.the-variants.{Fine, Refused}
 use Rattle.cells.specs.Checks.{by-verdict}
 use Rattle.grids.specs.declared.LayerPart.{LayerPart}
 use Rattle.grids.specs.declared.Completeness.{Completeness}
-use Rattle.grids.specs.declared.Completeness.the-variants.{Yes, No, Refused as NotAsked}
+use Rattle.grids.specs.declared.Completeness.the-variants as Completeness
 use Rattle.grids.specs.Grid.{shape, index, layer-part, layer, start-of}
 use Rattle.grids.specs.Marks.{marked, complete, yes-or-no, completeness, Marks, Completes}
 use Rattle.grids.specs.Inside.{Shaped}
@@ -86,7 +86,7 @@ pub marked-call : (n : Counts) (l : List ℕ) → MarkedCall n l
 unfolding completeness
 marked-call n l = record { says-yes = yes; refused = λ r a m. m .holds ∙ ap (by-verdict (λ s. l) (marked 3 n l)) (sym (m .says)) }
   where
-    yes : (r : Verdict) (a : List ℕ) (c : Completeness) → Marks n l r a → r ≡ Fine → Completes n a c → c ≡ Yes
+    yes : (r : Verdict) (a : List ℕ) (c : Completeness) → Marks n l r a → r ≡ Fine → Completes n a c → c ≡ Completeness.Yes
     yes r a c m e f =
         let fine = sym (m .says) ∙ e in
         f .says ∙ ap (completeness n) (m .holds ∙ ap (by-verdict (λ s. l) (marked 3 n l)) fine) ∙ rw (marked-length 3 n l, fine, marked-complete 3 n l)
@@ -101,7 +101,7 @@ which false false e = refl
 which true false e = absurd (let z : _≡_ {A = ℕ} 0 1 = cc in omega arith)
 which false true e = absurd (let z : _≡_ {A = ℕ} 0 1 = cc in omega arith)
 
-answered : (v : Verdict) (n : Counts) (l : List ℕ) (t : Bool) → yes-or-no t ≡ by-verdict NotAsked (yes-or-no (complete 3 n l)) v → complete 3 n l ≡ t
+answered : (v : Verdict) (n : Counts) (l : List ℕ) (t : Bool) → yes-or-no t ≡ by-verdict Completeness.Refused (yes-or-no (complete 3 n l)) v → complete 3 n l ≡ t
 answered Fine n l t e = which (complete 3 n l) t e
 answered (Refused r) n l true e = absurd (let z : _≡_ {A = ℕ} 0 1 = cc in omega arith)
 answered (Refused r) n l false e = absurd (let z : _≡_ {A = ℕ} 0 1 = cc in omega arith)
@@ -119,8 +119,8 @@ shut-out =
       bytes-first = λ c. let e = c .says in let z : _≡_ {A = ℕ} 0 1 = cc in omega arith;
       marks-nothing = λ r m. let z : _≡_ {A = ℕ} 0 1 = ap (λ (l : List ℕ). getD l 0 0) (m .holds) in omega arith;
       refuses = λ r a m. let e : Refused r ≡ Fine = m .says in let z : _≡_ {A = ℕ} 0 1 = cc in omega arith;
-      complete-always = λ c. let f : Yes ≡ No = c .says in let z : _≡_ {A = ℕ} 0 1 = cc in omega arith;
-      never-complete = λ c. let f : No ≡ Yes = c .says in let z : _≡_ {A = ℕ} 0 1 = cc in omega arith;
+      complete-always = λ c. let f : Completeness.Yes ≡ Completeness.No = c .says in let z : _≡_ {A = ℕ} 0 1 = cc in omega arith;
+      never-complete = λ c. let f : Completeness.No ≡ Completeness.Yes = c .says in let z : _≡_ {A = ℕ} 0 1 = cc in omega arith;
       empty-layer = λ cells r e c none.
           let z : _≡_ {A = ℕ} 0 8 = ap length (sym none ∙ c .says ∙ ap (λ (l : List ℕ). layer example-counts l (pos 0)) e) in
           omega arith;

@@ -19,7 +19,7 @@ use Rattle.cells.specs.declared.Counts.{Counts}
 use Rattle.cells.specs.declared.End.{End}
 use Rattle.cells.specs.declared.End.the-variants.{P, Q}
 use Rattle.cells.specs.declared.Part.the-variants.{OriginX, OriginY, OriginZ, Edge}
-use Rattle.cells.specs.declared.Refusal.the-variants.{Limit, Count, Bytes, Layer, OffGrid, Room, Placement as Misplaced, NotFinite, OffSurvey, Record, Version}
+use Rattle.cells.specs.declared.Refusal.the-variants as Refusal
 use Rattle.cells.specs.Checks.{refuse-when}
 use Rattle.cells.proofs.Conditions.{ltb-means, eqb-means, zero-means, not-eqb-means, ltZ-means, leZ-means, leZ-fails, not-means, or-means, not-and-means}
 use Rattle.cells.proofs.Tests.{Judges, when, _next_, next-if}
@@ -45,10 +45,10 @@ beyond-limit : (z : ℤ) → (not (in-limit z) ≡ true) ↔ ((z <ℤ negℤ (po
 beyond-limit z = not-and-means (leZ-fails _ z) (leZ-fails z _)
 
 limit-judged : (e : End) (c : cell.Cell) → Judges (limit-tests e c) (end-check e c)
-limit-judged e c = when (beyond-limit (c .x)) (Limit e X) next when (beyond-limit (c .y)) (Limit e Y) next when (beyond-limit (c .z)) (Limit e Z)
+limit-judged e c = when (beyond-limit (c .x)) (Refusal.Limit e X) next when (beyond-limit (c .y)) (Refusal.Limit e Y) next when (beyond-limit (c .z)) (Refusal.Limit e Z)
 
 pub line-judged : (p q : cell.Cell) (cells room : ℕ) → Judges (line-tests p q cells room) (list-check p q cells room)
-line-judged p q cells room = (limit-judged P p next limit-judged Q q) next when (ltb-means room (3 * cells)) Room
+line-judged p q cells room = (limit-judged P p next limit-judged Q q) next when (ltb-means room (3 * cells)) Refusal.Room
 
 -- ---- grids
 
@@ -57,11 +57,11 @@ count-means n = or-means (zero-means n) (ltb-means 1024 n)
 
 pub counts-judged : (n : Counts) → Judges (count-tests n) (count-check n)
 unfolding count-check
-counts-judged n = when (count-means (n .nx)) (Count X) next when (count-means (n .ny)) (Count Y) next when (count-means (n .nz)) (Count Z)
+counts-judged n = when (count-means (n .nx)) (Refusal.Count X) next when (count-means (n .ny)) (Refusal.Count Y) next when (count-means (n .nz)) (Refusal.Count Z)
 
 pub shape-judged : (n : Counts) (bytes : ℕ) → Judges (shape-tests n bytes) (shape n bytes)
 unfolding shape
-shape-judged n bytes = counts-judged n next when (not-eqb-means bytes (size n)) Bytes
+shape-judged n bytes = counts-judged n next when (not-eqb-means bytes (size n)) Refusal.Bytes
 
 -- a layer's z, and a coordinate of an end
 off-means : (v : ℤ) (count : ℕ) → (off-axis v count ≡ true) ↔ ((v <ℤ pos 0) ⊎ (pos count ≤ℤ v))
@@ -69,13 +69,13 @@ off-means v count = or-means (ltZ-means v (pos 0)) (leZ-means (pos count) v)
 
 pub layer-judged : (n : Counts) (bytes : ℕ) (z : ℤ) → Judges (layer-tests n bytes z) (layer-check n bytes z)
 unfolding layer-check
-layer-judged n bytes z = shape-judged n bytes next when (off-means z (n .nz)) Layer
+layer-judged n bytes z = shape-judged n bytes next when (off-means z (n .nz)) Refusal.Layer
 
 grid-judged : (e : End) (n : Counts) (c : cell.Cell) → Judges (grid-tests e n c) (grid-check e n c)
 grid-judged e n c =
-    when (off-means (c .x) (n .nx)) (OffGrid e X) next
-    when (off-means (c .y) (n .ny)) (OffGrid e Y) next
-    when (off-means (c .z) (n .nz)) (OffGrid e Z)
+    when (off-means (c .x) (n .nx)) (Refusal.OffGrid e X) next
+    when (off-means (c .y) (n .ny)) (Refusal.OffGrid e Y) next
+    when (off-means (c .z) (n .nz)) (Refusal.OffGrid e Z)
 
 pub walk-judged : (n : Counts) (bytes : ℕ) (p q : cell.Cell) → Judges (walk-tests n bytes p q) (walk-check n bytes p q)
 unfolding walk-check
@@ -86,14 +86,14 @@ walk-judged n bytes p q = shape-judged n bytes next grid-judged P n p next grid-
 pub placement-judged : (at : Placement) → Judges (placement-tests at) (placement-check at)
 unfolding placement-check
 placement-judged at =
-    when (not-means (finite (at .ox))) (Misplaced OriginX) next
-    when (not-means (finite (at .oy))) (Misplaced OriginY) next
-    when (not-means (finite (at .oz))) (Misplaced OriginZ) next
-    when (or-means (not-means (finite (at .edge))) (not-means (lt (as-f64 0) (at .edge)))) (Misplaced Edge)
+    when (not-means (finite (at .ox))) (Refusal.Placement OriginX) next
+    when (not-means (finite (at .oy))) (Refusal.Placement OriginY) next
+    when (not-means (finite (at .oz))) (Refusal.Placement OriginZ) next
+    when (or-means (not-means (finite (at .edge))) (not-means (lt (as-f64 0) (at .edge)))) (Refusal.Placement Edge)
 
 value-judged : (e : End) (a : Axis) (count : ℕ) (value origin edge : Float) →
     Judges (value-tests e a count value origin edge) (value-check e a count value (quotient value origin edge))
-value-judged e a count value origin edge = when (not-means (finite value)) (NotFinite e a) next when (or-means Iff·rfl Iff·rfl) (OffSurvey e a)
+value-judged e a count value origin edge = when (not-means (finite value)) (Refusal.NotFinite e a) next when (or-means Iff·rfl Iff·rfl) (Refusal.OffSurvey e a)
 
 pub point-judged : (e : End) (n : Counts) (at : Placement) (p : Point) → Judges (point-tests e n at p) (point-check e n p (quotients at p))
 unfolding point-check
@@ -108,10 +108,10 @@ point-judged e n at p =
 
 whole-judged : (s : List ℕ) → Judges (whole-tests s) (whole-check s)
 unfolding whole-check
-whole-judged s = when (ltb-means _ _) Record next when (eqb-means _ _) Record next when (ltb-means _ _) Record
+whole-judged s = when (ltb-means _ _) Refusal.Record next when (eqb-means _ _) Refusal.Record next when (ltb-means _ _) Refusal.Record
 
-version-judged : (s : List ℕ) → Judges (version-test s) (refuse-when (not (eqb (getD s 4 0) 1)) Version)
-version-judged s = when (not-eqb-means (getD s 4 0) 1) Version
+version-judged : (s : List ℕ) → Judges (version-test s) (refuse-when (not (eqb (getD s 4 0) 1)) Refusal.Version)
+version-judged s = when (not-eqb-means (getD s 4 0) 1) Refusal.Version
 
 -- the length less 7, where it is not below 7
 length-means : (long size : ℕ) → ¬ (long < 7) → (not (eqb (long - 7) size) ≡ true) ↔ (¬ (long ≡ 7 + size))
@@ -120,13 +120,13 @@ length-means long size seven = Iff·trans (not-eqb-means (long - 7) size) (Iff·
 pub venue-judged : (s : List ℕ) → Judges (venue-tests s) (venue-check s)
 unfolding venue-check venue-version venue-head shape
 venue-judged s =
-    whole-judged s next version-judged s next next-if (when (ltb-means _ 7) Record)
-    λ seven. counts-judged (counts-in s) next when (length-means (four-at s 0) _ seven) Bytes
+    whole-judged s next version-judged s next next-if (when (ltb-means _ 7) Refusal.Record)
+    λ seven. counts-judged (counts-in s) next when (length-means (four-at s 0) _ seven) Refusal.Bytes
 
 pub pair-judged : (s : List ℕ) → Judges (pair-tests s) (pair-check s)
 unfolding pair-check pair-version pair-length
-pair-judged s = whole-judged s next version-judged s next when (not-eqb-means _ 13) Record
+pair-judged s = whole-judged s next version-judged s next when (not-eqb-means _ 13) Refusal.Record
 
 pub write-judged : (n : Counts) (bytes room : ℕ) → Judges (write-tests n bytes room) (write-check n bytes room)
 unfolding write-check venue-head
-write-judged n bytes room = shape-judged n bytes next when (ltb-means room _) Room
+write-judged n bytes room = shape-judged n bytes next when (ltb-means room _) Refusal.Room

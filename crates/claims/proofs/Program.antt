@@ -28,18 +28,18 @@ use Rattle.walks.specs.declared.Walker.{Walker}
 use Rattle.walks.specs.declared.Walker.the-variants.{Plain, Adaptive}
 use Rattle.walks.specs.declared.FirstHit.{FirstHit}
 use Rattle.walks.specs.declared.Hit.{Hit}
-use Rattle.walks.specs.declared.FirstHit.the-variants.{Clear, Hit as Blocked}
+use Rattle.walks.specs.declared.FirstHit.the-variants as FirstHit
 use Rattle.walks.specs.Walks.{hit-at}
 use Rattle.walks.specs.Answers.{first-hit}
 use Rattle.walks.specs.Numbers.{end-of}
 use Rattle.walks.proofs.Story.{first-hit-is}
 use Rattle.records.specs.declared.pairs.Pair.{Pair}
-use Rattle.records.specs.declared.pairs.PairRead.the-variants.{Read as ReadPair, Refused as NoPair}
+use Rattle.records.specs.declared.pairs.PairRead.the-variants as PairRead
 use Rattle.records.proofs.HeadTests.{pair-whole}
 use Rattle.records.proofs.RoundTrip.{record-fits}
 use Rattle.records.specs.declared.venues.Venue.{Venue}
 use Rattle.records.specs.declared.venues.VenueRead.{VenueRead}
-use Rattle.records.specs.declared.venues.VenueRead.the-variants.{Read, Refused as NoVenue}
+use Rattle.records.specs.declared.venues.VenueRead.the-variants as VenueRead
 use Rattle.records.specs.Heads.{whole-check, announced}
 use Rattle.records.specs.Venues.{venue-check, venue-read, venue-cells, start-of}
 use Rattle.records.specs.Pairs.{pair-check, pair-read, pair-length, pair-in}
@@ -149,7 +149,7 @@ module _ (s : List ℕ) where
   stops : venue-said s .next ≡ Over → output s ≡ venue-said s .text
   stops stop = output-is ∙ rw stop (append-nil (venue-said s .text))
 
-  begins-with : (k : ℕ) → venue-said s .next ≡ On k → (v : Venue) → venue-read s ≡ Read v
+  begins-with : (k : ℕ) → venue-said s .next ≡ On k → (v : Venue) → venue-read s ≡ VenueRead.Read v
       → output s ≡ venue-said s .text ++ pairs (length s) (v .counts) (venue-cells s) k (after-frame venue-most s)
   begins-with k on v e = output-is ∙ rw (on, e, after-same venue-most s (venue-on s k on))
 
@@ -187,8 +187,8 @@ module _ (s : List ℕ) where
       by : (x : Next) (r : VenueRead) → venue-said s .next ≡ x → venue-read s ≡ r → Runs s (output s)
       by Over r stop e =
           subst (Runs s) (venue-wrote (says-so venue-frame) ∙ sym (stops stop)) (ends (says-so venue-frame) (sym (venue-goes (says-so venue-frame)) ∙ stop))
-      by (On k) (NoVenue r) on e = absurd (venue-taken s r k on e)
-      by (On k) (Read v) on e =
+      by (On k) (VenueRead.Refused r) on e = absurd (venue-taken s r k on e)
+      by (On k) (VenueRead.Read v) on e =
           let within = venue-on s k on in
           subst (Runs s)
           (ap (λ a. a ++ pairs (length s) (v .counts) (venue-cells s) k (after-frame venue-most s)) (venue-wrote (says-so venue-frame))
@@ -237,16 +237,16 @@ walk-five n bytes p q fine =
 walked : (w : Walker) (n : Counts) (l : List ℕ) (p q : Cell) → walk-check n (length l) p q ≡ Fine → Walked (first-hit w n l p q)
 walked w n l p q fine = subst Walked (sym (first-hit-is n l p q w)) (rw fine (by (hit-at n l (six-cell rule-1 p q (end-of n l p q w))) _ _))
   where
-    by : (b : Bool) (h : Hit) (reads : ℕ) → Walked (cond b (Blocked h) (Clear reads))
+    by : (b : Bool) (h : Hit) (reads : ℕ) → Walked (cond b (FirstHit.Hit h) (FirstHit.Clear reads))
     by true h reads = tt
     by false h reads = tt
 
 -- a pair that is read is neither empty nor beyond the most
-read-said : (n : Counts) (cells : List ℕ) (k : ℕ) (t : List ℕ) (e : Pair) → pair-read t ≡ ReadPair e
+read-said : (n : Counts) (cells : List ℕ) (k : ℕ) (t : List ℕ) (e : Pair) → pair-read t ≡ PairRead.Read e
     → pair-said n cells k t ≡ said-of-walks k (walk-check n (length cells) (e .p) (e .q)) (answers n cells (e .p) (e .q))
 unfolding pair-said pair-read pair-length
 read-said n cells k t e read =
-    let (fine, same) = by-fine NoPair (pair-check t) (ReadPair (pair-in t)) (λ r no. let z : _≡_ {A = ℕ} 0 1 = cc no in omega arith) read in
+    let (fine, same) = by-fine PairRead.Refused (pair-check t) (PairRead.Read (pair-in t)) (λ r no. let z : _≡_ {A = ℕ} 0 1 = cc no in omega arith) read in
     let w = pair-whole t fine in
     let there = w .there in
     let long : announced t ≡ 13 = w .long in

@@ -18,14 +18,14 @@ use Rattle.records.specs.declared.pairs.Pair.{Pair}
 use Rattle.records.specs.declared.venues.Venue.{Venue}
 use Rattle.records.specs.declared.venues.VenueRead.{VenueRead}
 use Rattle.records.specs.declared.venues.VenueRead.the-variants.{Read}
-use Rattle.records.specs.declared.pairs.PairRead.the-variants.{Read as ReadPair, Refused as NoPair}
+use Rattle.records.specs.declared.pairs.PairRead.the-variants as PairRead
 use Rattle.records.specs.Heads.{length-field, announced, version-of, whole-check}
 use Rattle.records.specs.Venues.{cells-from, counts-at, venue-version, venue-head, venue-check, venue-read, venue-cells, start-of, ReadsVenue, GivesCells}
 use Rattle.records.specs.Pairs.{signed, pair-version, pair-length, pair-in, pair-check, pair-read}
 use Rattle.records.proofs.HeadTests.{head-fits, venue-accepted}
 use Rattle.records.proofs.Following.{venue-unread, cells-unread, pair-unread}
 use Rattle.records.specs.declared.writing.Written.{Written}
-use Rattle.records.specs.declared.writing.Written.the-variants.{Wrote, Refused as NotWritten}
+use Rattle.records.specs.declared.writing.Written.the-variants as Written
 use Rattle.records.specs.Writing.{written-version, head-bytes, record-length, write-check, after-writing, WritesVenue}
 use Rattle.records.proofs.RoundTrip.{read-back, cells-back, front-written, record-fits, same-bytes}
 use Rattle.claims.specs.Example.{example-counts, example-cells}
@@ -34,8 +34,8 @@ use Rattle.claims.proofs.Grids.{one, one-place}
 
 -- 1 where a venue was written
 accepts : Written → ℕ
-accepts (Wrote n) = 1
-accepts (NotWritten r) = 0
+accepts (Written.Wrote n) = 1
+accepts (Written.Refused r) = 0
 
 pub one-answer : OneAnswer
 unfolding accepts
@@ -46,7 +46,7 @@ one-answer =
       pair = λ s r t e f. one r t (e .says) (f .says);
       written = λ n cells entry r t x y e f. (one r t (e .says) (f .says), one x y (e .holds) (f .holds));
       untouched = λ n cells entry r x e.
-          by-refusal NotWritten (write-check n (length cells) (length entry)) (Wrote (record-length n)) (after-writing n cells entry)
+          by-refusal Written.Refused (write-check n (length cells) (length entry)) (Written.Wrote (record-length n)) (after-writing n cells entry)
           (λ no. let z : _≡_ {A = ℕ} 1 0 = ap accepts no in omega arith) (sym (e .says)) (e .holds);
     }
 
@@ -100,10 +100,10 @@ accepted-venue s v r =
     rw (whole-fine s (r .whole) (omega (arith, r .length-is)), r .version, le-ltb (announced s) 7 (omega (arith, r .length-is)), fine)
     (ap Read (λ i. record { counts = r .counts-are i; start = r .part .0 i; long = (r .part .1 ∙ sym long) i }))
 
-right-pair : (s : List ℕ) (e : Pair) → ReadPair e ≡ pair-read s → RightPair s e
+right-pair : (s : List ℕ) (e : Pair) → PairRead.Read e ≡ pair-read s → RightPair s e
 unfolding pair-read pair-check pair-version pair-length
 right-pair s e h =
-    let (f, is) = by-fine NoPair (pair-check s) (ReadPair (pair-in s)) (λ r no. let z : _≡_ {A = ℕ} 0 1 = cc no in omega arith) (sym h) in
+    let (f, is) = by-fine PairRead.Refused (pair-check s) (PairRead.Read (pair-in s)) (λ r no. let z : _≡_ {A = ℕ} 0 1 = cc no in omega arith) (sym h) in
     let same : e ≡ pair-in s = cc is in
     let w = head-fits s (pair-version (version-of s)) _ f in
     record {
@@ -114,10 +114,10 @@ right-pair s e h =
       q-is = ap (λ (u : Pair). u .q) same;
     }
 
-accepted-pair : (s : List ℕ) (e : Pair) → RightPair s e → ReadPair e ≡ pair-read s
+accepted-pair : (s : List ℕ) (e : Pair) → RightPair s e → PairRead.Read e ≡ pair-read s
 unfolding pair-read pair-check pair-version pair-length
 accepted-pair s e r =
-    rw (whole-fine s (r .whole) (omega (arith, r .length-is)), r .version, r .length-is) (ap ReadPair (λ i. record { p = r .p-is i; q = r .q-is i }))
+    rw (whole-fine s (r .whole) (omega (arith, r .length-is)), r .version, r .length-is) (ap PairRead.Read (λ i. record { p = r .p-is i; q = r .q-is i }))
 
 pub accepted : (s : List ℕ) → Accepted s
 accepted s =
@@ -163,7 +163,7 @@ pub read-back-same : (n : Counts) (cells entry : List ℕ) → ReadBack n cells 
 unfolding venue-head
 read-back-same n cells entry = record { same = same; in-place = in-place }
   where
-    same : (exit : List ℕ) (k : ℕ) → WritesVenue n cells entry (Wrote k) exit → (rest : List ℕ) (bytes part : RefT (List ℕ)) (r : VenueRead) →
+    same : (exit : List ℕ) (k : ℕ) → WritesVenue n cells entry (Written.Wrote k) exit → (rest : List ℕ) (bytes part : RefT (List ℕ)) (r : VenueRead) →
         bytes .now ≡ take k exit ++ rest → ReadsVenue (bytes .now) r → GivesCells bytes part → SameVenue n cells bytes part r
     same exit k c rest bytes part r is reads gives =
         let f = front-written n cells entry exit k c in
@@ -177,7 +177,7 @@ read-back-same n cells entry = record { same = same; in-place = in-place }
           there = subst (λ (a : VenueRead). StartsAt (start-of a) bytes part) back (gives .there);
         }
 
-    in-place : (exit : List ℕ) (k : ℕ) → WritesVenue n cells entry (Wrote k) exit → (bytes part : RefT (List ℕ)) (r : VenueRead) →
+    in-place : (exit : List ℕ) (k : ℕ) → WritesVenue n cells entry (Written.Wrote k) exit → (bytes part : RefT (List ℕ)) (r : VenueRead) →
         bytes .now ≡ exit → ReadsVenue (bytes .now) r → GivesCells bytes part → SameVenue n cells bytes part r
     in-place exit k c bytes part r is = same exit k c (drop k exit) bytes part r (is ∙ sym (take-append-drop k exit))
 

@@ -21,11 +21,11 @@ use Rattle.cells.proofs.Tests.{_next_, answered, empty-by}
 use Rattle.lines.specs.Lines.{six-line, line-26}
 use Rattle.lines.specs.Preference.{rule-1}
 use Rattle.lists.specs.declared.Listed.{Listed}
-use Rattle.lists.specs.declared.Listed.the-variants.{Cells, Refused as NotListed}
+use Rattle.lists.specs.declared.Listed.the-variants as Listed
 use Rattle.lists.specs.Lists.{Lists, told-listed}
 use Rattle.grids.specs.declared.LayerPart.{LayerPart}
-use Rattle.grids.specs.declared.LayerPart.the-variants.{Part, Refused as NoPart}
-use Rattle.grids.specs.declared.Completeness.the-variants.{Refused as NotAsked}
+use Rattle.grids.specs.declared.LayerPart.the-variants as LayerPart
+use Rattle.grids.specs.declared.Completeness.the-variants as Completeness
 use Rattle.grids.specs.Grid.{count-check, shape, layer-start, layer-length, layer-part, GivesLayerPart, told-part, bytes-of, layer, GivesLayer}
 use Rattle.grids.specs.Inside.{walk-check}
 use Rattle.grids.specs.Marks.{complete, yes-or-no, completeness, told-completeness}
@@ -34,24 +34,25 @@ use Rattle.grids.proofs.Shapes.{shape-counts}
 use Rattle.walks.specs.declared.Walker.the-variants.{Adaptive}
 use Rattle.walks.specs.declared.Hit.{Hit}
 use Rattle.walks.specs.declared.FirstHit.{FirstHit}
-use Rattle.walks.specs.declared.FirstHit.the-variants.{Clear, Hit as Blocked, Refused as NotWalked}
+use Rattle.walks.specs.declared.FirstHit.the-variants as FirstHit
 use Rattle.walks.specs.Walks.{hit-at, walk-of}
-use Rattle.walks.specs.Answers.{last-of, answer-of, first-hit, told-hit}
+use Rattle.walks.specs.Answers.{last-of, answer-of, first-hit, told-hit, WalkSaid, clear, hit}
 use Rattle.survey.specs.declared.Lookup.{Lookup}
-use Rattle.survey.specs.declared.Lookup.the-variants.{Cell, Refused as NoCell}
+use Rattle.survey.specs.declared.Lookup.the-variants as Lookup
 use Rattle.survey.specs.declared.Placement.{Placement}
 use Rattle.survey.specs.declared.Point.{Point}
 use Rattle.survey.specs.Survey.{placement-check, Tested, quotients, point-check, cell-at, look-up, cell-of, LooksUp, told-lookup}
 use Rattle.survey.proofs.Lookups.{lookup-found}
 use Rattle.sight.specs.declared.Block.{Block}
 use Rattle.sight.specs.declared.Sight.{Sight}
-use Rattle.sight.specs.declared.Sight.the-variants.{Refused as NotSeen}
-use Rattle.sight.specs.Sight.{sight-of, seen, looked, sight, Sees, told-sight}
+use Rattle.sight.specs.declared.Sight.the-variants as Sight
+use Rattle.sight.specs.Sight as sights
+use Rattle.sight.specs.Sight.{sight-of, seen, looked, sight, Sees, told-sight, SightSaid}
 use Rattle.sight.proofs.Walkable.{walkable}
 use Rattle.records.specs.declared.venues.VenueRead.{VenueRead}
-use Rattle.records.specs.declared.venues.VenueRead.the-variants.{Read, Refused as NoVenue}
-use Rattle.records.specs.declared.pairs.PairRead.the-variants.{Read as ReadPair, Refused as NoPair}
-use Rattle.records.specs.declared.writing.Written.the-variants.{Wrote, Refused as NotWritten}
+use Rattle.records.specs.declared.venues.VenueRead.the-variants as VenueRead
+use Rattle.records.specs.declared.pairs.PairRead.the-variants as PairRead
+use Rattle.records.specs.declared.writing.Written.the-variants as Written
 use Rattle.records.specs.Venues.{venue-in, venue-read, ReadsVenue, part-of, venue-cells, GivesCells, told-venue}
 use Rattle.records.specs.Pairs.{pair-in, pair-read, told-pair}
 use Rattle.records.specs.Writing.{record-length, told-written}
@@ -65,7 +66,7 @@ use Rattle.claims.proofs.Judged.{line-judged, counts-judged, shape-judg
 listed-told : (line : List cell.Cell) (p q : cell.Cell) (entry exit : List ℤ) (r : Listed) → Lists line p q entry r exit →
     ByTests (line-tests p q (length line) (length entry)) (told-listed r)
 listed-told line p q entry exit r c =
-    answered told-listed (by-verdict NotListed (Cells (length line))) (λ r. refl) (line-judged p q (length line) (length entry)) (λ fine. (length line, refl)) (c .says)
+    answered told-listed (by-verdict Listed.Refused (Listed.Cells (length line))) (λ r. refl) (line-judged p q (length line) (length entry)) (λ fine. (length line, refl)) (c .says)
 
 pub lines-told : (p q : cell.Cell) (entry exit : List ℤ) (r : Listed) → LinesTold p q entry exit r
 lines-told p q entry exit r =
@@ -77,13 +78,13 @@ lines-told p q entry exit r =
 -- ---- grids
 
 -- what a walk answers is no refusal
-hit-told : (n : Counts) (l : List ℕ) (p q : cell.Cell) (cells : List cell.Cell) → (w : ℕ ⊎ Hit) × (told-hit (answer-of n l p q cells) ≡ inr w)
+hit-told : (n : Counts) (l : List ℕ) (p q : cell.Cell) (cells : List cell.Cell) → (w : WalkSaid) × (told-hit (answer-of n l p q cells) ≡ inr w)
 unfolding answer-of
 hit-told n l p q cells = by (hit-at n l (last-of p cells)) _ _
   where
-    by : (b : Bool) (h : Hit) (reads : ℕ) → (w : ℕ ⊎ Hit) × (told-hit (cond b (Blocked h) (Clear reads)) ≡ inr w)
-    by true h reads = (inr h, refl)
-    by false h reads = (inl reads, refl)
+    by : (b : Bool) (h : Hit) (reads : ℕ) → (w : WalkSaid) × (told-hit (cond b (FirstHit.Hit h) (FirstHit.Clear reads)) ≡ inr w)
+    by true h reads = (hit h, refl)
+    by false h reads = (clear reads, refl)
 
 yes-or-no-told : (b : Bool) → told-completeness (yes-or-no b) ≡ inr b
 yes-or-no-told true = refl
@@ -91,15 +92,15 @@ yes-or-no-told false = refl
 
 layer-part-told : (n : Counts) (l : List ℕ) (z : ℤ) (r : LayerPart) → GivesLayerPart n (length l) z r → ByTests (layer-tests n (length l) z) (told-part r)
 unfolding layer-part
-layer-part-told n l z r c = answered told-part (by-verdict NoPart (Part (layer-start n z) (layer-length n))) (λ r. refl) (layer-judged n (length l) z) (λ fine. (_, refl)) (c .says)
+layer-part-told n l z r c = answered told-part (by-verdict LayerPart.Refused (LayerPart.Part (layer-start n z) (layer-length n))) (λ r. refl) (layer-judged n (length l) z) (λ fine. (_, refl)) (c .says)
 
 -- a refusal is no value
 one-of-two : {A B C : Type 0} {a : A} {b : B} → inl a ≡ inr b → C
 one-of-two e = absurd (let z : _≡_ {A = ℕ} 0 1 = cc in omega arith)
 
 no-bytes : (a : LayerPart) (l : List ℕ) (t : Told) → told-part a ≡ inl t → bytes-of a l ≡ []
-no-bytes (NoPart r) l t e = refl
-no-bytes (Part start long) l t e = one-of-two (sym e)
+no-bytes (LayerPart.Refused r) l t e = refl
+no-bytes (LayerPart.Part start long) l t e = one-of-two (sym e)
 
 layer-told : (n : Counts) (z : ℤ) (cells part : RefT (List ℕ)) → GivesLayer n cells z part →
     (part .now ≡ []) ↔ ((t : Told) × First (layer-tests n (length (cells .now)) z) t)
@@ -118,12 +119,12 @@ grids-told n l =
       shape = λ bytes r c. answered told-verdict (λ v. v) (λ r. refl) (shape-judged n bytes) (λ fine. (tt, refl)) (c .says);
       mark = λ r exit c. answered told-verdict (λ v. v) (λ r. refl) (shape-judged n (length l)) (λ fine. (tt, refl)) (c .says);
       complete = λ r c.
-          answered told-completeness (by-verdict NotAsked (yes-or-no (complete 3 n l))) (λ r. refl) (shape-judged n (length l))
+          answered told-completeness (by-verdict Completeness.Refused (yes-or-no (complete 3 n l))) (λ r. refl) (shape-judged n (length l))
           (λ fine. (complete 3 n l, yes-or-no-told (complete 3 n l))) (c .says);
       layer-part = layer-part-told n l;
       layer = layer-told n;
       first-hit = λ k p q r c.
-          answered told-hit (by-verdict NotWalked (answer-of n l p q (walk-of k n l p q))) (λ r. refl) (walk-judged n (length l) p q)
+          answered told-hit (by-verdict FirstHit.Refused (answer-of n l p q (walk-of k n l p q))) (λ r. refl) (walk-judged n (length l) p q)
           (λ fine. hit-told n l p q (walk-of k n l p q)) (c .says);
     }
 
@@ -132,12 +133,12 @@ grids-told n l =
 cell-told : (n : Counts) (at : Placement) (p : Point) (r : Lookup) → LooksUp n at p r → ByTests (cell-tests n at p) (told-lookup r)
 unfolding cell-of look-up
 cell-told n at p r c =
-    answered told-lookup (by-verdict NoCell (Cell (cell-at n (quotients at p)))) (λ r. refl)
+    answered told-lookup (by-verdict Lookup.Refused (Lookup.Cell (cell-at n (quotients at p)))) (λ r. refl)
     (counts-judged n next placement-judged at next point-judged P n at p)
     (λ fine. (_, refl))
-    (c .says ∙ in-one (count-check n) (placement-check at) (point-check P n p (quotients at p)) (Cell (cell-at n (quotients at p))))
+    (c .says ∙ in-one (count-check n) (placement-check at) (point-check P n p (quotients at p)) (Lookup.Cell (cell-at n (quotients at p))))
   where
-    in-one : (u v w : Verdict) (x : Lookup) → by-verdict NoCell (by-verdict NoCell x w) (u then v) ≡ by-verdict NoCell x (u then v then w)
+    in-one : (u v w : Verdict) (x : Lookup) → by-verdict Lookup.Refused (by-verdict Lookup.Refused x w) (u then v) ≡ by-verdict Lookup.Refused x (u then v then w)
     in-one (Refused r) v w x = refl
     in-one Fine (Refused r) w x = refl
     in-one Fine Fine w x = refl
@@ -145,10 +146,10 @@ cell-told n at p r c =
 -- ---- the sight
 
 -- a walk that is no refusal gives a sight that is none
-sight-told : (h : FirstHit) (w : ℕ ⊎ Hit) → told-hit h ≡ inr w → (v : Unit {0} ⊎ Block) × (told-sight (sight-of h) ≡ inr v)
-sight-told (Clear reads) w e = (inl tt, refl)
-sight-told (Blocked h) w e = (_, refl)
-sight-told (NotWalked r) w e = one-of-two e
+sight-told : (h : FirstHit) (w : WalkSaid) → told-hit h ≡ inr w → (v : SightSaid) × (told-sight (sight-of h) ≡ inr v)
+sight-told (FirstHit.Clear reads) w e = (sights.clear, refl)
+sight-told (FirstHit.Hit h) w e = (_, refl)
+sight-told (FirstHit.Refused r) w e = one-of-two e
 
 module _ (n : Counts) (l : List ℕ) (at : Placement) (camera ball : Point) where
   abbrev from : cell.Cell
@@ -161,12 +162,12 @@ module _ (n : Counts) (l : List ℕ) (at : Placement) (camera ball : Point) wher
   abbrev sight-check : Verdict
   sight-check = shape n (length l) then placement-check at then point-check P n camera (quotients at camera) then point-check Q n ball (quotients at ball)
 
-  sight-by : sight n l at camera ball ≡ by-verdict NotSeen (sight-of (first-hit Adaptive n l from to)) sight-check
+  sight-by : sight n l at camera ball ≡ by-verdict Sight.Refused (sight-of (first-hit Adaptive n l from to)) sight-check
   unfolding sight looked look-up
   sight-by = in-one (shape n (length l)) (placement-check at) (point-check P n camera (quotients at camera)) (point-check Q n ball (quotients at ball))
     where
-      in-one : (u v w x : Verdict) → by-verdict NotSeen (seen n l (by-verdict NoCell (Cell from) w) (by-verdict NoCell (Cell to) x)) (u then v)
-          ≡ by-verdict NotSeen (sight-of (first-hit Adaptive n l from to)) (u then v then w then x)
+      in-one : (u v w x : Verdict) → by-verdict Sight.Refused (seen n l (by-verdict Lookup.Refused (Lookup.Cell from) w) (by-verdict Lookup.Refused (Lookup.Cell to) x)) (u then v)
+          ≡ by-verdict Sight.Refused (sight-of (first-hit Adaptive n l from to)) (u then v then w then x)
       in-one (Refused r) v w x = refl
       in-one Fine (Refused r) w x = refl
       in-one Fine Fine (Refused r) x = refl
@@ -174,7 +175,7 @@ module _ (n : Counts) (l : List ℕ) (at : Placement) (camera ball : Point) wher
       in-one Fine Fine Fine Fine = refl
 
   -- where they pass, both cells lie in the grid, and the walk between them is not refused
-  walked : sight-check ≡ Fine → (w : ℕ ⊎ Hit) × (told-hit (first-hit Adaptive n l from to) ≡ inr w)
+  walked : sight-check ≡ Fine → (w : WalkSaid) × (told-hit (first-hit Adaptive n l from to) ≡ inr w)
   unfolding first-hit
   walked fine =
       let (shaped, rest) = each-fine _ _ fine in
@@ -188,7 +189,7 @@ module _ (n : Counts) (l : List ℕ) (at : Placement) (camera ball : Point) wher
 
   see-told : (r : Sight) → Sees n l at camera ball r → ByTests (sight-tests n (length l) at camera ball) (told-sight r)
   see-told r c =
-      answered told-sight (by-verdict NotSeen (sight-of (first-hit Adaptive n l from to))) (λ r. refl)
+      answered told-sight (by-verdict Sight.Refused (sight-of (first-hit Adaptive n l from to))) (λ r. refl)
       (shape-judged n (length l) next placement-judged at next point-judged P n at camera next point-judged Q n at ball)
       (λ fine. let (w, is) = walked fine in sight-told (first-hit Adaptive n l from to) w is)
       (c .says ∙ sight-by)
@@ -200,16 +201,16 @@ points-told n at = record { cell-of = cell-told n at; see = λ l. see-told n l a
 
 venue-told : (s : List ℕ) (r : VenueRead) → ReadsVenue s r → ByTests (venue-tests s) (told-venue r)
 unfolding venue-read
-venue-told s r c = answered told-venue (by-verdict NoVenue (Read (venue-in s))) (λ r. refl) (venue-judged s) (λ fine. (_, refl)) (c .says)
+venue-told s r c = answered told-venue (by-verdict VenueRead.Refused (VenueRead.Read (venue-in s))) (λ r. refl) (venue-judged s) (λ fine. (_, refl)) (c .says)
 
 no-cells : (a : VenueRead) (s : List ℕ) (t : Told) → told-venue a ≡ inl t → part-of a s ≡ []
-no-cells (NoVenue r) s t e = refl
-no-cells (Read v) s t e = one-of-two (sym e)
+no-cells (VenueRead.Refused r) s t e = refl
+no-cells (VenueRead.Read v) s t e = one-of-two (sym e)
 
 some-cells : (bytes part : RefT (List ℕ)) → GivesCells bytes part → (a : VenueRead) (w : Counts × ℕ × ℕ) → a ≡ venue-read (bytes .now) → told-venue a ≡ inr w →
     1 ≤ length (part .now)
-some-cells bytes part c (Read v) w is e = the-part bytes part .accepted v (record { says = is }) c .2
-some-cells bytes part c (NoVenue r) w is e = one-of-two e
+some-cells bytes part c (VenueRead.Read v) w is e = the-part bytes part .accepted v (record { says = is }) c .2
+some-cells bytes part c (VenueRead.Refused r) w is e = one-of-two e
 
 cells-told : (bytes part : RefT (List ℕ)) → GivesCells bytes part → (part .now ≡ []) ↔ ((t : Told) × First (venue-tests (bytes .now)) t)
 unfolding venue-cells
@@ -225,7 +226,7 @@ records-told =
     record {
       read-venue = venue-told;
       venue-cells = cells-told;
-      read-pair = λ s r c. answered told-pair (by-verdict NoPair (ReadPair (pair-in s))) (λ r. refl) (pair-judged s) (λ fine. (_, refl)) (c .says);
+      read-pair = λ s r c. answered told-pair (by-verdict PairRead.Refused (PairRead.Read (pair-in s))) (λ r. refl) (pair-judged s) (λ fine. (_, refl)) (c .says);
       write-venue = λ n cells entry exit r c.
-          answered told-written (by-verdict NotWritten (Wrote (record-length n))) (λ r. refl) (write-judged n (length cells) (length entry)) (λ fine. (_, refl)) (c .says);
+          answered told-written (by-verdict Written.Refused (Written.Wrote (record-length n))) (λ r. refl) (write-judged n (length cells) (length entry)) (λ fine. (_, refl)) (c .says);
     }

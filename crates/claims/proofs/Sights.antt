@@ -14,10 +14,10 @@ use Rattle.cells.proofs.Checks.{by-fine}
 use Rattle.grids.specs.Grid.{shape}
 use Rattle.walks.specs.declared.Walker.the-variants.{Adaptive}
 use Rattle.walks.specs.declared.FirstHit.{FirstHit}
-use Rattle.walks.specs.declared.FirstHit.the-variants.{Clear as Open, Hit, Refused as NotWalked}
+use Rattle.walks.specs.declared.FirstHit.the-variants as FirstHit
 use Rattle.walks.specs.Answers.{first-hit}
 use Rattle.survey.specs.declared.Lookup.{Lookup}
-use Rattle.survey.specs.declared.Lookup.the-variants.{Cell, Refused as NoCell}
+use Rattle.survey.specs.declared.Lookup.the-variants as Lookup
 use Rattle.survey.specs.declared.Placement.{Placement}
 use Rattle.survey.specs.declared.Point.{Point}
 use Rattle.survey.specs.Survey.{placement-check, look-up}
@@ -36,22 +36,22 @@ kind (Refused r) = 2
 
 -- ---- a clear sight
 
-walk-clear : (h : FirstHit) → sight-of h ≡ Clear → (reads : ℕ) × (h ≡ Open reads)
+walk-clear : (h : FirstHit) → sight-of h ≡ Clear → (reads : ℕ) × (h ≡ FirstHit.Clear reads)
 unfolding kind
-walk-clear (Open reads) e = (reads, refl)
-walk-clear (Hit h) e = absurd (let z : _≡_ {A = ℕ} 1 0 = ap kind e in omega arith)
-walk-clear (NotWalked r) e = absurd (let z : _≡_ {A = ℕ} 2 0 = ap kind e in omega arith)
+walk-clear (FirstHit.Clear reads) e = (reads, refl)
+walk-clear (FirstHit.Hit h) e = absurd (let z : _≡_ {A = ℕ} 1 0 = ap kind e in omega arith)
+walk-clear (FirstHit.Refused r) e = absurd (let z : _≡_ {A = ℕ} 2 0 = ap kind e in omega arith)
 
 not-clear : (r : Refusal) → ¬ (Refused r ≡ Clear)
 unfolding kind
 not-clear r e = let z : _≡_ {A = ℕ} 2 0 = ap kind e in omega arith
 
 seen-clear : (n : Counts) (l : List ℕ) (f t : Lookup) → seen n l f t ≡ Clear →
-    (c : cell.Cell) × (b : cell.Cell) × (reads : ℕ) × (f ≡ Cell c) × (t ≡ Cell b) × (first-hit Adaptive n l c b ≡ Open reads)
+    (c : cell.Cell) × (b : cell.Cell) × (reads : ℕ) × (f ≡ Lookup.Cell c) × (t ≡ Lookup.Cell b) × (first-hit Adaptive n l c b ≡ FirstHit.Clear reads)
 unfolding kind
-seen-clear n l (Cell c) (Cell b) e = let (reads, is) = walk-clear (first-hit Adaptive n l c b) e in (c, b, reads, refl, refl, is)
-seen-clear n l (Cell c) (NoCell r) e = absurd (let z : _≡_ {A = ℕ} 2 0 = ap kind e in omega arith)
-seen-clear n l (NoCell r) t e = absurd (let z : _≡_ {A = ℕ} 2 0 = ap kind e in omega arith)
+seen-clear n l (Lookup.Cell c) (Lookup.Cell b) e = let (reads, is) = walk-clear (first-hit Adaptive n l c b) e in (c, b, reads, refl, refl, is)
+seen-clear n l (Lookup.Cell c) (Lookup.Refused r) e = absurd (let z : _≡_ {A = ℕ} 2 0 = ap kind e in omega arith)
+seen-clear n l (Lookup.Refused r) t e = absurd (let z : _≡_ {A = ℕ} 2 0 = ap kind e in omega arith)
 
 -- ---- the claims
 
@@ -90,7 +90,7 @@ camera-first n l at camera =
       any-ball = λ r lost ball other s t hs ht. hs .says ∙ alike r lost ball ∙ sym (alike r lost other) ∙ sym (ht .says);
     }
   where
-    alike : (r : Refusal) → look-up P n at camera ≡ NoCell r → (ball : Point) →
+    alike : (r : Refusal) → look-up P n at camera ≡ Lookup.Refused r → (ball : Point) →
         sight n l at camera ball ≡ by-verdict Refused (Refused r) (shape n (length l) then placement-check at)
     alike r lost ball = sight-is n l at camera ball ∙ ap (λ s. by-verdict Refused s (shape n (length l) then placement-check at)) (camera-refused n l at camera ball (sym lost) refl)
 

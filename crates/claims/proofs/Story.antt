@@ -9,7 +9,7 @@ use lib.ListN.{length}
 use Rattle.cells.specs.declared.Cell.{Cell}
 use Rattle.cells.specs.declared.Counts.{Counts}
 use Rattle.cells.specs.declared.Verdict.{Verdict}
-use Rattle.cells.specs.declared.Verdict.the-variants.{Fine, Refused as Fails}
+use Rattle.cells.specs.declared.Verdict.the-variants as Verdict
 use Rattle.cells.specs.Checks.{by-verdict}
 use Rattle.lines.specs.Steps.{total}
 use Rattle.lines.specs.Preference.{rule-1}
@@ -22,7 +22,7 @@ use Rattle.walks.specs.declared.Walker.the-variants.{Plain, Adaptive}
 use Rattle.walks.specs.declared.Place.{Place}
 use Rattle.walks.specs.declared.Hit.{Hit}
 use Rattle.walks.specs.declared.FirstHit.{FirstHit}
-use Rattle.walks.specs.declared.FirstHit.the-variants.{Clear, Hit as Blocked, Refused}
+use Rattle.walks.specs.declared.FirstHit.the-variants as FirstHit
 use Rattle.walks.specs.Walks.{hit-at, six-count}
 use Rattle.walks.specs.Answers.{entered-at, first-hit}
 use Rattle.grids.specs.Inside.{walk-check, InGrid}
@@ -38,41 +38,41 @@ use Rattle.claims.proofs.Grids.{says-complete}
 
 -- what an answer carries
 hit-or : Hit → FirstHit → Hit
-hit-or k (Blocked h) = h
-hit-or k (Clear r) = k
-hit-or k (Refused r) = k
+hit-or k (FirstHit.Hit h) = h
+hit-or k (FirstHit.Clear r) = k
+hit-or k (FirstHit.Refused r) = k
 
 reads-or : ℕ → FirstHit → ℕ
-reads-or k (Blocked h) = k
-reads-or k (Clear r) = r
-reads-or k (Refused r) = k
+reads-or k (FirstHit.Hit h) = k
+reads-or k (FirstHit.Clear r) = r
+reads-or k (FirstHit.Refused r) = k
 
 -- 0 a hit, 1 clear, 2 refused
 kind : FirstHit → ℕ
-kind (Blocked h) = 0
-kind (Clear r) = 1
-kind (Refused r) = 2
+kind (FirstHit.Hit h) = 0
+kind (FirstHit.Clear r) = 1
+kind (FirstHit.Refused r) = 2
 
 module _ (n : Counts) (l : List ℕ) (p q : Cell) where
   abbrev check : Verdict
   check = walk-check n (length l) p q
 
   -- where the marks are complete and the ends are in the grid, both walks end at the same number
-  alike : check ≡ Fine → complete 3 n l ≡ true → end-of n l p q Adaptive ≡ end-of n l p q Plain
+  alike : check ≡ Verdict.Fine → complete 3 n l ≡ true → end-of n l p q Adaptive ≡ end-of n l p q Plain
   alike fine whole =
       let a = accepted n (length l) p q fine in
       ends-alike n l p q 3 (omega arith) (a .p-in) (a .q-in) (complete-safe 3 n l (a .shaped) whole)
 
-  same-answers : complete 3 n l ≡ true → (v : Verdict) → check ≡ v → SameStory (by-verdict Refused (answer-at n l p q (end-of n l p q Plain) (reads-of n l p q Plain)) v) (by-verdict Refused (answer-at n l p q (end-of n l p q Adaptive) (reads-of n l p q Adaptive)) v)
-  same-answers whole (Fails r) h = refusals
-  same-answers whole Fine h =
+  same-answers : complete 3 n l ≡ true → (v : Verdict) → check ≡ v → SameStory (by-verdict FirstHit.Refused (answer-at n l p q (end-of n l p q Plain) (reads-of n l p q Plain)) v) (by-verdict FirstHit.Refused (answer-at n l p q (end-of n l p q Adaptive) (reads-of n l p q Adaptive)) v)
+  same-answers whole (Verdict.Refused r) h = refusals
+  same-answers whole Verdict.Fine h =
       let e = alike h whole in
       subst (λ k. SameStory (answer-at n l p q (end-of n l p q Plain) (reads-of n l p q Plain)) (answer-at n l p q k (reads-of n l p q Adaptive))) (sym e)
       (by (hit-at n l (six-cell rule-1 p q (end-of n l p q Plain))) _ _ _ (reads-no-more n l p q e))
     where
       by :
           (b : Bool) (c : Cell) (code : ℕ) (place : Place) {r s : ℕ} → s ≤ r →
-          SameStory (cond b (Blocked (record { cell = c; code = code; place = place; reads = r })) (Clear r)) (cond b (Blocked (record { cell = c; code = code; place = place; reads = s })) (Clear s))
+          SameStory (cond b (FirstHit.Hit (record { cell = c; code = code; place = place; reads = r })) (FirstHit.Clear r)) (cond b (FirstHit.Hit (record { cell = c; code = code; place = place; reads = s })) (FirstHit.Clear s))
       by true c code place le = hits refl refl refl le
       by false c code place le = clears le
 
@@ -86,32 +86,32 @@ module _ (n : Counts) (l : List ℕ) (p q : Cell) where
   -- ---- in any grid
 
   -- an answer that is a hit is the hit at the walk's end
-  hit-told : (v : Verdict) (k : Hit) (e r : ℕ) → Blocked k ≡ by-verdict Refused (answer-at n l p q e r) v →
-      (v ≡ Fine) × (hit-at n l (six-cell rule-1 p q e) ≡ true) × (k ≡ record { cell = six-cell rule-1 p q e; code = byte-of n l (six-cell rule-1 p q e); place = entered-at p q e; reads = r })
+  hit-told : (v : Verdict) (k : Hit) (e r : ℕ) → FirstHit.Hit k ≡ by-verdict FirstHit.Refused (answer-at n l p q e r) v →
+      (v ≡ Verdict.Fine) × (hit-at n l (six-cell rule-1 p q e) ≡ true) × (k ≡ record { cell = six-cell rule-1 p q e; code = byte-of n l (six-cell rule-1 p q e); place = entered-at p q e; reads = r })
   unfolding kind hit-or
-  hit-told (Fails x) k e r h = absurd (let z : _≡_ {A = ℕ} 0 2 = ap kind h in omega arith)
-  hit-told Fine k e r h = by (hit-at n l (six-cell rule-1 p q e)) refl h
+  hit-told (Verdict.Refused x) k e r h = absurd (let z : _≡_ {A = ℕ} 0 2 = ap kind h in omega arith)
+  hit-told Verdict.Fine k e r h = by (hit-at n l (six-cell rule-1 p q e)) refl h
     where
       there : Hit
       there = record { cell = six-cell rule-1 p q e; code = byte-of n l (six-cell rule-1 p q e); place = entered-at p q e; reads = r }
 
-      by : (b : Bool) → hit-at n l (six-cell rule-1 p q e) ≡ b → Blocked k ≡ cond b (Blocked there) (Clear r) → (Fine ≡ Fine) × (hit-at n l (six-cell rule-1 p q e) ≡ true) × (k ≡ there)
+      by : (b : Bool) → hit-at n l (six-cell rule-1 p q e) ≡ b → FirstHit.Hit k ≡ cond b (FirstHit.Hit there) (FirstHit.Clear r) → (Verdict.Fine ≡ Verdict.Fine) × (hit-at n l (six-cell rule-1 p q e) ≡ true) × (k ≡ there)
       by true b h = (refl, b, ap (hit-or k) h)
       by false b h = absurd (let z : _≡_ {A = ℕ} 0 1 = ap kind h in omega arith)
 
   -- an answer that is clear is so at the walk's end
-  clear-told : (v : Verdict) (k e r : ℕ) → Clear k ≡ by-verdict Refused (answer-at n l p q e r) v → (v ≡ Fine) × (hit-at n l (six-cell rule-1 p q e) ≡ false) × (k ≡ r)
+  clear-told : (v : Verdict) (k e r : ℕ) → FirstHit.Clear k ≡ by-verdict FirstHit.Refused (answer-at n l p q e r) v → (v ≡ Verdict.Fine) × (hit-at n l (six-cell rule-1 p q e) ≡ false) × (k ≡ r)
   unfolding kind reads-or
-  clear-told (Fails x) k e r h = absurd (let z : _≡_ {A = ℕ} 1 2 = ap kind h in omega arith)
-  clear-told Fine k e r h = by _ (hit-at n l (six-cell rule-1 p q e)) refl h
+  clear-told (Verdict.Refused x) k e r h = absurd (let z : _≡_ {A = ℕ} 1 2 = ap kind h in omega arith)
+  clear-told Verdict.Fine k e r h = by _ (hit-at n l (six-cell rule-1 p q e)) refl h
     where
       by :
-          (there : Hit) (b : Bool) → hit-at n l (six-cell rule-1 p q e) ≡ b → Clear k ≡ cond b (Blocked there) (Clear r) →
-          (Fine ≡ Fine) × (hit-at n l (six-cell rule-1 p q e) ≡ false) × (k ≡ r)
+          (there : Hit) (b : Bool) → hit-at n l (six-cell rule-1 p q e) ≡ b → FirstHit.Clear k ≡ cond b (FirstHit.Hit there) (FirstHit.Clear r) →
+          (Verdict.Fine ≡ Verdict.Fine) × (hit-at n l (six-cell rule-1 p q e) ≡ false) × (k ≡ r)
       by there true b h = absurd (let z : _≡_ {A = ℕ} 1 0 = ap kind h in omega arith)
       by there false b h = (refl, b, ap (reads-or k) h)
 
-  inside-at : (h : Hit) (e r : ℕ) → e ≤ total (differences p q) → Blocked h ≡ by-verdict Refused (answer-at n l p q e r) check → InGrid n (h .cell)
+  inside-at : (h : Hit) (e r : ℕ) → e ≤ total (differences p q) → FirstHit.Hit h ≡ by-verdict FirstHit.Refused (answer-at n l p q e r) check → InGrid n (h .cell)
   inside-at h e r le is =
       let (fine, hit, there) = hit-told check h e r is in
       let a = accepted n (length l) p q fine in
@@ -126,7 +126,7 @@ module _ (n : Counts) (l : List ℕ) (p q : Cell) where
   pub hit-place : HitPlace n l p q
   hit-place = record { there = λ w h a. at h (end-of n l p q w) (reads-of n l p q w) (end-below n l p q w) (a .says ∙ first-hit-is n l p q w) }
     where
-      at : (h : Hit) (e r : ℕ) → e ≤ total (differences p q) → Blocked h ≡ by-verdict Refused (answer-at n l p q e r) check → (s : ℕ) × OnTheLine n l p q h s
+      at : (h : Hit) (e r : ℕ) → e ≤ total (differences p q) → FirstHit.Hit h ≡ by-verdict FirstHit.Refused (answer-at n l p q e r) check → (s : ℕ) × OnTheLine n l p q h s
       at h e r le is =
           let (fine, hit, there) = hit-told check h e r is in
           let cell = ap (λ k. k .cell) there in
@@ -167,7 +167,7 @@ module _ (n : Counts) (l : List ℕ) (p q : Cell) where
             let (fine, hit, is) = hit-told check k (end-of n l p q Adaptive) (reads-of n l p q Adaptive) (ha .says ∙ first-hit-is n l p q Adaptive) in
             let there : Hit = record { cell = six-cell rule-1 p q (end-of n l p q Plain); code = byte-of n l (six-cell rule-1 p q (end-of n l p q Plain)); place = entered-at p q (end-of n l p q Plain); reads = reads-of n l p q Plain } in (
               there,
-              hp .says ∙ first-hit-is n l p q Plain ∙ ap (by-verdict Refused (answer-at n l p q (end-of n l p q Plain) (reads-of n l p q Plain))) fine ∙ ap (λ b. cond b (Blocked there) (Clear (reads-of n l p q Plain))) (not-invented n l p q hit),
+              hp .says ∙ first-hit-is n l p q Plain ∙ ap (by-verdict FirstHit.Refused (answer-at n l p q (end-of n l p q Plain) (reads-of n l p q Plain))) fine ∙ ap (λ b. cond b (FirstHit.Hit there) (FirstHit.Clear (reads-of n l p q Plain))) (not-invented n l p q hit),
               subst (λ h. there .place .num * h .place .den ≤ h .place .num * there .place .den) (sym is) (never-falls p q (end-of n l p q Plain) (end-of n l p q Adaptive) (no-earlier n l p q) (end-below n l p q Adaptive)),
               record {
                 of-c = end-of n l p q Plain;

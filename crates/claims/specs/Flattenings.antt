@@ -9,7 +9,7 @@ use Rattle.cells.specs.declared.End.the-variants.{P, Q}
 use Rattle.cells.specs.declared.Part.{Part}
 use Rattle.cells.specs.declared.Part.the-variants.{OriginX, OriginY, OriginZ, Edge}
 use Rattle.cells.specs.declared.Refusal.{Refusal}
-use Rattle.cells.specs.declared.Refusal.the-variants.{Limit, Count, Bytes, Layer, OffGrid, Room, Placement as Misplaced, NotFinite, OffSurvey, Record, Version}
+use Rattle.cells.specs.declared.Refusal.the-variants as Refusal
 use Rattle.cells.specs.Refusals.{Told, told-verdict}
 use Rattle.lists.specs.Lists.{told-listed}
 use Rattle.grids.specs.Grid.{told-part}
@@ -68,17 +68,17 @@ pub record SaidNumbers : Type 0 where
   pub axes : (axis-number X ≡ 1) × (axis-number Y ≡ 2) × (axis-number Z ≡ 3)
   pub parts : (part-number OriginX ≡ 1) × (part-number OriginY ≡ 2) × (part-number OriginZ ≡ 3) × (part-number Edge ≡ 4)
   pub fine : accepted ≡ three 0 0 0
-  pub limit : (e : End) (a : Axis) → flat-refusal (Limit e a) ≡ three 1 (end-number e) (axis-number a)
-  pub count : (a : Axis) → flat-refusal (Count a) ≡ three 2 0 (axis-number a)
-  pub bytes : flat-refusal Bytes ≡ three 3 0 0
-  pub layer : flat-refusal Layer ≡ three 4 0 0
-  pub off-grid : (e : End) (a : Axis) → flat-refusal (OffGrid e a) ≡ three 5 (end-number e) (axis-number a)
-  pub no-room : flat-refusal Room ≡ three 6 0 0
-  pub placement : (p : Part) → flat-refusal (Misplaced p) ≡ three 7 0 (part-number p)
-  pub not-finite : (e : End) (a : Axis) → flat-refusal (NotFinite e a) ≡ three 8 (end-number e) (axis-number a)
-  pub off-survey : (e : End) (a : Axis) → flat-refusal (OffSurvey e a) ≡ three 9 (end-number e) (axis-number a)
-  pub no-record : flat-refusal Record ≡ three 10 0 0
-  pub version : flat-refusal Version ≡ three 11 0 0
+  pub limit : (e : End) (a : Axis) → flat-refusal (Refusal.Limit e a) ≡ three 1 (end-number e) (axis-number a)
+  pub count : (a : Axis) → flat-refusal (Refusal.Count a) ≡ three 2 0 (axis-number a)
+  pub bytes : flat-refusal Refusal.Bytes ≡ three 3 0 0
+  pub layer : flat-refusal Refusal.Layer ≡ three 4 0 0
+  pub off-grid : (e : End) (a : Axis) → flat-refusal (Refusal.OffGrid e a) ≡ three 5 (end-number e) (axis-number a)
+  pub no-room : flat-refusal Refusal.Room ≡ three 6 0 0
+  pub placement : (p : Part) → flat-refusal (Refusal.Placement p) ≡ three 7 0 (part-number p)
+  pub not-finite : (e : End) (a : Axis) → flat-refusal (Refusal.NotFinite e a) ≡ three 8 (end-number e) (axis-number a)
+  pub off-survey : (e : End) (a : Axis) → flat-refusal (Refusal.OffSurvey e a) ≡ three 9 (end-number e) (axis-number a)
+  pub no-record : flat-refusal Refusal.Record ≡ three 10 0 0
+  pub version : flat-refusal Refusal.Version ≡ three 11 0 0
   pub in-table : (r : Refusal) → InTable (flat-refusal r .refusal)
   pub apart : (r s : Refusal) → flat-refusal r ≡ flat-refusal s → r ≡ s
   pub q-off-y : (r : OatHit) → FlatFinds Plain example-counts example-cells (at 0 0 0) (at 0 2 0) r → r .said ≡ three 5 2 2

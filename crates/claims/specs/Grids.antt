@@ -16,7 +16,7 @@ use Rattle.cells.specs.declared.Verdict.the-variants.{Fine, Refused}
 use Rattle.cells.specs.Parts.{StartsAt}
 use Rattle.cells.specs.Touching.{Touches}
 use Rattle.grids.specs.declared.LayerPart.{LayerPart}
-use Rattle.grids.specs.declared.LayerPart.the-variants.{Part, Refused as NoPart}
+use Rattle.grids.specs.declared.LayerPart.the-variants as LayerPart
 use Rattle.grids.specs.declared.Completeness.{Completeness}
 use Rattle.grids.specs.declared.Completeness.the-variants.{Yes, No}
 use Rattle.grids.specs.Grid.{size, shape, Shapes, index, cell-at, clear, solid, GivesLayerPart, GivesLayer}
@@ -49,8 +49,8 @@ pub record Places (n : Counts) (bytes : ℕ) : Type 0 where
 
 -- 3. The layer is the caller's own bytes where the partner says, and it is empty exactly when the partner refuses.
 pub record Layers (n : Counts) (z : ℤ) (cells layer : RefT (List ℕ)) (part : LayerPart) : Type 0 where
-  pub empty : GivesLayerPart n (length (cells .now)) z part → GivesLayer n cells z layer → (layer .now ≡ []) ↔ ((r : Refusal) × (part ≡ NoPart r))
-  pub own : (start many : ℕ) → GivesLayerPart n (length (cells .now)) z (Part start many) → GivesLayer n cells z layer →
+  pub empty : GivesLayerPart n (length (cells .now)) z part → GivesLayer n cells z layer → (layer .now ≡ []) ↔ ((r : Refusal) × (part ≡ LayerPart.Refused r))
+  pub own : (start many : ℕ) → GivesLayerPart n (length (cells .now)) z (LayerPart.Part start many) → GivesLayer n cells z layer →
       StartsAt start cells layer × (length (layer .now) ≡ many) × ((i : ℕ) → i < many → getD (layer .now) i 0 ≡ getD (cells .now) (start + i) 0)
 
 -- 4. Marking changes no solid byte and no cell's solidity, makes the marks complete, and done twice is done once.
@@ -92,5 +92,5 @@ pub record ShutOut : Type 0 where
   pub never-complete : Completes example-counts marked-cells No → ⊥
   pub empty-layer : (cells r : RefT (List ℕ)) → cells .now ≡ example-cells → GivesLayer example-counts cells (pos 0) r → r .now ≡ [] → ⊥
   pub first-layer : (cells r : RefT (List ℕ)) → cells .now ≡ 0 ∷ 0 ∷ 0 ∷ 0 ∷ [] → GivesLayer two-layers cells (pos 1) r → r .ptr ≡ cells .ptr → ⊥
-  pub first-part : GivesLayerPart two-layers 4 (pos 1) (Part 0 2) → ⊥
-  pub no-part : (r : Refusal) → GivesLayerPart two-layers 4 (pos 1) (NoPart r) → ⊥
+  pub first-part : GivesLayerPart two-layers 4 (pos 1) (LayerPart.Part 0 2) → ⊥
+  pub no-part : (r : Refusal) → GivesLayerPart two-layers 4 (pos 1) (LayerPart.Refused r) → ⊥

@@ -18,11 +18,11 @@ use Rattle.grids.specs.Marks.{Completes}
 use Rattle.walks.specs.declared.Walker.the-variants.{Plain, Adaptive}
 use Rattle.walks.specs.declared.Hit.{Hit}
 use Rattle.walks.specs.declared.FirstHit.{FirstHit}
-use Rattle.walks.specs.declared.FirstHit.the-variants.{Hit as Blocked}
+use Rattle.walks.specs.declared.FirstHit.the-variants as FirstHit
 use Rattle.walks.specs.Answers.{Finds}
 use Rattle.survey.specs.declared.Placement.{Placement}
 use Rattle.survey.specs.declared.Point.{Point}
-use Rattle.sight.specs.declared.Sight.the-variants.{Clear as Open}
+use Rattle.sight.specs.declared.Sight.the-variants as Sight
 use Rattle.sight.specs.Sight.{Sees}
 use Rattle.records.specs.declared.venues.VenueRead.{VenueRead}
 use Rattle.records.specs.declared.writing.Written.the-variants.{Wrote}
@@ -68,6 +68,6 @@ pub record AreThePapers : Type 0 where
 pub record TellOneStory : Type 0 where
   pub same : (n : Counts) (l : List ℕ) (p q : Cell) → Completes n l Yes → (plain adaptive : FirstHit) → Finds Plain n l p q plain →
       Finds Adaptive n l p q adaptive → SameStory plain adaptive
-  pub clear : (n : Counts) (l : List ℕ) (at : Placement) (camera ball : Point) → Completes n l Yes → Sees n l at camera ball Open → OpenWay n l at camera ball
-  pub never-invented : (n : Counts) (l : List ℕ) (p q : Cell) (k : Hit) (plain : FirstHit) → Finds Adaptive n l p q (Blocked k) → Finds Plain n l p q plain →
-      (h : Hit) × (plain ≡ Blocked h) × NoLater p q (h .cell) (k .cell)
+  pub clear : (n : Counts) (l : List ℕ) (at : Placement) (camera ball : Point) → Completes n l Yes → Sees n l at camera ball Sight.Clear → OpenWay n l at camera ball
+  pub never-invented : (n : Counts) (l : List ℕ) (p q : Cell) (k : Hit) (plain : FirstHit) → Finds Adaptive n l p q (FirstHit.Hit k) → Finds Plain n l p q plain →
+      (h : Hit) × (plain ≡ FirstHit.Hit h) × NoLater p q (h .cell) (k .cell)

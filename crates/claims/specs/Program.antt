@@ -10,9 +10,9 @@ use Rattle.records.specs.declared.venues.Venue.{Venue}
 use Rattle.records.specs.declared.venues.VenueRead.the-variants.{Read}
 use Rattle.records.specs.Venues.{ReadsVenue, GivesCells}
 use Rattle.walks.specs.declared.FirstHit.{FirstHit}
-use Rattle.walks.specs.declared.FirstHit.the-variants.{Clear, Hit as Blocked, Refused as NotWalked}
+use Rattle.walks.specs.declared.FirstHit.the-variants as FirstHit
 use Rattle.records.specs.declared.pairs.Pair.{Pair}
-use Rattle.records.specs.declared.pairs.PairRead.the-variants.{Read as ReadPair}
+use Rattle.records.specs.declared.pairs.PairRead.the-variants as PairRead
 use Rattle.texts.specs.Text.{pair-refused-line}
 use Rattle.program.specs.declared.Next.the-variants.{On, Over}
 use Rattle.program.specs.declared.Step.{Step}
@@ -52,9 +52,9 @@ pub record OneStep (entry : List ℕ) : Type 0 where
 
 -- a walk was made: its answer is no refusal, and so it has a line
 abbrev pub Walked : FirstHit → Type 0
-Walked (Clear reads) = Unit {0}
-Walked (Blocked h) = Unit {0}
-Walked (NotWalked r) = ⊥
+Walked (FirstHit.Clear reads) = Unit {0}
+Walked (FirstHit.Hit h) = Unit {0}
+Walked (FirstHit.Refused r) = ⊥
 
 abbrev pub AllWalked : List (ℕ × FirstHit) → Type 0
 AllWalked [] = Unit {0}
@@ -66,7 +66,7 @@ going-on k text = record { text = text; next = On (k + 1) }
 
 -- Of an accepted venue, a pair that is read is refused 5 or not at all; then each walk was made and has its line. Either way the program goes on.
 pub record FiveOrLines (bytes cells : RefT (List ℕ)) (t : List ℕ) (v : Venue) (e : Pair) : Type 0 where
-  pub pair : ReadsVenue (bytes .now) (Read v) → GivesCells bytes cells → ReadsPair t (ReadPair e) → (k : ℕ) →
+  pub pair : ReadsVenue (bytes .now) (Read v) → GivesCells bytes cells → ReadsPair t (PairRead.Read e) → (k : ℕ) →
       let found : List (ℕ × FirstHit) = answers (v .counts) (cells .now) (e .p) (e .q) in
       (pair-said (v .counts) (cells .now) k t ≡ going-on k (pair-refused-line k 5))
       ⊎ ((pair-said (v .counts) (cells .now) k t ≡ going-on k (walk-lines k found)) × AllWalked found)

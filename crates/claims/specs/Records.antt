@@ -15,15 +15,15 @@ use Rattle.cells.specs.declared.Verdict.the-variants.{Fine}
 use Rattle.grids.specs.Grid.{size, count-check, shape}
 use Rattle.records.specs.declared.venues.Venue.{Venue}
 use Rattle.records.specs.declared.venues.VenueRead.{VenueRead}
-use Rattle.records.specs.declared.venues.VenueRead.the-variants.{Read, Refused as NoVenue}
+use Rattle.records.specs.declared.venues.VenueRead.the-variants as VenueRead
 use Rattle.records.specs.declared.pairs.Pair.{Pair}
 use Rattle.records.specs.declared.pairs.PairRead.{PairRead}
-use Rattle.records.specs.declared.pairs.PairRead.the-variants.{Read as ReadPair, Refused as NoPair}
+use Rattle.records.specs.declared.pairs.PairRead.the-variants as PairRead
 use Rattle.records.specs.Heads.{announced, version-of}
 use Rattle.records.specs.Venues.{counts-at, ReadsVenue, GivesCells}
 use Rattle.records.specs.Pairs.{signed, ReadsPair}
 use Rattle.records.specs.declared.writing.Written.{Written}
-use Rattle.records.specs.declared.writing.Written.the-variants.{Wrote, Refused as NotWritten}
+use Rattle.records.specs.declared.writing.Written.the-variants as Written
 use Rattle.records.specs.Writing.{WritesVenue}
 use Rattle.claims.specs.Example.{example-counts, example-cells}
 
@@ -34,7 +34,7 @@ pub record OneAnswer : Type 0 where
   pub pair : (s : List ℕ) (r t : PairRead) → ReadsPair s r → ReadsPair s t → r ≡ t
   pub written : (n : Counts) (cells entry : List ℕ) (r t : Written) (x y : List ℕ) → WritesVenue n cells entry r x → WritesVenue n cells entry t y →
       (r ≡ t) × (x ≡ y)
-  pub untouched : (n : Counts) (cells entry : List ℕ) (r : Refusal) (x : List ℕ) → WritesVenue n cells entry (NotWritten r) x → x ≡ entry
+  pub untouched : (n : Counts) (cells entry : List ℕ) (r : Refusal) (x : List ℕ) → WritesVenue n cells entry (Written.Refused r) x → x ≡ entry
 
 -- 2. What reading accepts, in document 01's numbers: a venue v of these bytes, and a pair e.
 pub record Right (s : List ℕ) (v : Venue) : Type 0 where
@@ -54,38 +54,38 @@ pub record RightPair (s : List ℕ) (e : Pair) : Type 0 where
 
 -- just these are accepted
 pub record Accepted (s : List ℕ) : Type 0 where
-  pub venue : (v : Venue) → ReadsVenue s (Read v) ↔ Right s v
-  pub pair : (e : Pair) → ReadsPair s (ReadPair e) ↔ RightPair s e
+  pub venue : (v : Venue) → ReadsVenue s (VenueRead.Read v) ↔ Right s v
+  pub pair : (e : Pair) → ReadsPair s (PairRead.Read e) ↔ RightPair s e
 
 -- "3 if the length is not 7 + nx·ny·nz": of a whole record of version 1, long enough for its head, with counts that pass.
 pub record LengthTested (s : List ℕ) : Type 0 where
   pub three : 4 + announced s ≤ length s → version-of s ≡ 1 → 7 ≤ announced s → count-check (counts-at s 5) ≡ Fine →
-      (announced s ≡ 7 + size (counts-at s 5) → ⊥) → ReadsVenue s (NoVenue Bytes)
+      (announced s ≡ 7 + size (counts-at s 5) → ⊥) → ReadsVenue s (VenueRead.Refused Bytes)
 
 -- 3. The cells are the caller's own bytes, where reading says; never empty, so the empty part means refused.
 pub record ThePart (bytes part : RefT (List ℕ)) : Type 0 where
-  pub accepted : (v : Venue) → ReadsVenue (bytes .now) (Read v) → GivesCells bytes part →
+  pub accepted : (v : Venue) → ReadsVenue (bytes .now) (VenueRead.Read v) → GivesCells bytes part →
       StartsAt (v .start) bytes part × (length (part .now) ≡ v .long) × (1 ≤ length (part .now))
-  pub refused : (r : Refusal) → ReadsVenue (bytes .now) (NoVenue r) → GivesCells bytes part → part .now ≡ []
+  pub refused : (r : Refusal) → ReadsVenue (bytes .now) (VenueRead.Refused r) → GivesCells bytes part → part .now ≡ []
 
 -- 4. A venue written and read back is the same counts and the same cells, whatever bytes follow it; also as it stands in the lent memory, before
 -- the bytes that stayed.
 pub record SameVenue (n : Counts) (cells : List ℕ) (bytes part : RefT (List ℕ)) (r : VenueRead) : Type 0 where
-  pub read : r ≡ Read (record { counts = n; start = 11; long = length cells })
+  pub read : r ≡ VenueRead.Read (record { counts = n; start = 11; long = length cells })
   pub same-cells : part .now ≡ cells
   pub there : StartsAt 11 bytes part
 
 pub record ReadBack (n : Counts) (cells entry : List ℕ) : Type 0 where
-  pub same : (exit : List ℕ) (k : ℕ) → WritesVenue n cells entry (Wrote k) exit → (rest : List ℕ) (bytes part : RefT (List ℕ)) (r : VenueRead) →
+  pub same : (exit : List ℕ) (k : ℕ) → WritesVenue n cells entry (Written.Wrote k) exit → (rest : List ℕ) (bytes part : RefT (List ℕ)) (r : VenueRead) →
       bytes .now ≡ take k exit ++ rest → ReadsVenue (bytes .now) r → GivesCells bytes part → SameVenue n cells bytes part r
-  pub in-place : (exit : List ℕ) (k : ℕ) → WritesVenue n cells entry (Wrote k) exit → (bytes part : RefT (List ℕ)) (r : VenueRead) →
+  pub in-place : (exit : List ℕ) (k : ℕ) → WritesVenue n cells entry (Written.Wrote k) exit → (bytes part : RefT (List ℕ)) (r : VenueRead) →
       bytes .now ≡ exit → ReadsVenue (bytes .now) r → GivesCells bytes part → SameVenue n cells bytes part r
 
 -- 5. What reading accepts, writing gives back: the record's own bytes, into room that is just enough.
 pub record WrittenBack (bytes part : RefT (List ℕ)) : Type 0 where
-  pub same : AllBytes (bytes .now) → (v : Venue) → ReadsVenue (bytes .now) (Read v) → GivesCells bytes part →
+  pub same : AllBytes (bytes .now) → (v : Venue) → ReadsVenue (bytes .now) (VenueRead.Read v) → GivesCells bytes part →
       (entry : List ℕ) → length entry ≡ 4 + announced (bytes .now) → (w : Written) (exit : List ℕ) → WritesVenue (v .counts) (part .now) entry w exit →
-      (w ≡ Wrote (4 + announced (bytes .now))) × (exit ≡ take (4 + announced (bytes .now)) (bytes .now))
+      (w ≡ Written.Wrote (4 + announced (bytes .now))) × (exit ≡ take (4 + announced (bytes .now)) (bytes .now))
 
 -- 6. Bytes after a record are not looked at: s is as long as its first four bytes say.
 pub record NotLookedAt (s rest : List ℕ) : Type 0 where
@@ -113,7 +113,7 @@ example-room = replicate 20 99
 -- a reader that refuses
 pub record Refuses (s : List ℕ) : Type 0 where
   pub reason : Refusal
-  pub answers : ReadsVenue s (NoVenue reason)
+  pub answers : ReadsVenue s (VenueRead.Refused reason)
 
 -- a writer that leaves the memory as it was
 pub record WritesNothing (n : Counts) (cells entry : List ℕ) : Type 0 where
@@ -126,7 +126,7 @@ minus-one-pair = 0 ∷ 0 ∷ 0 ∷ 13 ∷ 1 ∷ 0 ∷ 0 ∷ 0 ∷ 0 ∷ 0 ∷ 0 
 
 pub record ReadsUnsigned : Type 0 where
   pub ends : Pair
-  pub answers : ReadsPair minus-one-pair (ReadPair ends)
+  pub answers : ReadsPair minus-one-pair (PairRead.Read ends)
   pub unsigned : ends .q .x ≡ pos 65535
 
 -- another version read; the whole record, or nothing, given for the cells; a pair refused; a venue written into room of one byte short
@@ -134,9 +134,9 @@ abbrev pub version-2 : List ℕ
 version-2 = 0 ∷ 0 ∷ 0 ∷ 15 ∷ 2 ∷ 0 ∷ 4 ∷ 0 ∷ 2 ∷ 0 ∷ 1 ∷ example-cells
 
 pub record WrongRecords : Type 0 where
-  pub other-version : (v : Venue) → ReadsVenue version-2 (Read v) → ⊥
+  pub other-version : (v : Venue) → ReadsVenue version-2 (VenueRead.Read v) → ⊥
   pub whole-part : (bytes part : RefT (List ℕ)) → bytes .now ≡ example-venue → GivesCells bytes part → part .now ≡ example-venue → ⊥
   pub empty-part : (bytes part : RefT (List ℕ)) → bytes .now ≡ example-venue → GivesCells bytes part → part .now ≡ [] → ⊥
   pub part-elsewhere : (bytes part : RefT (List ℕ)) → bytes .now ≡ example-venue → GivesCells bytes part → part .ptr ≡ bytes .ptr → ⊥
-  pub pair-refuser : (r : Refusal) → ReadsPair example-pair (NoPair r) → ⊥
-  pub short-writer : (exit : List ℕ) → WritesVenue example-counts example-cells (replicate 18 99) (Wrote 19) exit → ⊥
+  pub pair-refuser : (r : Refusal) → ReadsPair example-pair (PairRead.Refused r) → ⊥
+  pub short-writer : (exit : List ℕ) → WritesVenue example-counts example-cells (replicate 18 99) (Written.Wrote 19) exit → ⊥

@@ -15,7 +15,7 @@ use Rattle.grids.specs.Marks.{complete}
 use Rattle.walks.specs.declared.Walker.the-variants.{Adaptive}
 use Rattle.walks.specs.declared.FirstHit.{FirstHit}
 use Rattle.walks.specs.Answers.{Finds}
-use Rattle.survey.specs.declared.Lookup.the-variants.{Cell, Refused as NoCell}
+use Rattle.survey.specs.declared.Lookup.the-variants as Lookup
 use Rattle.survey.specs.declared.Placement.{Placement}
 use Rattle.survey.specs.declared.Point.{Point}
 use Rattle.survey.specs.Survey.{placement-check, look-up}
@@ -34,14 +34,14 @@ module _ (n : Counts) (l : List ℕ) (at : Placement) where
   -- 2. Where both points have a cell, blocked or clear is what the adaptive first-hit call says of the two cells.
   pub record AsTheWalk (camera ball : Point) : Type 0 where
     pub same : (c b : cell.Cell) (r : Sight) (h : FirstHit) → shape n (length l) ≡ Fine → placement-check at ≡ Fine →
-        look-up P n at camera ≡ Cell c → look-up Q n at ball ≡ Cell b → Sees n l at camera ball r → Finds Adaptive n l c b h → r ≡ sight-of h
+        look-up P n at camera ≡ Lookup.Cell c → look-up Q n at ball ≡ Lookup.Cell b → Sees n l at camera ball r → Finds Adaptive n l c b h → r ≡ sight-of h
 
   -- camera and ball have cells, and no cell whose open inside the segment between their centres meets is solid
   pub record OpenWay (camera ball : Point) : Type 0 where
     pub from : cell.Cell
     pub to : cell.Cell
-    pub from-is : look-up P n at camera ≡ Cell from
-    pub to-is : look-up Q n at ball ≡ Cell to
+    pub from-is : look-up P n at camera ≡ Lookup.Cell from
+    pub to-is : look-up Q n at ball ≡ Lookup.Cell to
     pub free : (k d : ℕ) (c : cell.Cell) → Share k d → InOpen from to k d c → solid (byte-of n l c) ≡ false
 
   -- 3. Nothing in the way: marks complete and the sight clear.
@@ -50,9 +50,9 @@ module _ (n : Counts) (l : List ℕ) (at : Placement) where
 
   -- 4. Where the camera's point has no cell, its refusal is the answer; so the answer does not depend on the ball, whatever else is refused.
   pub record CameraFirst (camera : Point) : Type 0 where
-    pub refusal : (r : Refusal) → shape n (length l) ≡ Fine → placement-check at ≡ Fine → look-up P n at camera ≡ NoCell r → (ball : Point) (s : Sight) →
+    pub refusal : (r : Refusal) → shape n (length l) ≡ Fine → placement-check at ≡ Fine → look-up P n at camera ≡ Lookup.Refused r → (ball : Point) (s : Sight) →
         Sees n l at camera ball s → s ≡ Refused r
-    pub any-ball : (r : Refusal) → look-up P n at camera ≡ NoCell r → (ball other : Point) (s t : Sight) →
+    pub any-ball : (r : Refusal) → look-up P n at camera ≡ Lookup.Refused r → (ball other : Point) (s t : Sight) →
         Sees n l at camera ball s → Sees n l at camera other t → s ≡ t
 
 -- ---- wrong answers, on the program's venue with its marks: a camera and a ball in the middles of (0,0,0) and (3,1,0)

@@ -14,7 +14,7 @@ use Rattle.cells.specs.Checks.{by-verdict}
 use Rattle.cells.specs.Refusals.{Told, alone, at-end}
 use Rattle.lines.specs.Preference.{rule-1}
 use Rattle.lines.specs.Lines.{six-line, line-26}
-use Rattle.lists.specs.declared.Listed.the-variants.{Cells, Refused as NotListed}
+use Rattle.lists.specs.declared.Listed.the-variants as Listed
 use Rattle.lists.specs.Lists.{list-check, told-listed}
 use Rattle.grids.specs.Marks.{marked}
 use Rattle.records.specs.Venues.{venue-read, venue-cells, told-venue}
@@ -23,11 +23,12 @@ use Rattle.program.specs.Program.{output}
 use Rattle.walks.specs.declared.Walker.{Walker}
 use Rattle.walks.specs.declared.Walker.the-variants.{Plain, Adaptive}
 use Rattle.walks.specs.declared.Hit.{Hit}
-use Rattle.walks.specs.Answers.{first-hit, told-hit}
+use Rattle.walks.specs.Answers as said
+use Rattle.walks.specs.Answers.{first-hit, told-hit, WalkSaid}
 use Rattle.survey.specs.declared.Placement.{Placement}
 use Rattle.survey.specs.declared.Point.{Point}
 use Rattle.survey.specs.Quotient.{as-f64}
-use Rattle.sight.specs.Sight.{sight, told-sight}
+use Rattle.sight.specs.Sight.{sight, told-sight, blocked}
 use Rattle.claims.specs.Points.{metres, placement, point}
 use Rattle.claims.specs.Example.{counts, at, example-counts, example-cells, marked-cells}
 use Rattle.claims.specs.Records.{example-venue, example-pair, minus-one-pair}
@@ -38,11 +39,11 @@ abbrev pub at-minus : ℕ → ℕ → ℕ → Cell
 at-minus x y z = record { x = negℤ (pos x); y = pos y; z = pos z }
 
 -- what a walk answers: a hit at a cell, with its code, place and reads; or clear, with its reads
-abbrev pub hit : Cell → ℕ → ℕ → ℕ → ℕ → Told ⊎ (ℕ ⊎ Hit)
-hit c code num den reads = inr (inr (record { cell = c; code = code; place = record { num = num; den = den }; reads = reads }))
+abbrev pub hit : Cell → ℕ → ℕ → ℕ → ℕ → Told ⊎ WalkSaid
+hit c code num den reads = inr (said.hit (record { cell = c; code = code; place = record { num = num; den = den }; reads = reads }))
 
-abbrev pub clear : ℕ → Told ⊎ (ℕ ⊎ Hit)
-clear reads = inr (inl reads)
+abbrev pub clear : ℕ → Told ⊎ WalkSaid
+clear reads = inr (said.clear reads)
 
 -- k halves of a metre
 abbrev pub halves : ℕ → Float
@@ -56,7 +57,7 @@ pub data Row : Type 0 where
   twenty-six : Cell → Cell → List Cell → Row
   lists : Cell → Cell → ℕ → Told ⊎ ℕ → Row
   marks : Counts → List ℕ → List ℕ → Row
-  finds : Walker → Counts → List ℕ → Cell → Cell → Told ⊎ (ℕ ⊎ Hit) → Row
+  finds : Walker → Counts → List ℕ → Cell → Cell → Told ⊎ WalkSaid → Row
   venue : List ℕ → Counts → List ℕ → Row
   venue-part : List ℕ → List ℕ → Row
   pair : List ℕ → Cell → Cell → Row
@@ -67,13 +68,13 @@ pub data Row : Type 0 where
 abbrev pub Holds : Row → Type 0
 Holds (six p q l) = six-line rule-1 p q ≡ l
 Holds (twenty-six p q l) = line-26 p q ≡ l
-Holds (lists p q room says) = told-listed (by-verdict NotListed (Cells (length (six-line rule-1 p q))) (list-check p q (length (six-line rule-1 p q)) room)) ≡ says
+Holds (lists p q room says) = told-listed (by-verdict Listed.Refused (Listed.Cells (length (six-line rule-1 p q))) (list-check p q (length (six-line rule-1 p q)) room)) ≡ says
 Holds (marks n l m) = marked 3 n l ≡ m
 Holds (finds w n l p q says) = told-hit (first-hit w n l p q) ≡ says
 Holds (venue s n cells) = told-venue (venue-read s) ≡ inr (n, length s - length cells, length cells)
 Holds (venue-part s cells) = venue-cells s ≡ cells
 Holds (sees n l place camera ball share c code reads) =
-    told-sight (sight n l place camera ball) ≡ inr (inr (record { share = ofBits binary64 share; cell = c; code = code; reads = reads }))
+    told-sight (sight n l place camera ball) ≡ inr (blocked (record { share = ofBits binary64 share; cell = c; code = code; reads = reads }))
 Holds (pair s p q) = told-pair (pair-read s) ≡ inr (p, q)
 Holds (writes s out) = output s ≡ out
 

@@ -20,7 +20,7 @@ use Rattle.walks.specs.declared.Walker.{Walker}
 use Rattle.walks.specs.declared.Walker.the-variants.{Plain, Adaptive}
 use Rattle.walks.specs.declared.Hit.{Hit}
 use Rattle.walks.specs.declared.FirstHit.{FirstHit}
-use Rattle.walks.specs.declared.FirstHit.the-variants.{Clear, Hit as Blocked, Refused}
+use Rattle.walks.specs.declared.FirstHit.the-variants as FirstHit
 use Rattle.walks.specs.Walks.{hit-at, walk-of}
 use Rattle.grids.specs.Inside.{InGrid}
 use Rattle.walks.specs.Answers.{entered-at, last-of, Finds}
@@ -29,9 +29,9 @@ use Rattle.claims.specs.Example.{counts, at, example-counts, example-cel
 -- the first answer is the plain walk's, the second the adaptive one's: the same cell, code and place, or both clear, or both refuse alike; and the
 -- adaptive walk reads no more cells
 pub data SameStory : FirstHit → FirstHit → Type 0 where
-  hits : {h k : Hit} → h .cell ≡ k .cell → h .code ≡ k .code → h .place ≡ k .place → k .reads ≤ h .reads → SameStory (Blocked h) (Blocked k)
-  clears : {r s : ℕ} → s ≤ r → SameStory (Clear r) (Clear s)
-  refusals : {r : Refusal} → SameStory (Refused r) (Refused r)
+  hits : {h k : Hit} → h .cell ≡ k .cell → h .code ≡ k .code → h .place ≡ k .place → k .reads ≤ h .reads → SameStory (FirstHit.Hit h) (FirstHit.Hit k)
+  clears : {r s : ℕ} → s ≤ r → SameStory (FirstHit.Clear r) (FirstHit.Clear s)
+  refusals : {r : Refusal} → SameStory (FirstHit.Refused r) (FirstHit.Refused r)
 
 -- 1. Same story: where no clear cell touches a solid one by face, edge or corner.
 pub record OneStory (n : Counts) (l : List ℕ) (p q : Cell) : Type 0 where
@@ -48,17 +48,17 @@ pub record NoLater (p q c d : Cell) : Type 0 where
 
 -- 2. Never invented, never earlier: in any grid whatever, an adaptive hit is a plain hit, there or before.
 pub record NeverInvented (n : Counts) (l : List ℕ) (p q : Cell) : Type 0 where
-  pub plain-too : (k : Hit) (rp : FirstHit) → Finds Adaptive n l p q (Blocked k) → Finds Plain n l p q rp →
-      (h : Hit) × (rp ≡ Blocked h) × (h .place .num * k .place .den ≤ k .place .num * h .place .den) × NoLater p q (h .cell) (k .cell)
+  pub plain-too : (k : Hit) (rp : FirstHit) → Finds Adaptive n l p q (FirstHit.Hit k) → Finds Plain n l p q rp →
+      (h : Hit) × (rp ≡ FirstHit.Hit h) × (h .place .num * k .place .den ≤ k .place .num * h .place .den) × NoLater p q (h .cell) (k .cell)
 
 -- 3. Nothing in the way: marks complete and the adaptive answer clear, then no cell whose open inside the segment meets is solid.
 pub record NothingInTheWay (n : Counts) (l : List ℕ) (p q : Cell) : Type 0 where
-  pub open-way : complete 3 n l ≡ true → (reads : ℕ) → Finds Adaptive n l p q (Clear reads) → (k d : ℕ) (c : Cell) → Share k d → InOpen p q k d c → solid (byte-of n l c) ≡ false
+  pub open-way : complete 3 n l ≡ true → (reads : ℕ) → Finds Adaptive n l p q (FirstHit.Clear reads) → (k d : ℕ) (c : Cell) → Share k d → InOpen p q k d c → solid (byte-of n l c) ≡ false
 
 -- 4. With no hit plain reads A+B+C+1 cells, and adaptive between M+1 and A+B+C+1.
 pub record Reads (n : Counts) (l : List ℕ) (p q : Cell) : Type 0 where
-  pub plain : (reads : ℕ) → Finds Plain n l p q (Clear reads) → reads ≡ total (differences p q) + 1
-  pub adaptive : (reads : ℕ) → Finds Adaptive n l p q (Clear reads) → (longest (differences p q) + 1 ≤ reads) × (reads ≤ total (differences p q) + 1)
+  pub plain : (reads : ℕ) → Finds Plain n l p q (FirstHit.Clear reads) → reads ≡ total (differences p q) + 1
+  pub adaptive : (reads : ℕ) → Finds Adaptive n l p q (FirstHit.Clear reads) → (longest (differences p q) + 1 ≤ reads) × (reads ≤ total (differences p q) + 1)
 
 -- 5. "The plain walk is the 6-line to its first solid cell": cell number s of the 6-line is solid and none before it; or none is at all.
 pub record FirstOf (n : Counts) (l : List ℕ) (p q : Cell) (h : Hit) (s : ℕ) : Type 0 where
@@ -69,13 +69,13 @@ pub record FirstOf (n : Counts) (l : List ℕ) (p q : Cell) (h : Hit) (s : ℕ) 
   pub reads : h .reads ≡ s + 1
 
 pub record FirstSolid (n : Counts) (l : List ℕ) (p q : Cell) : Type 0 where
-  pub hit : (h : Hit) → Finds Plain n l p q (Blocked h) → (s : ℕ) × FirstOf n l p q h s
-  pub none : (reads : ℕ) → Finds Plain n l p q (Clear reads) → (s : ℕ) → s ≤ total (differences p q) → hit-at n l (six-cell rule-1 p q s) ≡ false
+  pub hit : (h : Hit) → Finds Plain n l p q (FirstHit.Hit h) → (s : ℕ) × FirstOf n l p q h s
+  pub none : (reads : ℕ) → Finds Plain n l p q (FirstHit.Clear reads) → (s : ℕ) → s ≤ total (differences p q) → hit-at n l (six-cell rule-1 p q s) ≡ false
 
 -- 6. A hit lies in the grid. It is a solid cell of the 6-line, with the cell's byte as its code, and its place is that of the crossing by which
 -- the 6-line enters this cell, also where a long step reached it.
 pub record HitInside (n : Counts) (l : List ℕ) (p q : Cell) : Type 0 where
-  pub inside : (w : Walker) (h : Hit) → Finds w n l p q (Blocked h) → InGrid n (h .cell)
+  pub inside : (w : Walker) (h : Hit) → Finds w n l p q (FirstHit.Hit h) → InGrid n (h .cell)
 
 pub record OnTheLine (n : Counts) (l : List ℕ) (p q : Cell) (h : Hit) (s : ℕ) : Type 0 where
   pub most : s ≤ total (differences p q)
@@ -85,7 +85,7 @@ pub record OnTheLine (n : Counts) (l : List ℕ) (p q : Cell) (h : Hit) (s : ℕ
   pub place : h .place ≡ entered-at p q s
 
 pub record HitPlace (n : Counts) (l : List ℕ) (p q : Cell) : Type 0 where
-  pub there : (w : Walker) (h : Hit) → Finds w n l p q (Blocked h) → (s : ℕ) × OnTheLine n l p q h s
+  pub there : (w : Walker) (h : Hit) → Finds w n l p q (FirstHit.Hit h) → (s : ℕ) × OnTheLine n l p q h s
 
 -- 7. Each walk ends: its last cell is solid, or Q. (The number of steps that bounds its definition is never used up.)
 pub record WalksEnd (n : Counts) (l : List ℕ) (p q : Cell) : Type 0 where
@@ -118,12 +118,12 @@ abbrev pub first-face : Hit
 first-face = record { cell = at 2 1 0; code = 2; place = record { num = 1; den = 4 }; reads = 3 }
 
 pub record WrongWalks : Type 0 where
-  pub plain-refuses : (r : Refusal) → Finds Plain example-counts example-cells (at 0 0 0) (at 3 1 0) (Refused r) → ⊥
-  pub adaptive-refuses : (r : Refusal) → Finds Adaptive example-counts example-cells (at 0 0 0) (at 3 1 0) (Refused r) → ⊥
+  pub plain-refuses : (r : Refusal) → Finds Plain example-counts example-cells (at 0 0 0) (at 3 1 0) (FirstHit.Refused r) → ⊥
+  pub adaptive-refuses : (r : Refusal) → Finds Adaptive example-counts example-cells (at 0 0 0) (at 3 1 0) (FirstHit.Refused r) → ⊥
   pub secretly-plain : (r : FirstHit) → Finds Plain example-counts example-cells (at 0 0 0) (at 3 1 0) r → Finds Adaptive example-counts example-cells (at 0 0 0) (at 3 1 0) r → ⊥
-  pub plain-in-reads : Finds Adaptive (counts 3 2 1) all-clear (at 0 0 0) (at 2 1 0) (Clear 4) → ⊥
-  pub plain-always-clear : (reads : ℕ) → Finds Plain example-counts example-cells (at 0 0 0) (at 3 1 0) (Clear reads) → ⊥
-  pub adaptive-always-clear : (reads : ℕ) → Finds Adaptive example-counts marked-cells (at 0 0 0) (at 3 1 0) (Clear reads) → ⊥
-  pub reads-made-up : (reads : ℕ) → Finds Adaptive example-counts example-cells (at 0 0 0) (at 3 1 0) (Clear reads) → reads ≡ 4
-  pub long-at-any-clear : Finds Adaptive (counts 3 2 1) near-bytes (at 0 0 0) (at 2 1 0) (Clear 3) → ⊥
-  pub place-of-first-face : Finds Adaptive (counts 6 3 1) long-bytes (at 0 0 0) (at 5 2 0) (Blocked first-face) → ⊥
+  pub plain-in-reads : Finds Adaptive (counts 3 2 1) all-clear (at 0 0 0) (at 2 1 0) (FirstHit.Clear 4) → ⊥
+  pub plain-always-clear : (reads : ℕ) → Finds Plain example-counts example-cells (at 0 0 0) (at 3 1 0) (FirstHit.Clear reads) → ⊥
+  pub adaptive-always-clear : (reads : ℕ) → Finds Adaptive example-counts marked-cells (at 0 0 0) (at 3 1 0) (FirstHit.Clear reads) → ⊥
+  pub reads-made-up : (reads : ℕ) → Finds Adaptive example-counts example-cells (at 0 0 0) (at 3 1 0) (FirstHit.Clear reads) → reads ≡ 4
+  pub long-at-any-clear : Finds Adaptive (counts 3 2 1) near-bytes (at 0 0 0) (at 2 1 0) (FirstHit.Clear 3) → ⊥
+  pub place-of-first-face : Finds Adaptive (counts 6 3 1) long-bytes (at 0 0 0) (at 5 2 0) (FirstHit.Hit first-face) → ⊥

@@ -9,13 +9,13 @@ use lib.ListN.{length}
 use denote.Ref.{RefT}
 use Rattle.buffers.specs.Numbers.{AllBytes}
 use Rattle.cells.specs.declared.Refusal.the-variants.{Bytes, Room}
-use Rattle.cells.specs.declared.Verdict.the-variants.{Fine, Refused as Fails}
+use Rattle.cells.specs.declared.Verdict.the-variants as Verdict
 use Rattle.lines.specs.Steps.{Steps}
 use Rattle.lines.specs.Crossings.{InOrder, LastMade, next, place}
 use Rattle.lines.specs.Preference.{rule-1}
 use Rattle.lines.specs.Lines.{differences, centres, InLimit}
 use Rattle.lines.specs.Segment.{Share, InOpen}
-use Rattle.lists.specs.declared.Listed.the-variants.{Cells, Refused as NotListed}
+use Rattle.lists.specs.declared.Listed.the-variants as Listed
 use Rattle.lists.specs.Lists.{numbers, Line6}
 use Rattle.grids.specs.declared.Completeness.the-variants.{Yes, No}
 use Rattle.grids.specs.declared.LayerPart.the-variants.{Part}
@@ -23,14 +23,14 @@ use Rattle.grids.specs.Grid.{Shapes, GivesLayerPart, GivesLayer}
 use Rattle.grids.specs.Marks.{complete, Marks, Completes}
 use Rattle.walks.specs.declared.Walker.the-variants.{Plain, Adaptive}
 use Rattle.walks.specs.declared.Hit.{Hit}
-use Rattle.walks.specs.declared.FirstHit.the-variants.{Clear, Hit as Blocked}
+use Rattle.walks.specs.declared.FirstHit.the-variants as FirstHit
 use Rattle.walks.specs.Answers.{Finds}
 use Rattle.survey.specs.declared.Lookup.the-variants.{Cell}
 use Rattle.survey.specs.Survey.{Tested, quotients, LooksUp}
-use Rattle.sight.specs.declared.Sight.the-variants.{Clear as Open}
+use Rattle.sight.specs.declared.Sight.the-variants as Sight
 use Rattle.sight.specs.Sight.{Sees}
 use Rattle.records.specs.declared.venues.VenueRead.the-variants.{Read}
-use Rattle.records.specs.declared.pairs.PairRead.the-variants.{Read as ReadPair}
+use Rattle.records.specs.declared.pairs.PairRead.the-variants as PairRead
 use Rattle.records.specs.declared.writing.Written.the-variants.{Wrote}
 use Rattle.records.specs.Heads.{announced}
 use Rattle.records.specs.Venues.{ReadsVenue, GivesCells}
@@ -55,28 +55,28 @@ pub record OfLines : Type 0 where
   pub in-order : InOrder (centres rule-1 steps-there) (place (centres rule-1 steps-there) 2)
   pub last-made : LastMade (centres rule-1 steps-there) (place (centres rule-1 steps-there) 2) (next (centres rule-1 steps-there) (place (centres rule-1 steps-there) 1))
   -- a list that is written, and one that is refused
-  pub listed : Line6 (at 0 0 0) (at 2 1 0) room (Cells 4) (numbers (at 0 0 0 ∷ at 1 0 0 ∷ at 1 1 0 ∷ at 2 1 0 ∷ []) ++ pos 7 ∷ [])
-  pub no-room : Line6 (at 0 0 0) (at 2 1 0) [] (NotListed Room) []
+  pub listed : Line6 (at 0 0 0) (at 2 1 0) room (Listed.Cells 4) (numbers (at 0 0 0 ∷ at 1 0 0 ∷ at 1 1 0 ∷ at 2 1 0 ∷ []) ++ pos 7 ∷ [])
+  pub no-room : Line6 (at 0 0 0) (at 2 1 0) [] (Listed.Refused Room) []
 
 -- the hit of both walks in the program's venue, marked
 abbrev pub the-hit : Hit
 the-hit = record { cell = at 1 1 0; code = 2; place = record { num = 1; den = 2 }; reads = 3 }
 
 pub record OfGrids : Type 0 where
-  pub shaped : Shapes example-counts 8 Fine
-  pub one-short : Shapes example-counts 7 (Fails Bytes)
-  pub marked-there : Marks example-counts example-cells Fine marked-cells
+  pub shaped : Shapes example-counts 8 Verdict.Fine
+  pub one-short : Shapes example-counts 7 (Verdict.Refused Bytes)
+  pub marked-there : Marks example-counts example-cells Verdict.Fine marked-cells
   pub complete-marks : complete 3 example-counts marked-cells ≡ true
   pub says-yes : Completes example-counts marked-cells Yes
   pub says-no : Completes example-counts example-cells No
   pub part : GivesLayerPart example-counts 8 (pos 0) (Part 0 8)
   pub layer : (cells : RefT (List ℕ)) → cells .now ≡ example-cells → GivesLayer example-counts cells (pos 0) cells
   -- walks: a hit of each, and a clear one, with complete marks
-  pub plain-hits : Finds Plain example-counts marked-cells (at 0 0 0) (at 3 1 0) (Blocked the-hit)
-  pub adaptive-hits : Finds Adaptive example-counts marked-cells (at 0 0 0) (at 3 1 0) (Blocked the-hit)
+  pub plain-hits : Finds Plain example-counts marked-cells (at 0 0 0) (at 3 1 0) (FirstHit.Hit the-hit)
+  pub adaptive-hits : Finds Adaptive example-counts marked-cells (at 0 0 0) (at 3 1 0) (FirstHit.Hit the-hit)
   pub clear-marks : complete 3 (counts 3 2 1) all-clear ≡ true
-  pub plain-clear : Finds Plain (counts 3 2 1) all-clear (at 0 0 0) (at 2 1 0) (Clear 4)
-  pub adaptive-clear : Finds Adaptive (counts 3 2 1) all-clear (at 0 0 0) (at 2 1 0) (Clear 3)
+  pub plain-clear : Finds Plain (counts 3 2 1) all-clear (at 0 0 0) (at 2 1 0) (FirstHit.Clear 4)
+  pub adaptive-clear : Finds Adaptive (counts 3 2 1) all-clear (at 0 0 0) (at 2 1 0) (FirstHit.Clear 3)
 
 pub record OfPoints : Type 0 where
   pub tested : Tested (cube 4) (placement (metres 0) (metres 1))
@@ -84,12 +84,12 @@ pub record OfPoints : Type 0 where
   pub in-its-cell : InItsCell (cube 4) (quotients (placement (metres 0) (metres 1)) (point (tenths 15) (metres 0) (tenths 39))) (at 1 0 3)
   pub looked-up : LooksUp (cube 4) (placement (metres 0) (metres 1)) (point (tenths 15) (metres 0) (tenths 39)) (Cell (at 1 0 3))
   -- a clear sight over complete marks
-  pub seen : Sees (counts 3 2 1) all-clear (placement (metres 0) (metres 1)) (point (halves 1) (halves 1) (halves 1)) (point (halves 5) (halves 3) (halves 1)) Open
+  pub seen : Sees (counts 3 2 1) all-clear (placement (metres 0) (metres 1)) (point (halves 1) (halves 1) (halves 1)) (point (halves 5) (halves 3) (halves 1)) Sight.Clear
 
 pub record OfRecords : Type 0 where
   pub bytes : AllBytes example-venue
   pub exact : length example-venue ≡ 4 + announced example-venue
   pub venue : ReadsVenue example-venue (Read (record { counts = example-counts; start = 11; long = 8 }))
-  pub pair : ReadsPair example-pair (ReadPair (record { p = at 0 0 0; q = at 3 1 0 }))
+  pub pair : ReadsPair example-pair (PairRead.Read (record { p = at 0 0 0; q = at 3 1 0 }))
   pub cells : (bytes : RefT (List ℕ)) → bytes .now ≡ example-venue → (part : RefT (List ℕ)) × GivesCells bytes part
   pub written : WritesVenue example-counts example-cells example-room (Wrote 19) (example-venue ++ 99 ∷ [])

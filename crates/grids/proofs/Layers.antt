@@ -17,7 +17,7 @@ use Rattle.cells.specs.declared.Refusal.{Refusal}
 use Rattle.cells.specs.declared.Refusal.the-variants.{Layer}
 use Rattle.cells.specs.declared.Verdict.the-variants.{Fine}
 use Rattle.grids.specs.declared.LayerPart.{LayerPart}
-use Rattle.grids.specs.declared.LayerPart.the-variants.{Part, Refused as NoPart}
+use Rattle.grids.specs.declared.LayerPart.the-variants as LayerPart
 use Rattle.grids.specs.Grid.{shape, bad-layer, layer-check, layer-start, layer-length, layer-part, layer}
 use Rattle.grids.specs.Inside.{Shaped}
 use Rattle.grids.proofs.Shapes.{shaped}
@@ -63,16 +63,16 @@ pub record Named (n : Counts) (bytes start long : ℕ) : Type 0 where
   pub within : start + long ≤ bytes
   pub some : 1 ≤ long
 
-pub part-named : (n : Counts) (bytes : ℕ) (z : ℤ) (start long : ℕ) → layer-part n bytes z ≡ Part start long → Named n bytes start long
+pub part-named : (n : Counts) (bytes : ℕ) (z : ℤ) (start long : ℕ) → layer-part n bytes z ≡ LayerPart.Part start long → Named n bytes start long
 unfolding layer-part
 part-named n bytes z start long e =
-    let (f, same) = by-fine NoPart (layer-check n bytes z) (Part (layer-start n z) (layer-length n)) (λ r no. let z : _≡_ {A = ℕ} 0 1 = cc no in omega arith) e in
+    let (f, same) = by-fine LayerPart.Refused (layer-check n bytes z) (LayerPart.Part (layer-start n z) (layer-length n)) (λ r no. let z : _≡_ {A = ℕ} 0 1 = cc no in omega arith) e in
     let a : layer-start n z ≡ start = cc same in
     let b : layer-length n ≡ long = cc same in
     record { within = omega (arith, layer-within n bytes z f); some = omega (arith, layer-shape n bytes z f .layer-some) }
 
 -- the layer has as many bytes as the partner says
-pub layer-long : (n : Counts) (l : List ℕ) (z : ℤ) (start long : ℕ) → layer-part n (length l) z ≡ Part start long → length (layer n l z) ≡ long
+pub layer-long : (n : Counts) (l : List ℕ) (z : ℤ) (start long : ℕ) → layer-part n (length l) z ≡ LayerPart.Part start long → length (layer n l z) ≡ long
 unfolding layer
 layer-long n l z start long e =
     let w = part-named n (length l) z start long e .within in
@@ -80,23 +80,23 @@ layer-long n l z start long e =
 
 -- and they are the caller's, from where the partner says
 pub layer-own :
-    (n : Counts) (l : List ℕ) (z : ℤ) (start long : ℕ) → layer-part n (length l) z ≡ Part start long → (i : ℕ) → i < long →
+    (n : Counts) (l : List ℕ) (z : ℤ) (start long : ℕ) → layer-part n (length l) z ≡ LayerPart.Part start long → (i : ℕ) → i < long →
     getD (layer n l z) i 0 ≡ getD l (start + i) 0
 unfolding layer
 layer-own n l z start long e i h = rw (e, getD-take long (drop start l) i 0 h, getD-drop start l i 0)
 
-refused-empty : (n : Counts) (l : List ℕ) (z : ℤ) (r : Refusal) → layer-part n (length l) z ≡ NoPart r → layer n l z ≡ []
+refused-empty : (n : Counts) (l : List ℕ) (z : ℤ) (r : Refusal) → layer-part n (length l) z ≡ LayerPart.Refused r → layer n l z ≡ []
 unfolding layer
 refused-empty n l z r f = rw f
 
 -- it is empty exactly when the partner refuses
-pub layer-empty : (n : Counts) (l : List ℕ) (z : ℤ) → (layer n l z ≡ []) ↔ ((r : Refusal) × (layer-part n (length l) z ≡ NoPart r))
+pub layer-empty : (n : Counts) (l : List ℕ) (z : ℤ) → (layer n l z ≡ []) ↔ ((r : Refusal) × (layer-part n (length l) z ≡ LayerPart.Refused r))
 layer-empty n l z = (λ e. why (layer-part n (length l) z) refl e, none)
   where
-    why : (p : LayerPart) → layer-part n (length l) z ≡ p → layer n l z ≡ [] → (r : Refusal) × (layer-part n (length l) z ≡ NoPart r)
-    why (Part start long) f e =
+    why : (p : LayerPart) → layer-part n (length l) z ≡ p → layer n l z ≡ [] → (r : Refusal) × (layer-part n (length l) z ≡ LayerPart.Refused r)
+    why (LayerPart.Part start long) f e =
         absurd (omega (arith, part-named n (length l) z start long f .some, layer-long n l z start long f, ap length e))
-    why (NoPart r) f e = (r, f)
+    why (LayerPart.Refused r) f e = (r, f)
 
-    none : (r : Refusal) × (layer-part n (length l) z ≡ NoPart r) → layer n l z ≡ []
+    none : (r : Refusal) × (layer-part n (length l) z ≡ LayerPart.Refused r) → layer n l z ≡ []
     none (r, f) = refused-empty n l z r f

@@ -18,7 +18,7 @@ use denote.Ref.{RefT}
 use Rattle.cells.specs.Parts.{StartsAt}
 use Rattle.cells.specs.Refusals.{Told, told}
 use Rattle.grids.specs.declared.LayerPart.{LayerPart}
-use Rattle.grids.specs.declared.LayerPart.the-variants.{Part, Refused as NoPart}
+use Rattle.grids.specs.declared.LayerPart.the-variants as LayerPart
 
 -- "Counts nx, ny, nz, each 1 to 1,024"
 abbrev pub bad-count : ℕ → Bool
@@ -89,17 +89,17 @@ layer-start n z = natAbs z * layer-length n
 -- the partner's answer: the part's offset and length, or the refusal
 unfoldable pub layer-part : Counts → ℕ → ℤ → LayerPart
 unfolding layer-check
-layer-part n bytes z = by-verdict NoPart (Part (layer-start n z) (layer-length n)) (layer-check n bytes z)
+layer-part n bytes z = by-verdict LayerPart.Refused (LayerPart.Part (layer-start n z) (layer-length n)) (layer-check n bytes z)
 
 -- each case of the answer: what is said of a refusal, or the part's offset and length
 abbrev pub told-part : LayerPart → Told ⊎ (ℕ × ℕ)
-told-part (NoPart r) = inl (told r)
-told-part (Part start long) = inr (start, long)
+told-part (LayerPart.Refused r) = inl (told r)
+told-part (LayerPart.Part start long) = inr (start, long)
 
 -- the layer itself: the caller's own nx·ny bytes from z·nx·ny on, or the empty part
 abbrev pub bytes-of : LayerPart → List ℕ → List ℕ
-bytes-of (Part start long) l = take long (drop start l)
-bytes-of (NoPart r) l = []
+bytes-of (LayerPart.Part start long) l = take long (drop start l)
+bytes-of (LayerPart.Refused r) l = []
 
 unfoldable pub layer : Counts → List ℕ → ℤ → List ℕ
 unfolding layer-part
@@ -107,8 +107,8 @@ layer n l z = bytes-of (layer-part n (length l) z) l
 
 -- where it starts in the slice; the empty part stands at the slice's start
 abbrev pub start-of : LayerPart → ℕ
-start-of (Part start long) = start
-start-of (NoPart r) = 0
+start-of (LayerPart.Part start long) = start
+start-of (LayerPart.Refused r) = 0
 
 -- the contracts of the two calls: the partner's answer; the bytes, and where they lie
 pub record GivesLayerPart (n : Counts) (bytes : ℕ) (z : ℤ) (r : LayerPart) : Type 0 where

@@ -14,7 +14,7 @@ use Rattle.cells.specs.Refusals.{Told, told}
 use Rattle.cells.specs.Tabulate.{tabulate}
 use Rattle.cells.specs.Touching.{touching}
 use Rattle.grids.specs.declared.Completeness.{Completeness}
-use Rattle.grids.specs.declared.Completeness.the-variants.{Yes, No, Refused as NotAsked}
+use Rattle.grids.specs.declared.Completeness.the-variants as Completeness
 use Rattle.grids.specs.Grid.{shape, cell-at, clear, solid}
 
 -- some number below n passes
@@ -43,18 +43,18 @@ complete k n l = not (any (λ i. clear (getD l i 0) && touches-solid k n l (cell
 
 -- the answer of the completeness call
 abbrev pub yes-or-no : Bool → Completeness
-yes-or-no true = Yes
-yes-or-no false = No
+yes-or-no true = Completeness.Yes
+yes-or-no false = Completeness.No
 
 unfoldable pub completeness : Counts → List ℕ → Completeness
 unfolding shape
-completeness n l = by-verdict NotAsked (yes-or-no (complete 3 n l)) (shape n (length l))
+completeness n l = by-verdict Completeness.Refused (yes-or-no (complete 3 n l)) (shape n (length l))
 
 -- each case of the answer: what is said of a refusal, or whether the marks are complete
 abbrev pub told-completeness : Completeness → Told ⊎ Bool
-told-completeness (NotAsked r) = inl (told r)
-told-completeness Yes = inr true
-told-completeness No = inr false
+told-completeness (Completeness.Refused r) = inl (told r)
+told-completeness Completeness.Yes = inr true
+told-completeness Completeness.No = inr false
 
 -- ---- the contracts of the calls: of marking, one answer and one final memory; refused, the bytes as they were
 

@@ -11,7 +11,7 @@ use Rattle.cells.specs.declared.Verdict.the-variants.{Fine, Refused}
 use Rattle.cells.specs.Checks.{by-verdict}
 use Rattle.walks.specs.declared.Walker.{Walker}
 use Rattle.walks.specs.declared.FirstHit.{FirstHit}
-use Rattle.walks.specs.declared.FirstHit.the-variants.{Refused as NotWalked}
+use Rattle.walks.specs.declared.FirstHit.the-variants as FirstHit
 use Rattle.grids.specs.Inside.{walk-check}
 use Rattle.walks.specs.Answers.{Finds}
 use Rattle.walks.specs.Numbers.{end-of, reads-of, answer-at}
@@ -34,13 +34,13 @@ module _ (w : Walker) (l : List ℕ) (k : Route) (plan : Planned (length l) k) (
   stop-found is = is ∙ stop-answers _ k plan l _ _ _ (end-below (k .n) l (k .p) (k .q) w) stops
 
 module _ (w : Walker) (n : Counts) (l : List ℕ) (p q : Cell) where
-  pub refused-finds : {r : Refusal} → walk-check n (length l) p q ≡ Refused r → Finds w n l p q (NotWalked r)
-  refused-finds h = record { says = ap (by-verdict NotWalked _) (sym h) ∙ sym (first-hit-is n l p q w) }
+  pub refused-finds : {r : Refusal} → walk-check n (length l) p q ≡ Refused r → Finds w n l p q (FirstHit.Refused r)
+  refused-finds h = record { says = ap (by-verdict FirstHit.Refused _) (sym h) ∙ sym (first-hit-is n l p q w) }
 
   pub found-finds : (k : Route) → walk-check n (length l) p q ≡ Fine → RouteOf n p q k → {a : FirstHit} → a ≡ found l k w → Finds w n l p q a
   found-finds k fine route is =
       record {
         says =
             is ∙ of-route _ _ _ _ route (λ m c d. answer-at m l c d (end-of m l c d w) (reads-of m l c d w))
-            ∙ ap (by-verdict NotWalked _) (sym fine) ∙ sym (first-hit-is n l p q w);
+            ∙ ap (by-verdict FirstHit.Refused _) (sym fine) ∙ sym (first-hit-is n l p q w);
       }

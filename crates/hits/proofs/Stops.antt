@@ -15,7 +15,7 @@ use Rattle.lines.proofs.Cells.{six-is, cell-on}
 use Rattle.lines.proofs.Towards.{towards-start, towards-apart}
 use Rattle.tripod.specs.Tripod.{steps}
 use Rattle.grids.specs.Grid.{cell-at, byte-of, solid, index, byte-index}
-use Rattle.walks.specs.declared.FirstHit.the-variants.{Clear, Hit as Blocked}
+use Rattle.walks.specs.declared.FirstHit.the-variants as FirstHit
 use Rattle.walks.specs.Answers.{entered-at}
 use Rattle.walks.proofs.Inside.{six-inside}
 use Rattle.walks.specs.Numbers.{answer-at}
@@ -45,8 +45,8 @@ module _ (bytes : ℕ) (k : Route) (plan : Planned bytes k) (l : List ℕ) where
   pub stop-answers : (e many : ℕ) (r : Stop) → e ≤ total D → Stopped k e many r → answer-from l k r ≡ answer-at (k .n) l (k .p) (k .q) e many
   unfolding answer-from
   stop-answers e many r le h =
-      ap₂ (λ c b. cond (solid b) (Blocked (record { cell = c; code = b; place = entered (steps (k .d)) (differences (k .p) c); reads = r .reads })) (Clear (r .reads))) cell byte
-      ∙ ap₂ (λ a m. cond (solid (byte-of (k .n) l f)) (Blocked (record { cell = f; code = byte-of (k .n) l f; place = a; reads = m })) (Clear m)) entering (h .reads)
+      ap₂ (λ c b. cond (solid b) (FirstHit.Hit (record { cell = c; code = b; place = entered (steps (k .d)) (differences (k .p) c); reads = r .reads })) (FirstHit.Clear (r .reads))) cell byte
+      ∙ ap₂ (λ a m. cond (solid (byte-of (k .n) l f)) (FirstHit.Hit (record { cell = f; code = byte-of (k .n) l f; place = a; reads = m })) (FirstHit.Clear m)) entering (h .reads)
     where
       f : Cell
       f = six-cell rule-1 (k .p) (k .q) e

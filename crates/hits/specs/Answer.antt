@@ -9,7 +9,7 @@ use Rattle.lines.specs.Lines.{differences}
 use Rattle.tripod.specs.Tripod.{steps}
 use Rattle.grids.specs.Grid.{cell-at, solid}
 use Rattle.walks.specs.declared.FirstHit.{FirstHit}
-use Rattle.walks.specs.declared.FirstHit.the-variants.{Clear, Hit as Blocked}
+use Rattle.walks.specs.declared.FirstHit.the-variants as FirstHit
 use Rattle.routes.specs.declared.Route.{Route}
 use Rattle.hits.specs.declared.Stop.{Stop}
 use Rattle.routes.specs.Route.{byte-of-spot}
@@ -21,5 +21,5 @@ unfolding entered
 answer-from l k r =
     let c : Cell = cell-at (k .n) (natAbs (r .spot .at)) in
     cond (solid (byte-of-spot l (r .spot)))
-    (Blocked (record { cell = c; code = byte-of-spot l (r .spot); place = entered (steps (k .d)) (differences (k .p) c); reads = r .reads }))
-    (Clear (r .reads))
+    (FirstHit.Hit (record { cell = c; code = byte-of-spot l (r .spot); place = entered (steps (k .d)) (differences (k .p) c); reads = r .reads }))
+    (FirstHit.Clear (r .reads))

@@ -25,7 +25,7 @@ use Rattle.cells.specs.declared.Verdict.the-variants.{Fine, Refused}
 use Rattle.lines.specs.Lines.{in-limit, InLimit}
 use Rattle.cells.specs.Tabulate.{tabulate}
 use Rattle.cells.proofs.Tabulate.{tabulate-length}
-use Rattle.lists.specs.declared.Listed.the-variants.{Cells, Refused as NotListed}
+use Rattle.lists.specs.declared.Listed.the-variants as Listed
 use Rattle.lists.specs.Lists.{end-check, ends-check, numbers, filled, Lists}
 use Rattle.lists.specs.Way.{put3}
 
@@ -66,13 +66,13 @@ front-filled f n entry = ap (λ k. numbers (tabulate f n) ++ drop (3 * k) entry)
 -- ---- the ways out
 
 module _ (line : List Cell) (p q : Cell) (entry : List ℤ) where
-  pub refused-ends : (r : Refusal) → ends-check p q ≡ Refused r → Lists line p q entry (NotListed r) entry
+  pub refused-ends : (r : Refusal) → ends-check p q ≡ Refused r → Lists line p q entry (Listed.Refused r) entry
   refused-ends r h = record { says = sym (simp h); holds = sym (simp h) }
 
-  pub refused-room : ends-check p q ≡ Fine → length entry < 3 * length line → Lists line p q entry (NotListed Room) entry
+  pub refused-room : ends-check p q ≡ Fine → length entry < 3 * length line → Lists line p q entry (Listed.Refused Room) entry
   refused-room h short = record { says = sym (simp (h, lt-ltb (length entry) (3 * length line) short)); holds = sym (simp (h, lt-ltb (length entry) (3 * length line) short)) }
 
-  pub listed-all : (exit : List ℤ) → ends-check p q ≡ Fine → 3 * length line ≤ length entry → exit ≡ filled line entry → Lists line p q entry (Cells (length line)) exit
+  pub listed-all : (exit : List ℤ) → ends-check p q ≡ Fine → 3 * length line ≤ length entry → exit ≡ filled line entry → Lists line p q entry (Listed.Cells (length line)) exit
   listed-all exit h room e =
       record { says = sym (simp (h, le-ltb (length entry) (3 * length line) room)); holds = e ∙ sym (simp (h, le-ltb (length entry) (3 * length line) room)) }
 

@@ -19,7 +19,7 @@ use Rattle.cells.specs.Refusals.{Told, told}
 use Rattle.lines.specs.Preference.{rule-1}
 use Rattle.lines.specs.Lines.{six-line, line-26, in-limit}
 use Rattle.lists.specs.declared.Listed.{Listed}
-use Rattle.lists.specs.declared.Listed.the-variants.{Cells, Refused as NotListed}
+use Rattle.lists.specs.declared.Listed.the-variants as Listed
 
 -- "a line end outside -8,192 to 8,191; says which end and which axis"
 abbrev pub end-check : End → Cell → Verdict
@@ -46,7 +46,7 @@ filled line entry = numbers line ++ drop (3 * length line) entry
 
 -- a call that lists a line: its answer and the memory at exit, from its inputs; refused, the memory as it was
 pub record Lists (line : List Cell) (p q : Cell) (entry : List ℤ) (r : Listed) (exit : List ℤ) : Type 0 where
-  pub says : r ≡ by-verdict NotListed (Cells (length line)) (list-check p q (length line) (length entry))
+  pub says : r ≡ by-verdict Listed.Refused (Listed.Cells (length line)) (list-check p q (length line) (length entry))
   pub holds : exit ≡ by-verdict (λ r. entry) (filled line entry) (list-check p q (length line) (length entry))
 
 -- the contracts of the two calls
@@ -58,5 +58,5 @@ Line26 p q = Lists (line-26 p q) p q
 
 -- each case of the answer: what is said of a refusal, or the number of cells
 abbrev pub told-listed : Listed → Told ⊎ ℕ
-told-listed (NotListed r) = inl (told r)
-told-listed (Cells n) = inr n
+told-listed (Listed.Refused r) = inl (told r)
+told-listed (Listed.Cells n) = inr n

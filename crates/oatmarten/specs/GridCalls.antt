@@ -4,11 +4,11 @@ use mathlib.Core.List.{List}
 use lib.IntN.{ℤ}
 use Rattle.cells.specs.declared.Counts.{Counts}
 use Rattle.cells.specs.declared.Verdict.{Verdict}
-use Rattle.cells.specs.declared.Verdict.the-variants.{Fine, Refused as Fails}
+use Rattle.cells.specs.declared.Verdict.the-variants as Verdict
 use Rattle.grids.specs.declared.LayerPart.{LayerPart}
-use Rattle.grids.specs.declared.LayerPart.the-variants.{Part as LayerAt, Refused as NoPart}
+use Rattle.grids.specs.declared.LayerPart.the-variants as LayerPart
 use Rattle.grids.specs.declared.Completeness.{Completeness}
-use Rattle.grids.specs.declared.Completeness.the-variants.{Yes, No, Refused as NotAsked}
+use Rattle.grids.specs.declared.Completeness.the-variants as Completeness
 use Rattle.grids.specs.Grid.{GivesLayerPart}
 use Rattle.grids.specs.Marks.{Marks, Completes}
 use Rattle.oatmarten.specs.declared.grid_calls.OatVerdict.{OatVerdict}
@@ -18,17 +18,17 @@ use Rattle.oatmarten.specs.Refusals.{accepted, flat-refusal}
 use Rattle.oatmarten.specs.Flattening.{Flattens}
 
 abbrev pub flat-verdict : Verdict → OatVerdict
-flat-verdict Fine = record { said = accepted }
-flat-verdict (Fails r) = record { said = flat-refusal r }
+flat-verdict Verdict.Fine = record { said = accepted }
+flat-verdict (Verdict.Refused r) = record { said = flat-refusal r }
 
 abbrev pub flat-complete : Completeness → OatComplete
-flat-complete Yes = record { said = accepted; yes = 1 }
-flat-complete No = record { said = accepted; yes = 0 }
-flat-complete (NotAsked r) = record { said = flat-refusal r; yes = 0 }
+flat-complete Completeness.Yes = record { said = accepted; yes = 1 }
+flat-complete Completeness.No = record { said = accepted; yes = 0 }
+flat-complete (Completeness.Refused r) = record { said = flat-refusal r; yes = 0 }
 
 abbrev pub flat-part : LayerPart → OatPart
-flat-part (LayerAt start many) = record { said = accepted; offset = start; length = many }
-flat-part (NoPart r) = record { said = flat-refusal r; offset = 0; length = 0 }
+flat-part (LayerPart.Part start many) = record { said = accepted; offset = start; length = many }
+flat-part (LayerPart.Refused r) = record { said = flat-refusal r; offset = 0; length = 0 }
 
 -- ---- the contracts
 

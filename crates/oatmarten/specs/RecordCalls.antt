@@ -7,11 +7,11 @@ use Rattle.oatmarten.specs.declared.record_calls.OatVenue.{OatVenue}
 use Rattle.oatmarten.specs.declared.record_calls.OatPair.{OatPair}
 use Rattle.oatmarten.specs.declared.record_calls.OatWritten.{OatWritten}
 use Rattle.records.specs.declared.venues.VenueRead.{VenueRead}
-use Rattle.records.specs.declared.venues.VenueRead.the-variants.{Read as ReadVenue, Refused as NoVenue}
+use Rattle.records.specs.declared.venues.VenueRead.the-variants as VenueRead
 use Rattle.records.specs.declared.pairs.PairRead.{PairRead}
-use Rattle.records.specs.declared.pairs.PairRead.the-variants.{Read as ReadPair, Refused as NoPair}
+use Rattle.records.specs.declared.pairs.PairRead.the-variants as PairRead
 use Rattle.records.specs.declared.writing.Written.{Written}
-use Rattle.records.specs.declared.writing.Written.the-variants.{Wrote, Refused as NotWritten}
+use Rattle.records.specs.declared.writing.Written.the-variants as Written
 use Rattle.records.specs.Venues.{ReadsVenue}
 use Rattle.records.specs.Pairs.{ReadsPair}
 use Rattle.records.specs.Writing.{WritesVenue}
@@ -19,9 +19,9 @@ use Rattle.oatmarten.specs.Refusals.{accepted, flat-refusal}
 use Rattle.oatmarten.specs.Flattening.{Flattens}
 
 abbrev pub flat-venue : VenueRead → OatVenue
-flat-venue (ReadVenue v) =
+flat-venue (VenueRead.Read v) =
     record { said = accepted; nx = v .counts .nx; ny = v .counts .ny; nz = v .counts .nz; offset = v .start; length = v .long }
-flat-venue (NoVenue r) =
+flat-venue (VenueRead.Refused r) =
     record {
       said = flat-refusal r;
       nx = 0;
@@ -32,7 +32,7 @@ flat-venue (NoVenue r) =
     }
 
 abbrev pub flat-pair : PairRead → OatPair
-flat-pair (ReadPair e) =
+flat-pair (PairRead.Read e) =
     record {
       said = accepted;
       px = e .p .x;
@@ -42,7 +42,7 @@ flat-pair (ReadPair e) =
       qy = e .q .y;
       qz = e .q .z;
     }
-flat-pair (NoPair r) =
+flat-pair (PairRead.Refused r) =
     record {
       said = flat-refusal r;
       px = pos 0;
@@ -54,8 +54,8 @@ flat-pair (NoPair r) =
     }
 
 abbrev pub flat-written : Written → OatWritten
-flat-written (Wrote many) = record { said = accepted; written = many }
-flat-written (NotWritten r) = record { said = flat-refusal r; written = 0 }
+flat-written (Written.Wrote many) = record { said = accepted; written = many }
+flat-written (Written.Refused r) = record { said = flat-refusal r; written = 0 }
 
 -- ---- the contracts
 

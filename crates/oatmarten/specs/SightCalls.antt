@@ -8,9 +8,9 @@ use Rattle.oatmarten.specs.declared.sight_calls.OatFound.{OatFound}
 use Rattle.survey.specs.declared.Placement.{Placement}
 use Rattle.survey.specs.declared.Point.{Point}
 use Rattle.survey.specs.declared.Lookup.{Lookup}
-use Rattle.survey.specs.declared.Lookup.the-variants.{Cell as At, Refused as NotFound}
+use Rattle.survey.specs.declared.Lookup.the-variants as Lookup
 use Rattle.sight.specs.declared.Sight.{Sight}
-use Rattle.sight.specs.declared.Sight.the-variants.{Clear as Seen, Blocked as InTheWay, Refused as NotSeen}
+use Rattle.sight.specs.declared.Sight.the-variants as Sight
 use Rattle.oatmarten.specs.declared.sight_calls.OatSight.{OatSight}
 use Rattle.survey.specs.Quotient.{as-f64}
 use Rattle.survey.specs.Survey.{LooksUp}
@@ -19,8 +19,8 @@ use Rattle.oatmarten.specs.Refusals.{accepted, flat-refusal}
 use Rattle.oatmarten.specs.Flattening.{Flattens}
 
 abbrev pub flat-found : Lookup → OatFound
-flat-found (At c) = record { said = accepted; x = c .x; y = c .y; z = c .z }
-flat-found (NotFound r) = record { said = flat-refusal r; x = pos 0; y = pos 0; z = pos 0 }
+flat-found (Lookup.Cell c) = record { said = accepted; x = c .x; y = c .y; z = c .z }
+flat-found (Lookup.Refused r) = record { said = flat-refusal r; x = pos 0; y = pos 0; z = pos 0 }
 
 -- a sight with nothing in the way, or that was refused
 abbrev pub unblocked : OatSaid → OatSight
@@ -38,7 +38,7 @@ unblocked said =
 
 -- a sight: blocked 1 where something is in the way, 0 where it is clear
 abbrev pub flat-sight : Sight → OatSight
-flat-sight (InTheWay b) =
+flat-sight (Sight.Blocked b) =
     record {
       said = accepted;
       blocked = 1;
@@ -49,8 +49,8 @@ flat-sight (InTheWay b) =
       code = b .code;
       reads = b .reads;
     }
-flat-sight Seen = unblocked accepted
-flat-sight (NotSeen r) = unblocked (flat-refusal r)
+flat-sight Sight.Clear = unblocked accepted
+flat-sight (Sight.Refused r) = unblocked (flat-refusal r)
 
 -- ---- the contracts
 

@@ -6,7 +6,7 @@ use Rattle.cells.specs.declared.Cell.{Cell}
 use Rattle.cells.specs.declared.Counts.{Counts}
 use Rattle.walks.specs.declared.Walker.{Walker}
 use Rattle.walks.specs.declared.FirstHit.{FirstHit}
-use Rattle.walks.specs.declared.FirstHit.the-variants.{Clear, Hit as Blocked, Refused as NotWalked}
+use Rattle.walks.specs.declared.FirstHit.the-variants as FirstHit
 use Rattle.walks.specs.Answers.{Finds}
 use Rattle.oatmarten.specs.declared.refusals.OatSaid.{OatSaid}
 use Rattle.oatmarten.specs.declared.walk_calls.OatHit.{OatHit}
@@ -30,7 +30,7 @@ no-hit said many =
 
 -- a walk: hit 1 where it hit, 0 where it is clear
 abbrev pub flat-hit : FirstHit → OatHit
-flat-hit (Blocked h) =
+flat-hit (FirstHit.Hit h) =
     record {
       said = accepted;
       hit = 1;
@@ -42,8 +42,8 @@ flat-hit (Blocked h) =
       den = h .place .den;
       reads = h .reads;
     }
-flat-hit (Clear many) = no-hit accepted many
-flat-hit (NotWalked r) = no-hit (flat-refusal r) 0
+flat-hit (FirstHit.Clear many) = no-hit accepted many
+flat-hit (FirstHit.Refused r) = no-hit (flat-refusal r) 0
 
 -- ---- the contract, of either walk
 

@@ -1,6 +1,5 @@
 // The cell of a surveyed point, and the sight answer, for C.
 ghost use mathlib.Core.Path.{_≡_};
-ghost use Rattle.sight.specs.declared.Sight.the-variants.{Blocked as InTheWay};
 ghost use Rattle.oatmarten.specs.Inputs.{as-counts, as-placement, as-point};
 ghost use Rattle.oatmarten.specs.SightCalls.{flat-found, unblocked, flat-sight, FlatLooksUp, FlatSees};
 use crate::inputs::OatCounts;
@@ -90,7 +89,7 @@ fn unblocked(said: OatSaid) -> OatSight
 }
 
 fn flat_blocked(b: Block) -> OatSight
-    ensures { λ r. ⌜ r ≡ flat-sight (InTheWay b) ⌝ }
+    ensures { λ r. ⌜ r ≡ flat-sight (Sight.Blocked b) ⌝ }
 {
     let c = b.cell;
     OatSight {

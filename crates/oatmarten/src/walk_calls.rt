@@ -1,6 +1,5 @@
 // The first-hit calls for C.
 ghost use mathlib.Core.Path.{_≡_};
-ghost use Rattle.walks.specs.declared.FirstHit.the-variants.{Hit as Blocked};
 ghost use Rattle.walks.specs.declared.Walker.the-variants.{Plain, Adaptive};
 ghost use Rattle.oatmarten.specs.Inputs.{as-cell, as-counts};
 ghost use Rattle.oatmarten.specs.WalkCalls.{no-hit, flat-hit, FlatFinds};
@@ -46,7 +45,7 @@ fn no_hit(said: OatSaid, many: u32) -> OatHit
 }
 
 fn flat_block(h: Hit) -> OatHit
-    ensures { λ r. ⌜ r ≡ flat-hit (Blocked h) ⌝ }
+    ensures { λ r. ⌜ r ≡ flat-hit (FirstHit.Hit h) ⌝ }
 {
     let c = h.cell;
     let place = h.place;

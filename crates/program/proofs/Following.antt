@@ -14,7 +14,7 @@ use Rattle.walks.specs.declared.FirstHit.{FirstHit}
 use Rattle.cells.specs.Refusals.{told}
 use Rattle.grids.specs.Inside.{walk-check}
 use Rattle.records.specs.declared.pairs.PairRead.{PairRead}
-use Rattle.records.specs.declared.pairs.PairRead.the-variants.{Read, Refused as NoPair}
+use Rattle.records.specs.declared.pairs.PairRead.the-variants as PairRead
 use Rattle.records.specs.Pairs.{pair-read}
 use Rattle.program.specs.declared.Next.the-variants.{On, Over}
 use Rattle.program.specs.declared.Step.{Step}
@@ -34,8 +34,8 @@ after-walks k Fine found = refl
 
 module _ (n : Counts) (cells : List ℕ) (k : ℕ) where
   after-pair : (r : PairRead) → Follows k (said-of-pair n cells k r .next)
-  after-pair (NoPair r) = after-refused k (told r .number)
-  after-pair (Read e) = after-walks k (walk-check n (length cells) (e .p) (e .q)) (answers n cells (e .p) (e .q))
+  after-pair (PairRead.Refused r) = after-refused k (told r .number)
+  after-pair (PairRead.Read e) = after-walks k (walk-check n (length cells) (e .p) (e .q)) (answers n cells (e .p) (e .q))
 
   follows : (s : List ℕ) → Follows k (pair-said n cells k s .next)
   unfolding pair-said

@@ -11,7 +11,7 @@ use borrow.Author.Tests.{le-ltb, ltb-false, ne-eqb, eqb-false, leb-true, leb-fal
 use Rattle.cells.specs.declared.Counts.{Counts}
 use Rattle.cells.specs.declared.Refusal.{Refusal}
 use Rattle.cells.specs.declared.Refusal.the-variants.{Room, Record}
-use Rattle.records.specs.declared.venues.VenueRead.the-variants.{Refused as NoVenue}
+use Rattle.records.specs.declared.venues.VenueRead.the-variants as VenueRead
 use Rattle.records.specs.Heads.{length-field, announced}
 use Rattle.records.specs.Venues.{venue-read, venue-cells}
 use Rattle.records.specs.Pairs.{pair-read}
@@ -113,7 +113,7 @@ venue-on s k = go (beyond venue-most s)
     go false h = refl
 
 -- and is read
-pub venue-taken : (s : List ℕ) (r : Refusal) (k : ℕ) → venue-said s .next ≡ On k → venue-read s ≡ NoVenue r → ⊥
+pub venue-taken : (s : List ℕ) (r : Refusal) (k : ℕ) → venue-said s .next ≡ On k → venue-read s ≡ VenueRead.Refused r → ⊥
 venue-taken s r k h no-venue =
     let e : On k ≡ Over = sym h ∙ ap (λ x. x .next) (venue-within s (venue-on s k h) ∙ ap said-of-venue no-venue) in
     let z : _≡_ {A = ℕ} 0 1 = cc in

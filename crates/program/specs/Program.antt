@@ -13,13 +13,13 @@ use Rattle.cells.specs.declared.Verdict.{Verdict}
 use Rattle.cells.specs.declared.Verdict.the-variants.{Fine, Refused}
 use Rattle.cells.specs.Refusals.{told}
 use Rattle.walks.specs.declared.FirstHit.{FirstHit}
-use Rattle.walks.specs.declared.FirstHit.the-variants.{Clear, Hit as Blocked, Refused as NotWalked}
+use Rattle.walks.specs.declared.FirstHit.the-variants as FirstHit
 use Rattle.grids.specs.Inside.{walk-check}
 use Rattle.walks.specs.Answers.{first-hit}
 use Rattle.records.specs.declared.venues.VenueRead.{VenueRead}
-use Rattle.records.specs.declared.venues.VenueRead.the-variants.{Read, Refused as NoVenue}
+use Rattle.records.specs.declared.venues.VenueRead.the-variants as VenueRead
 use Rattle.records.specs.declared.pairs.PairRead.{PairRead}
-use Rattle.records.specs.declared.pairs.PairRead.the-variants.{Read as ReadPair, Refused as NoPair}
+use Rattle.records.specs.declared.pairs.PairRead.the-variants as PairRead
 use Rattle.records.specs.Heads.{length-field, announced}
 use Rattle.records.specs.Venues.{venue-read, venue-cells}
 use Rattle.records.specs.Pairs.{pair-read}
@@ -55,8 +55,8 @@ venue-refused r = record { text = venue-refused-line (told r .number); next = Ov
 
 -- "K counting pairs from 1"
 abbrev pub said-of-venue : VenueRead → Said
-said-of-venue (Read v) = record { text = []; next = On 1 }
-said-of-venue (NoVenue r) = venue-refused r
+said-of-venue (VenueRead.Read v) = record { text = []; next = On 1 }
+said-of-venue (VenueRead.Refused r) = venue-refused r
 
 -- "A venue length above 65,532 is refused 6"
 unfoldable pub venue-said : List ℕ → Said
@@ -74,9 +74,9 @@ pair-refused k r = record { text = pair-refused-line k (told r .number); next = 
 
 -- the line of one walk: "`hit x y z code reads` or `clear reads`"; none where it is refused, and no walk of a pair is (claim `FiveOrLines`)
 unfoldable pub walk-line : (k letter : ℕ) → FirstHit → List ℕ
-walk-line k letter (Clear reads) = clear-line k letter reads
-walk-line k letter (Blocked h) = hit-line k letter (h .cell) (h .code) (h .reads)
-walk-line k letter (NotWalked r) = []
+walk-line k letter (FirstHit.Clear reads) = clear-line k letter reads
+walk-line k letter (FirstHit.Hit h) = hit-line k letter (h .cell) (h .code) (h .reads)
+walk-line k letter (FirstHit.Refused r) = []
 
 -- `P` and `A`
 abbrev pub plain-letter : ℕ
@@ -101,8 +101,8 @@ said-of-walks k Fine found = record { text = walk-lines k found; next = On (k + 
 
 module _ (n : Counts) (cells : List ℕ) (k : ℕ) where
   abbrev pub said-of-pair : PairRead → Said
-  said-of-pair (NoPair r) = pair-refused k r
-  said-of-pair (ReadPair e) = said-of-walks k (walk-check n (length cells) (e .p) (e .q)) (answers n cells (e .p) (e .q))
+  said-of-pair (PairRead.Refused r) = pair-refused k r
+  said-of-pair (PairRead.Read e) = said-of-walks k (walk-check n (length cells) (e .p) (e .q)) (answers n cells (e .p) (e .q))
 
   -- "Input that ends where a pair would begin ends it silently"; "a pair length above 255 is refused 10"
   unfoldable pub pair-said : List ℕ → Said
@@ -132,8 +132,8 @@ pairs (suc turns) n cells k s =
 
 -- the pairs behind a venue, the first of them of number k
 abbrev pub after-venue : VenueRead → List ℕ → ℕ → List ℕ
-after-venue (Read v) s k = pairs (length s) (v .counts) (venue-cells s) k (after-record s)
-after-venue (NoVenue r) s k = []
+after-venue (VenueRead.Read v) s k = pairs (length s) (v .counts) (venue-cells s) k (after-record s)
+after-venue (VenueRead.Refused r) s k = []
 
 -- "The program reads one venue record and then pairs from standard input."
 unfoldable pub output : List ℕ → List ℕ

@@ -3,7 +3,6 @@ ghost use mathlib.Core.Path.{_≡_};
 ghost use Prim.Native.Nat.{_+_, _-_, _^_, _≤_, _<_};
 ghost use lib.ListN.{length};
 ghost use Rattle.io.specs.Counts.{Counts as Count};
-ghost use Rattle.records.specs.declared.pairs.PairRead.the-variants.{Read as ReadPair};
 ghost use Rattle.texts.specs.Text.{line-room, Puts};
 ghost use Rattle.program.specs.Program.{beyond, venue-refused, venue-said, after-refusal, pair-refused, walk-line, answers, walk-lines, said-of-pair, pair-said, text-room, Says, Follows};
 use cells::Cell;
@@ -132,7 +131,7 @@ fn walk_lines(n: Counts, cells: &[u8], k: u64, p: Cell, q: Cell, text: &mut [u8]
 // The walks between the ends of a pair.
 fn pair_said(n: Counts, cells: &[u8], k: u64, e: Pair, text: &mut [u8]) -> Step
     requires { ⌜ (k < 2 ^ 64 - 1) × (text-room ≤ length (now text)) ⌝ }
-    ensures { λ s. ⌜ Says (said-of-pair n (now (cells .entry)) k (ReadPair e)) (now (text .entry)) s (now (text .exit)) ⌝ }
+    ensures { λ s. ⌜ Says (said-of-pair n (now (cells .entry)) k (PairRead.Read e)) (now (text .entry)) s (now (text .exit)) ⌝ }
 {
     let p = e.p;
     let q = e.q;

@@ -15,8 +15,8 @@ use Rattle.cells.specs.declared.Verdict.the-variants.{Fine, Refused}
 use Rattle.cells.specs.Checks.{refuse-when, by-verdict}
 use Rattle.cells.proofs.Checks.{passed, then-same}
 use Rattle.records.specs.declared.venues.VenueRead.{VenueRead}
-use Rattle.records.specs.declared.venues.VenueRead.the-variants.{Read, Refused as NoVenue}
-use Rattle.records.specs.declared.pairs.PairRead.the-variants.{Read as ReadPair, Refused as NoPair}
+use Rattle.records.specs.declared.venues.VenueRead.the-variants as VenueRead
+use Rattle.records.specs.declared.pairs.PairRead.the-variants as PairRead
 use Rattle.records.specs.Heads.{length-field, announced, version-of, whole-check}
 use Rattle.records.specs.Venues.{venue-version, venue-head, counts-from, counts-at, venue-in, venue-check, venue-read, part-of, venue-cells}
 use Rattle.records.specs.Pairs.{pair-length, ends-from, cell-in, pair-in, pair-check, pair-read}
@@ -94,16 +94,16 @@ module _ (s rest : List ℕ) (exact : length s ≡ length-field + announced s) w
   unfolding venue-read
   venue-unread = rw same-venue-check (go (venue-check s) refl)
     where
-      go : (v : Verdict) → venue-check s ≡ v → by-verdict NoVenue (Read (venue-in (s ++ rest))) v ≡ by-verdict NoVenue (Read (venue-in s)) v
-      go Fine e = ap Read (same-venue (venue-whole s e .head))
+      go : (v : Verdict) → venue-check s ≡ v → by-verdict VenueRead.Refused (VenueRead.Read (venue-in (s ++ rest))) v ≡ by-verdict VenueRead.Refused (VenueRead.Read (venue-in s)) v
+      go Fine e = ap VenueRead.Read (same-venue (venue-whole s e .head))
       go (Refused r) e = refl
 
   pub pair-unread : pair-read (s ++ rest) ≡ pair-read s
   unfolding pair-read
   pair-unread = rw same-pair-check (go (pair-check s) refl)
     where
-      go : (v : Verdict) → pair-check s ≡ v → by-verdict NoPair (ReadPair (pair-in (s ++ rest))) v ≡ by-verdict NoPair (ReadPair (pair-in s)) v
-      go Fine e = ap ReadPair (same-pair (pair-whole s e .long))
+      go : (v : Verdict) → pair-check s ≡ v → by-verdict PairRead.Refused (PairRead.Read (pair-in (s ++ rest))) v ≡ by-verdict PairRead.Refused (PairRead.Read (pair-in s)) v
+      go Fine e = ap PairRead.Read (same-pair (pair-whole s e .long))
       go (Refused r) e = refl
 
   -- the part is the same too
@@ -112,8 +112,8 @@ module _ (s rest : List ℕ) (exact : length s ≡ length-field + announced s) w
   cells-unread = rw venue-unread (go (venue-read s) refl)
     where
       go : (r : VenueRead) → venue-read s ≡ r → part-of r (s ++ rest) ≡ part-of r s
-      go (NoVenue r) e = refl
-      go (Read v) e =
+      go (VenueRead.Refused r) e = refl
+      go (VenueRead.Read v) e =
           let w = part-within s v e in
           ap (take (v .long)) (drop-append-le (v .start) s rest (omega arith))
           ∙ take-append-le (v .long) (drop (v .start) s) rest (simp length-drop (omega arith))

@@ -15,7 +15,7 @@ use Rattle.cells.specs.Checks.{refuse-when, _then_}
 use Rattle.grids.specs.Grid.{shape}
 use Rattle.cells.proofs.Checks.{fine-first, fine-rest, each-fine, passed, then-same, then-four, by-fine}
 use Rattle.records.specs.declared.venues.Venue.{Venue}
-use Rattle.records.specs.declared.venues.VenueRead.the-variants.{Read, Refused as NoVenue}
+use Rattle.records.specs.declared.venues.VenueRead.the-variants as VenueRead
 use Rattle.records.specs.Heads.{length-field, announced, version-of, whole-check}
 use Rattle.records.specs.Venues.{venue-version, venue-head, venue-in, venue-check, venue-read}
 use Rattle.records.specs.Pairs.{pair-version, pair-length, pair-check}
@@ -125,14 +125,14 @@ pair-whole s e = let w = head-fits s (pair-version (version-of s)) _ e in record
 -- ---- an accepted venue
 
 -- the verdict and the venue of an answer
-pub venue-accepted : (s : List ℕ) (v : Venue) → venue-read s ≡ Read v → VenueWhole s × (venue-in s ≡ v)
+pub venue-accepted : (s : List ℕ) (v : Venue) → venue-read s ≡ VenueRead.Read v → VenueWhole s × (venue-in s ≡ v)
 unfolding venue-read
 venue-accepted s v e =
-    let (fine, same) = by-fine NoVenue (venue-check s) (Read (venue-in s)) (λ r no. let z : _≡_ {A = ℕ} 0 1 = cc no in omega arith) e in
+    let (fine, same) = by-fine VenueRead.Refused (venue-check s) (VenueRead.Read (venue-in s)) (λ r no. let z : _≡_ {A = ℕ} 0 1 = cc no in omega arith) e in
     (venue-whole s fine, cc same)
 
 -- its part lies within the record
-pub part-within : (s : List ℕ) (v : Venue) → venue-read s ≡ Read v → v .start + v .long ≤ length s
+pub part-within : (s : List ℕ) (v : Venue) → venue-read s ≡ VenueRead.Read v → v .start + v .long ≤ length s
 part-within s v e =
     let (w, f) = venue-accepted s v e in
     subst (λ (u : Venue). u .start + u .long ≤ length s) f

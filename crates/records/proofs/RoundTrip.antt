@@ -17,12 +17,12 @@ use Rattle.cells.proofs.Checks.{by-fine}
 use Rattle.grids.specs.Grid.{size, shape}
 use Rattle.grids.proofs.Shapes.{shaped}
 use Rattle.records.specs.declared.venues.Venue.{Venue}
-use Rattle.records.specs.declared.venues.VenueRead.the-variants.{Read, Refused as NoVenue}
+use Rattle.records.specs.declared.venues.VenueRead.the-variants as VenueRead
 use Rattle.records.specs.Heads.{length-field, announced, version-of, whole-check}
 use Rattle.records.specs.Venues.{venue-version, venue-head, cells-from, counts-from, counts-at, venue-in, venue-check, venue-read, venue-cells}
 use Rattle.records.proofs.HeadTests.{VenueWhole, venue-accepted, part-within, head-least}
 use Rattle.records.specs.declared.writing.Written.{Written}
-use Rattle.records.specs.declared.writing.Written.the-variants.{Wrote, Refused as NotWritten}
+use Rattle.records.specs.declared.writing.Written.the-variants as Written
 use Rattle.records.specs.Writing.{written-version, count-bytes, head-bytes, record-length, write-check, after-writing, WritesVenue}
 use Rattle.records.proofs.WriteTests.{head-length, writable}
 
@@ -68,7 +68,7 @@ module _ (n : Counts) (cells rest : List ℕ) (fine : shape n (length cells) ≡
       omega (arith, long-is, head-length n, length-append (head-bytes written-version n) (cells ++ rest), length-append cells rest, shaped n (length cells) fine .bytes-are)
 
   -- what was written is read back, whatever follows
-  pub read-back : venue-read (head-bytes written-version n ++ (cells ++ rest)) ≡ Read (venue-of n)
+  pub read-back : venue-read (head-bytes written-version n ++ (cells ++ rest)) ≡ VenueRead.Read (venue-of n)
   unfolding venue-read venue-version
   read-back =
       let s = head-bytes written-version n ++ (cells ++ rest) in
@@ -76,7 +76,7 @@ module _ (n : Counts) (cells rest : List ℕ) (fine : shape n (length cells) ≡
       judged s all-there refl (omega (arith, long-is))
       ∙ ap (λ (v : Venue). shape (v .counts) (v .long)) in-is
       ∙ ap (shape n) (sym (shaped n (length cells) fine .bytes-are)) ∙ fine in
-      ap₂ (λ v u. by-verdict NoVenue (Read u) v) check in-is
+      ap₂ (λ v u. by-verdict VenueRead.Refused (VenueRead.Read u) v) check in-is
 
   pub cells-back : venue-cells (head-bytes written-version n ++ (cells ++ rest)) ≡ cells
   unfolding venue-cells
@@ -102,7 +102,7 @@ unfolding venue-version
 version-one version e = eqb-true version written-version e
 
 -- the bytes of an accepted record are its head and its cells
-pub record-back : (s : List ℕ) (v : Venue) → AllBytes s → venue-read s ≡ Read v
+pub record-back : (s : List ℕ) (v : Venue) → AllBytes s → venue-read s ≡ VenueRead.Read v
     → head-bytes written-version (v .counts) ++ venue-cells s ≡ take (length-field + announced s) s
 unfolding venue-cells
 record-back s v bytes e =
@@ -136,10 +136,10 @@ pub record Front (n : Counts) (cells : List ℕ) (k : ℕ) (exit : List ℕ) : T
   pub fine : shape n (length cells) ≡ Fine
   pub front : take k exit ≡ head-bytes written-version n ++ cells
 
-pub front-written : (n : Counts) (cells entry exit : List ℕ) (k : ℕ) → WritesVenue n cells entry (Wrote k) exit → Front n cells k exit
+pub front-written : (n : Counts) (cells entry exit : List ℕ) (k : ℕ) → WritesVenue n cells entry (Written.Wrote k) exit → Front n cells k exit
 front-written n cells entry exit k c =
     let H = head-bytes written-version n in
-    let (f, same) = by-fine NotWritten (write-check n (length cells) (length entry)) (Wrote (record-length n)) (λ r no. let z : _≡_ {A = ℕ} 0 1 = cc no in omega arith) (sym (c .says)) in
+    let (f, same) = by-fine Written.Refused (write-check n (length cells) (length entry)) (Written.Wrote (record-length n)) (λ r no. let z : _≡_ {A = ℕ} 0 1 = cc no in omega arith) (sym (c .says)) in
     let count : record-length n ≡ k = cc same in
     let w = writable n (length cells) (length entry) f in
     let rest = drop (record-length n) entry in
@@ -152,7 +152,7 @@ pub record Fits (s : List ℕ) (v : Venue) : Type 0 where
   pub fine : shape (v .counts) (length (venue-cells s)) ≡ Fine
   pub total : record-length (v .counts) ≡ length-field + announced s
 
-pub record-fits : (s : List ℕ) (v : Venue) → venue-read s ≡ Read v → Fits s v
+pub record-fits : (s : List ℕ) (v : Venue) → venue-read s ≡ VenueRead.Read v → Fits s v
 unfolding venue-cells
 record-fits s v e =
     let (w, f) = venue-accepted s v e in
@@ -165,8 +165,8 @@ record-fits s v e =
     record { fine = ap (shape (v .counts)) long ∙ fine; total = omega arith }
 
 -- written into room that is just enough, it is the same bytes
-pub same-bytes : (s : List ℕ) (v : Venue) (entry exit : List ℕ) (w : Written) → AllBytes s → venue-read s ≡ Read v → length entry ≡ length-field + announced s
-    → WritesVenue (v .counts) (venue-cells s) entry w exit → (w ≡ Wrote (length-field + announced s)) × (exit ≡ take (length-field + announced s) s)
+pub same-bytes : (s : List ℕ) (v : Venue) (entry exit : List ℕ) (w : Written) → AllBytes s → venue-read s ≡ VenueRead.Read v → length entry ≡ length-field + announced s
+    → WritesVenue (v .counts) (venue-cells s) entry w exit → (w ≡ Written.Wrote (length-field + announced s)) × (exit ≡ take (length-field + announced s) s)
 unfolding write-check
 same-bytes s v entry exit w bytes e room c =
     let n = v .counts in
@@ -175,7 +175,7 @@ same-bytes s v entry exit w bytes e room c =
     let check : write-check n (length (venue-cells s)) (length entry) ≡ Fine =
     rw (fits .fine, le-ltb (length entry) (record-length n) (omega (arith, fits .total))) in
     let none : drop (record-length n) entry ≡ [] = drop-of-length-le entry {i = record-length n} (omega (arith, fits .total)) in (
-      c .says ∙ ap (by-verdict NotWritten (Wrote (record-length n))) check ∙ ap Wrote (fits .total),
+      c .says ∙ ap (by-verdict Written.Refused (Written.Wrote (record-length n))) check ∙ ap Written.Wrote (fits .total),
       c .holds ∙ ap (by-verdict (λ r. entry) (after-writing n (venue-cells s) entry)) check ∙ ap (λ l. H ++ (venue-cells s ++ l)) none
           ∙ ap (λ l. H ++ l) (append-nil (venue-cells s)) ∙ record-back s v bytes e,
     )

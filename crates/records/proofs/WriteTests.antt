@@ -14,7 +14,7 @@ use Rattle.grids.specs.Grid.{size, shape}
 use Rattle.cells.specs.Checks.{by-verdict}
 use Rattle.cells.proofs.Checks.{fine-first, fine-rest, passed}
 use Rattle.grids.proofs.Shapes.{shaped}
-use Rattle.records.specs.declared.writing.Written.the-variants.{Wrote, Refused as NotWritten}
+use Rattle.records.specs.declared.writing.Written.the-variants as Written
 use Rattle.records.specs.Venues.{venue-head, cells-from}
 use Rattle.records.specs.Writing.{written-version, head-bytes, record-length, write-check, after-writing, WritesVenue}
 
@@ -42,8 +42,8 @@ writable n bytes room e =
 -- ---- the ways out
 
 module _ (n : Counts) (cells entry : List ℕ) where
-  pub not-written : (r : Refusal) → write-check n (length cells) (length entry) ≡ Refused r → WritesVenue n cells entry (NotWritten r) entry
-  not-written r e = record { says = sym (ap (by-verdict NotWritten (Wrote (record-length n))) e); holds = sym (ap (by-verdict (λ s. entry) (after-writing n cells entry)) e) }
+  pub not-written : (r : Refusal) → write-check n (length cells) (length entry) ≡ Refused r → WritesVenue n cells entry (Written.Refused r) entry
+  not-written r e = record { says = sym (ap (by-verdict Written.Refused (Written.Wrote (record-length n))) e); holds = sym (ap (by-verdict (λ s. entry) (after-writing n cells entry)) e) }
 
   -- head and cells stored one behind the other
   filled : {start : ℕ} {m exit : List ℕ} → Writable n (length cells) (length entry) → start ≡ cells-from written-version
@@ -58,10 +58,10 @@ module _ (n : Counts) (cells entry : List ℕ) where
       ∙ append-assoc H cells (drop (record-length n) entry)
 
   pub wrote : {start : ℕ} {m exit : List ℕ} → write-check n (length cells) (length entry) ≡ Fine → start ≡ cells-from written-version
-      → m ≡ over 0 (head-bytes written-version n) entry → exit ≡ over start cells m → WritesVenue n cells entry (Wrote (start + length cells)) exit
+      → m ≡ over 0 (head-bytes written-version n) entry → exit ≡ over start cells m → WritesVenue n cells entry (Written.Wrote (start + length cells)) exit
   wrote f e head rest =
       let w = writable n (length cells) (length entry) f in
       record {
-        says = ap₂ (λ s b. Wrote (s + b)) e (w .bytes-are) ∙ sym (ap (by-verdict NotWritten (Wrote (record-length n))) f);
+        says = ap₂ (λ s b. Written.Wrote (s + b)) e (w .bytes-are) ∙ sym (ap (by-verdict Written.Refused (Written.Wrote (record-length n))) f);
         holds = filled w e head rest ∙ sym (ap (by-verdict (λ r. entry) (after-writing n cells entry)) f);
       }

@@ -14,7 +14,7 @@ use Rattle.cells.specs.Checks.{refuse-when, _then_, by-verdict}
 use Rattle.cells.specs.Refusals.{Told, told}
 use Rattle.records.specs.declared.pairs.Pair.{Pair}
 use Rattle.records.specs.declared.pairs.PairRead.{PairRead}
-use Rattle.records.specs.declared.pairs.PairRead.the-variants.{Read as ReadPair, Refused as NoPair}
+use Rattle.records.specs.declared.pairs.PairRead.the-variants as PairRead
 use Rattle.records.specs.Heads.{length-field, announced, version-of, whole-check}
 
 -- the versions of a pair's record
@@ -50,7 +50,7 @@ pair-check s =
 
 -- "reading a pair answers P and Q"
 unfoldable pub pair-read : List ℕ → PairRead
-pair-read s = by-verdict NoPair (ReadPair (pair-in s)) (pair-check s)
+pair-read s = by-verdict PairRead.Refused (PairRead.Read (pair-in s)) (pair-check s)
 
 -- the contract of the call
 pub record ReadsPair (s : List ℕ) (r : PairRead) : Type 0 where
@@ -58,5 +58,5 @@ pub record ReadsPair (s : List ℕ) (r : PairRead) : Type 0 where
 
 -- each case of the answer: what is said of a refusal, or P and Q
 abbrev pub told-pair : PairRead → Told ⊎ (Cell × Cell)
-told-pair (NoPair r) = inl (told r)
-told-pair (ReadPair e) = inr (e .p, e .q)
+told-pair (PairRead.Refused r) = inl (told r)
+told-pair (PairRead.Read e) = inr (e .p, e .q)

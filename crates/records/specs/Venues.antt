@@ -17,7 +17,7 @@ use Rattle.cells.specs.Refusals.{Told, told}
 use Rattle.grids.specs.Grid.{shape}
 use Rattle.records.specs.declared.venues.Venue.{Venue}
 use Rattle.records.specs.declared.venues.VenueRead.{VenueRead}
-use Rattle.records.specs.declared.venues.VenueRead.the-variants.{Read, Refused as NoVenue}
+use Rattle.records.specs.declared.venues.VenueRead.the-variants as VenueRead
 use Rattle.records.specs.Heads.{length-field, announced, version-of, whole-check}
 
 -- the versions of a venue's record
@@ -59,12 +59,12 @@ venue-check s =
 
 -- "Reading a venue answers the counts and the part that holds the cells"
 unfoldable pub venue-read : List ℕ → VenueRead
-venue-read s = by-verdict NoVenue (Read (venue-in s)) (venue-check s)
+venue-read s = by-verdict VenueRead.Refused (VenueRead.Read (venue-in s)) (venue-check s)
 
 -- the part itself, empty where the venue is refused
 abbrev pub part-of : VenueRead → List ℕ → List ℕ
-part-of (Read v) s = take (v .long) (drop (v .start) s)
-part-of (NoVenue r) s = []
+part-of (VenueRead.Read v) s = take (v .long) (drop (v .start) s)
+part-of (VenueRead.Refused r) s = []
 
 -- what the partner call returns
 unfoldable pub venue-cells : List ℕ → List ℕ
@@ -72,8 +72,8 @@ venue-cells s = part-of (venue-read s) s
 
 -- where it starts among the bytes; the empty part stands at their start
 abbrev pub start-of : VenueRead → ℕ
-start-of (Read v) = v .start
-start-of (NoVenue r) = 0
+start-of (VenueRead.Read v) = v .start
+start-of (VenueRead.Refused r) = 0
 
 -- the contracts of the two calls: the answer; the cells, and where they lie
 pub record ReadsVenue (s : List ℕ) (r : VenueRead) : Type 0 where
@@ -85,5 +85,5 @@ pub record GivesCells (bytes r : RefT (List ℕ)) : Type 0 where
 
 -- each case of the answer: what is said of a refusal, or the counts and the part's offset and length
 abbrev pub told-venue : VenueRead → Told ⊎ (Counts × ℕ × ℕ)
-told-venue (NoVenue r) = inl (told r)
-told-venue (Read v) = inr (v .counts, v .start, v .long)
+told-venue (VenueRead.Refused r) = inl (told r)
+told-venue (VenueRead.Read v) = inr (v .counts, v .start, v .long)

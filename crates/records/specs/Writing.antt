@@ -13,7 +13,7 @@ use Rattle.cells.specs.Checks.{refuse-when, _then_, by-verdict}
 use Rattle.cells.specs.Refusals.{Told, told}
 use Rattle.grids.specs.Grid.{size, shape}
 use Rattle.records.specs.declared.writing.Written.{Written}
-use Rattle.records.specs.declared.writing.Written.the-variants.{Wrote, Refused as NotWritten}
+use Rattle.records.specs.declared.writing.Written.the-variants as Written
 use Rattle.records.specs.Venues.{venue-head, cells-from}
 
 -- the version that is written
@@ -42,10 +42,10 @@ after-writing n cells entry = head-bytes written-version n ++ (cells ++ drop (re
 
 -- the contract of the writing call: one answer, "the number written", and one final memory; refused, the memory as it was
 pub record WritesVenue (n : Counts) (cells entry : List ℕ) (r : Written) (exit : List ℕ) : Type 0 where
-  pub says : r ≡ by-verdict NotWritten (Wrote (record-length n)) (write-check n (length cells) (length entry))
+  pub says : r ≡ by-verdict Written.Refused (Written.Wrote (record-length n)) (write-check n (length cells) (length entry))
   pub holds : exit ≡ by-verdict (λ r. entry) (after-writing n cells entry) (write-check n (length cells) (length entry))
 
 -- each case of the answer: what is said of a refusal, or the number of bytes written
 abbrev pub told-written : Written → Told ⊎ ℕ
-told-written (NotWritten r) = inl (told r)
-told-written (Wrote n) = inr n
+told-written (Written.Refused r) = inl (told r)
+told-written (Written.Wrote n) = inr n

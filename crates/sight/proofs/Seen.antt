@@ -13,7 +13,7 @@ use Rattle.walks.specs.declared.Walker.the-variants.{Adaptive}
 use Rattle.walks.specs.declared.FirstHit.{FirstHit}
 use Rattle.walks.specs.Answers.{first-hit}
 use Rattle.survey.specs.declared.Lookup.{Lookup}
-use Rattle.survey.specs.declared.Lookup.the-variants.{Cell, Refused as NoCell}
+use Rattle.survey.specs.declared.Lookup.the-variants as Lookup
 use Rattle.survey.specs.declared.Placement.{Placement}
 use Rattle.survey.specs.declared.Point.{Point}
 use Rattle.survey.specs.Survey.{placement-check, look-up}
@@ -32,13 +32,13 @@ module _ (n : Counts) (l : List ℕ) (at : Placement) (camera ball : Point) wher
   from-lookups : {f t u v : Lookup} → f ≡ look-up P n at camera → f ≡ u → t ≡ look-up Q n at ball → t ≡ v → looked n l at camera ball ≡ seen n l u v
   from-lookups hf f-is ht t-is = looked-is ∙ ap₂ (seen n l) (sym hf ∙ f-is) (sym ht ∙ t-is)
 
-  pub camera-refused : {f : Lookup} {r : Refusal} → f ≡ look-up P n at camera → f ≡ NoCell r → looked n l at camera ball ≡ Refused r
+  pub camera-refused : {f : Lookup} {r : Refusal} → f ≡ look-up P n at camera → f ≡ Lookup.Refused r → looked n l at camera ball ≡ Refused r
   camera-refused hf f-is = from-lookups hf f-is refl refl
 
   pub ball-refused : {f t : Lookup} {c : cell.Cell} {r : Refusal} →
-      f ≡ look-up P n at camera → f ≡ Cell c → t ≡ look-up Q n at ball → t ≡ NoCell r → looked n l at camera ball ≡ Refused r
+      f ≡ look-up P n at camera → f ≡ Lookup.Cell c → t ≡ look-up Q n at ball → t ≡ Lookup.Refused r → looked n l at camera ball ≡ Refused r
   ball-refused hf f-is ht t-is = from-lookups hf f-is ht t-is
 
   pub both-found : {f t : Lookup} {c b : cell.Cell} {h : FirstHit} →
-      f ≡ look-up P n at camera → f ≡ Cell c → t ≡ look-up Q n at ball → t ≡ Cell b → h ≡ first-hit Adaptive n l c b → looked n l at camera ball ≡ sight-of h
+      f ≡ look-up P n at camera → f ≡ Lookup.Cell c → t ≡ look-up Q n at ball → t ≡ Lookup.Cell b → h ≡ first-hit Adaptive n l c b → looked n l at camera ball ≡ sight-of h
   both-found hf f-is ht t-is h-is = from-lookups hf f-is ht t-is ∙ ap sight-of (sym h-is)

@@ -7,13 +7,13 @@ use Rattle.cells.proofs.Refusals.{told-back, tells-apart, untold-by}
 use Rattle.sight.specs.declared.Block.{Block}
 use Rattle.sight.specs.declared.Sight.{Sight}
 use Rattle.sight.specs.declared.Sight.the-variants.{Clear, Blocked, Refused}
-use Rattle.sight.specs.Sight.{told-sight}
+use Rattle.sight.specs.Sight.{SightSaid, clear, blocked, told-sight}
 
-abbrev seen-as : Unit {0} ⊎ Block → Sight
-seen-as (inl u) = Clear
-seen-as (inr b) = Blocked b
+abbrev seen-as : SightSaid → Sight
+seen-as clear = Clear
+seen-as (blocked b) = Blocked b
 
-abbrev untold-sight : Told ⊎ (Unit {0} ⊎ Block) → Option Sight
+abbrev untold-sight : Told ⊎ SightSaid → Option Sight
 untold-sight = untold-by Refused seen-as
 
 pub told-sight-back : (r : Sight) → untold-sight (told-sight r) ≡ some r

@@ -13,10 +13,10 @@ use Rattle.cells.specs.Refusals.{Told, told}
 use Rattle.grids.specs.Grid.{shape}
 use Rattle.walks.specs.declared.Walker.the-variants.{Adaptive}
 use Rattle.walks.specs.declared.FirstHit.{FirstHit}
-use Rattle.walks.specs.declared.FirstHit.the-variants.{Clear as Open, Hit, Refused as NotWalked}
+use Rattle.walks.specs.declared.FirstHit.the-variants as FirstHit
 use Rattle.walks.specs.Answers.{first-hit}
 use Rattle.survey.specs.declared.Lookup.{Lookup}
-use Rattle.survey.specs.declared.Lookup.the-variants.{Cell, Refused as NoCell}
+use Rattle.survey.specs.declared.Lookup.the-variants as Lookup
 use Rattle.survey.specs.declared.Placement.{Placement}
 use Rattle.survey.specs.declared.Point.{Point}
 use Rattle.survey.specs.Quotient.{as-f64}
@@ -31,15 +31,15 @@ share-of num den = div binary64 (as-f64 num) (as-f64 den)
 
 -- what the adaptive walk says: "clear, or blocked with the share of the way as one f64, the cell, code and reads"
 abbrev pub sight-of : FirstHit → Sight
-sight-of (Open reads) = Clear
-sight-of (Hit h) = Blocked (record { share = share-of (h .place .num) (h .place .den); cell = h .cell; code = h .code; reads = h .reads })
-sight-of (NotWalked r) = Refused r
+sight-of (FirstHit.Clear reads) = Clear
+sight-of (FirstHit.Hit h) = Blocked (record { share = share-of (h .place .num) (h .place .den); cell = h .cell; code = h .code; reads = h .reads })
+sight-of (FirstHit.Refused r) = Refused r
 
 -- from the two lookups: "where the camera's point has no cell, its refusal is the answer and the ball is not looked at"
 abbrev pub seen : Counts → List ℕ → Lookup → Lookup → Sight
-seen n l (NoCell r) ball = Refused r
-seen n l (Cell c) (NoCell r) = Refused r
-seen n l (Cell c) (Cell b) = sight-of (first-hit Adaptive n l c b)
+seen n l (Lookup.Refused r) ball = Refused r
+seen n l (Lookup.Cell c) (Lookup.Refused r) = Refused r
+seen n l (Lookup.Cell c) (Lookup.Cell b) = sight-of (first-hit Adaptive n l c b)
 
 -- the two lookups, camera P and ball Q, counts and placement being tested
 unfoldable pub looked : Counts → List ℕ → Placement → Point → Point → Sight
@@ -55,8 +55,13 @@ sight n l at camera ball = by-verdict Refused (looked n l at camera ball) (shape
 pub record Sees (n : Counts) (l : List ℕ) (at : Placement) (camera ball : Point) (r : Sight) : Type 0 where
   pub says : r ≡ sight n l at camera ball
 
--- each case of the answer: what is said of a refusal, nothing, or the block's values
-abbrev pub told-sight : Sight → Told ⊎ (Unit {0} ⊎ Block)
+-- what a sight says: clear, or the block's values
+pub data SightSaid : Type 0 where
+  clear : SightSaid
+  blocked : Block → SightSaid
+
+-- each case of the answer: what is said of a refusal, or what the sight says
+abbrev pub told-sight : Sight → Told ⊎ SightSaid
 told-sight (Refused r) = inl (told r)
-told-sight Clear = inr (inl tt)
-told-sight (Blocked b) = inr (inr b)
+told-sight Clear = inr clear
+told-sight (Blocked b) = inr (blocked b)

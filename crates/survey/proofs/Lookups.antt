@@ -9,7 +9,7 @@ use Rattle.cells.specs.declared.End.{End}
 use Rattle.cells.specs.declared.End.the-variants.{P}
 use Rattle.cells.specs.declared.Refusal.{Refusal}
 use Rattle.cells.specs.declared.Verdict.{Verdict}
-use Rattle.cells.specs.declared.Verdict.the-variants.{Fine, Refused as Fails}
+use Rattle.cells.specs.declared.Verdict.the-variants as Verdict
 use Rattle.cells.specs.Checks.{_then_, by-verdict}
 use Rattle.survey.specs.declared.Lookup.{Lookup}
 use Rattle.survey.specs.declared.Lookup.the-variants.{Cell, Refused}
@@ -28,13 +28,13 @@ module _ (e : End) (n : Counts) (at : Placement) (p : Point) where
   verdict-is : {q : Point} {v w : Verdict} → q ≡ quotients at p → v ≡ point-check e n p q → v ≡ w → point-check e n p (quotients at p) ≡ w
   verdict-is hq hv h = ap (point-check e n p) (sym hq) ∙ sym hv ∙ h
 
-  pub lookup-inside : {q : Point} {v : Verdict} → Tested n at → q ≡ quotients at p → v ≡ point-check e n p q → v ≡ Fine → AllInside n q
+  pub lookup-inside : {q : Point} {v : Verdict} → Tested n at → q ≡ quotients at p → v ≡ point-check e n p q → v ≡ Verdict.Fine → AllInside n q
   lookup-inside t hq hv h = subst (AllInside n) (sym hq) (point-inside e n at p t (verdict-is hq hv h))
 
-  pub lookup-refused : {q : Point} {v : Verdict} {r : Refusal} → q ≡ quotients at p → v ≡ point-check e n p q → v ≡ Fails r → look-up e n at p ≡ Refused r
+  pub lookup-refused : {q : Point} {v : Verdict} {r : Refusal} → q ≡ quotients at p → v ≡ point-check e n p q → v ≡ Verdict.Refused r → look-up e n at p ≡ Refused r
   lookup-refused hq hv h = look-up-is ∙ ap (by-verdict Refused (Cell (cell-at n (quotients at p)))) (verdict-is hq hv h)
 
-  pub lookup-found : {q : Point} {v : Verdict} {c : cell.Cell} → q ≡ quotients at p → v ≡ point-check e n p q → v ≡ Fine → c ≡ cell-at n q → look-up e n at p ≡ Cell c
+  pub lookup-found : {q : Point} {v : Verdict} {c : cell.Cell} → q ≡ quotients at p → v ≡ point-check e n p q → v ≡ Verdict.Fine → c ≡ cell-at n q → look-up e n at p ≡ Cell c
   lookup-found hq hv h hc =
       look-up-is ∙ ap (by-verdict Refused (Cell (cell-at n (quotients at p)))) (verdict-is hq hv h) ∙
       ap (λ q. Cell (cell-at n q)) (sym hq) ∙ ap Cell (sym hc)
@@ -47,15 +47,15 @@ module _ (n : Counts) (at : Placement) (p : Point) where
   tests-are : {u v w x : Verdict} → u ≡ count-check n → v ≡ placement-check at → w ≡ (u then v) → w ≡ x → (count-check n then placement-check at) ≡ x
   tests-are hu hv hw h = ap₂ (λ u v. u then v) (sym hu) (sym hv) ∙ sym hw ∙ h
 
-  pub cell-tested : {u v w : Verdict} → u ≡ count-check n → v ≡ placement-check at → w ≡ (u then v) → w ≡ Fine → Tested n at
+  pub cell-tested : {u v w : Verdict} → u ≡ count-check n → v ≡ placement-check at → w ≡ (u then v) → w ≡ Verdict.Fine → Tested n at
   cell-tested hu hv hw h =
       let (counts, placed) = each-fine _ _ (tests-are hu hv hw h) in
       record { counts = counts; placed = placed }
 
-  pub cell-refused : {u v w : Verdict} {r : Refusal} → u ≡ count-check n → v ≡ placement-check at → w ≡ (u then v) → w ≡ Fails r → cell-of n at p ≡ Refused r
+  pub cell-refused : {u v w : Verdict} {r : Refusal} → u ≡ count-check n → v ≡ placement-check at → w ≡ (u then v) → w ≡ Verdict.Refused r → cell-of n at p ≡ Refused r
   cell-refused hu hv hw h = cell-of-is ∙ ap (by-verdict Refused (look-up P n at p)) (tests-are hu hv hw h)
 
-  pub cell-looked-up : {u v w : Verdict} {l : Lookup} → u ≡ count-check n → v ≡ placement-check at → w ≡ (u then v) → w ≡ Fine → l ≡ look-up P n at p → cell-of n at p ≡ l
+  pub cell-looked-up : {u v w : Verdict} {l : Lookup} → u ≡ count-check n → v ≡ placement-check at → w ≡ (u then v) → w ≡ Verdict.Fine → l ≡ look-up P n at p → cell-of n at p ≡ l
   cell-looked-up hu hv hw h hl = cell-of-is ∙ ap (by-verdict Refused (look-up P n at p)) (tests-are hu hv hw h) ∙ sym hl
 
 -- ---- an answer that is a cell
@@ -78,5 +78,5 @@ cell-given n at p c h =
     let (inside, same) = look-given P n at p c tested looked in
     (tested, inside, same)
 
-pub cell-found : (n : Counts) (at : Placement) (p : Point) → Tested n at → point-check P n p (quotients at p) ≡ Fine → cell-of n at p ≡ Cell (cell-at n (quotients at p))
+pub cell-found : (n : Counts) (at : Placement) (p : Point) → Tested n at → point-check P n p (quotients at p) ≡ Verdict.Fine → cell-of n at p ≡ Cell (cell-at n (quotients at p))
 cell-found n at p t h = cell-looked-up n at p (sym (t .counts)) (sym (t .placed)) refl refl (sym (lookup-found P n at p refl refl h refl))

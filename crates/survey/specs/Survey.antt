@@ -13,7 +13,7 @@ use Rattle.cells.specs.declared.End.the-variants.{P}
 use Rattle.cells.specs.declared.Cell as cell
 use Rattle.cells.specs.declared.Counts.{Counts}
 use Rattle.cells.specs.declared.Part.the-variants.{OriginX, OriginY, OriginZ, Edge}
-use Rattle.cells.specs.declared.Refusal.the-variants.{NotFinite, OffSurvey, Placement as Misplaced}
+use Rattle.cells.specs.declared.Refusal.the-variants as Refusal
 use Rattle.cells.specs.declared.Verdict.{Verdict}
 use Rattle.cells.specs.declared.Verdict.the-variants.{Fine}
 use Rattle.cells.specs.Checks.{refuse-when, _then_, by-verdict}
@@ -32,10 +32,10 @@ bad-edge e = not (finite e) || not (lt (as-f64 0) e)
 -- refusal 7 (origin x, y, z, edge)
 unfoldable pub placement-check : Placement → Verdict
 placement-check at =
-    refuse-when (not (finite (at .ox))) (Misplaced OriginX) then
-    refuse-when (not (finite (at .oy))) (Misplaced OriginY) then
-    refuse-when (not (finite (at .oz))) (Misplaced OriginZ) then
-    refuse-when (bad-edge (at .edge)) (Misplaced Edge)
+    refuse-when (not (finite (at .ox))) (Refusal.Placement OriginX) then
+    refuse-when (not (finite (at .oy))) (Refusal.Placement OriginY) then
+    refuse-when (not (finite (at .oz))) (Refusal.Placement OriginZ) then
+    refuse-when (bad-edge (at .edge)) (Refusal.Placement Edge)
 
 -- counts and placement passed their tests
 pub record Tested (n : Counts) (at : Placement) : Type 0 where
@@ -53,7 +53,7 @@ quotients at p =
 
 -- one axis, a surveyed value with its quotient: 8, then 9
 abbrev pub value-check : End → Axis → ℕ → Float → Float → Verdict
-value-check e a count value q = refuse-when (not (finite value)) (NotFinite e a) then refuse-when (outside count q) (OffSurvey e a)
+value-check e a count value q = refuse-when (not (finite value)) (Refusal.NotFinite e a) then refuse-when (outside count q) (Refusal.OffSurvey e a)
 
 -- a surveyed point with its quotients: "x (8, then 9), y, z"
 unfoldable pub point-check : End → Counts → Point → Point → Verdict

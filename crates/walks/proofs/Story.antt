@@ -22,7 +22,7 @@ use Rattle.cells.specs.Checks.{by-verdict}
 use Rattle.grids.specs.Grid.{byte-of, solid}
 use Rattle.walks.specs.declared.Walker.{Walker}
 use Rattle.walks.specs.declared.Walker.the-variants.{Plain, Adaptive}
-use Rattle.walks.specs.declared.FirstHit.the-variants.{Clear, Hit as Blocked, Refused as NotWalked}
+use Rattle.walks.specs.declared.FirstHit.the-variants as FirstHit
 use Rattle.walks.specs.Walks.{hit-at, six-count, walk-of}
 use Rattle.walks.specs.Answers.{place-by, place-of, last-of, answer-of, first-hit}
 use Rattle.grids.specs.Inside.{walk-check, InGrid}
@@ -42,8 +42,8 @@ module _ (n : Counts) (l : List ℕ) (p q : Cell) where
   answer-is : (cells : List Cell) (e r : ℕ) → e ≤ N → last-of p cells ≡ f e → length cells ≡ r → answer-of n l p q cells ≡ answer-at n l p q e r
   unfolding answer-of place-of
   answer-is cells e r le last many =
-      ap₂ (λ w k. cond (hit-at n l w) (Blocked (record { cell = w; code = byte-of n l w; place = place-of p q w; reads = k })) (Clear k)) last many
-      ∙ ap (λ a. cond (hit-at n l (f e)) (Blocked (record { cell = f e; code = byte-of n l (f e); place = a; reads = r })) (Clear r)) (ap (place-by p q) (six-found p q e le))
+      ap₂ (λ w k. cond (hit-at n l w) (FirstHit.Hit (record { cell = w; code = byte-of n l w; place = place-of p q w; reads = k })) (FirstHit.Clear k)) last many
+      ∙ ap (λ a. cond (hit-at n l (f e)) (FirstHit.Hit (record { cell = f e; code = byte-of n l (f e); place = a; reads = r })) (FirstHit.Clear r)) (ap (place-by p q) (six-found p q e le))
 
   walk-ended : (k : Walker) → Ended (solid-at n l p q) N (step n l p q k) (step-rises n l p q k) 0 (end-of n l p q k) (reads-of n l p q k)
   walk-ended k = ended (solid-at n l p q) N (step n l p q k) (step-rises n l p q k) (six-count p q) 0 (omega arith) (omega arith)
@@ -51,9 +51,9 @@ module _ (n : Counts) (l : List ℕ) (p q : Cell) where
   pub end-below : (k : Walker) → end-of n l p q k ≤ N
   end-below k = walk-ended k .most
 
-  pub first-hit-is : (k : Walker) → first-hit k n l p q ≡ by-verdict NotWalked (answer-at n l p q (end-of n l p q k) (reads-of n l p q k)) (walk-check n (length l) p q)
+  pub first-hit-is : (k : Walker) → first-hit k n l p q ≡ by-verdict FirstHit.Refused (answer-at n l p q (end-of n l p q k) (reads-of n l p q k)) (walk-check n (length l) p q)
   unfolding first-hit
-  first-hit-is k = ap (λ a. by-verdict NotWalked a (walk-check n (length l) p q)) (answer-is (walk-of k n l p q) _ _ (end-below k) (walk-last n l p q k p) (walk-length n l p q k))
+  first-hit-is k = ap (λ a. by-verdict FirstHit.Refused a (walk-check n (length l) p q)) (answer-is (walk-of k n l p q) _ _ (end-below k) (walk-last n l p q k p) (walk-length n l p q k))
 
   -- ---- no walk runs out: its last cell is solid, or Q
 

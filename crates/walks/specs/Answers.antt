@@ -23,7 +23,7 @@ use Rattle.walks.specs.declared.Walker.{Walker}
 use Rattle.walks.specs.declared.Place.{Place}
 use Rattle.walks.specs.declared.Hit.{Hit}
 use Rattle.walks.specs.declared.FirstHit.{FirstHit}
-use Rattle.walks.specs.declared.FirstHit.the-variants.{Clear, Hit as Blocked, Refused as NotWalked}
+use Rattle.walks.specs.declared.FirstHit.the-variants as FirstHit
 use Rattle.walks.specs.Walks.{hit-at, number-of, six-count, walk-of}
 use Rattle.grids.specs.Inside.{walk-check}
 
@@ -60,21 +60,26 @@ unfolding place-of
 answer-of n l p q cells =
     let w : Cell = last-of p cells in
     cond (hit-at n l w)
-    (Blocked (record { cell = w; code = byte-of n l w; place = place-of p q w; reads = length cells }))
-    (Clear (length cells))
+    (FirstHit.Hit (record { cell = w; code = byte-of n l w; place = place-of p q w; reads = length cells }))
+    (FirstHit.Clear (length cells))
 
 -- ---- the calls, by their walk
 
 unfoldable pub first-hit : Walker → Counts → List ℕ → Cell → Cell → FirstHit
 unfolding walk-check answer-of walk-of
-first-hit k n l p q = by-verdict NotWalked (answer-of n l p q (walk-of k n l p q)) (walk-check n (length l) p q)
+first-hit k n l p q = by-verdict FirstHit.Refused (answer-of n l p q (walk-of k n l p q)) (walk-check n (length l) p q)
 
 -- their contract
 pub record Finds (k : Walker) (n : Counts) (l : List ℕ) (p q : Cell) (r : FirstHit) : Type 0 where
   pub says : r ≡ first-hit k n l p q
 
--- each case of the answer: what is said of a refusal, the reads, or the hit's values
-abbrev pub told-hit : FirstHit → Told ⊎ (ℕ ⊎ Hit)
-told-hit (NotWalked r) = inl (told r)
-told-hit (Clear reads) = inr (inl reads)
-told-hit (Blocked h) = inr (inr h)
+-- what a walk that was made says: clear with its reads, or the hit's values
+pub data WalkSaid : Type 0 where
+  clear : (reads : ℕ) → WalkSaid
+  hit : Hit → WalkSaid
+
+-- each case of the answer: what is said of a refusal, or what the walk says
+abbrev pub told-hit : FirstHit → Told ⊎ WalkSaid
+told-hit (FirstHit.Refused r) = inl (told r)
+told-hit (FirstHit.Clear reads) = inr (clear reads)
+told-hit (FirstHit.Hit h) = inr (hit h)

@@ -15,7 +15,7 @@ use Rattle.grids.specs.Grid.{byte-of, clear}
 use Rattle.walks.specs.declared.Walker.{Walker}
 use Rattle.walks.specs.declared.Walker.the-variants.{Plain, Adaptive}
 use Rattle.walks.specs.declared.FirstHit.{FirstHit}
-use Rattle.walks.specs.declared.FirstHit.the-variants.{Clear, Hit as Blocked}
+use Rattle.walks.specs.declared.FirstHit.the-variants as FirstHit
 use Rattle.walks.specs.Walks.{number-of, six-count, count-26, hit-at}
 use Rattle.walks.specs.Answers.{entered-at}
 
@@ -84,5 +84,5 @@ module _ (n : Counts) (l : List ℕ) (p q : Cell) where
   abbrev pub answer-at : ℕ → ℕ → FirstHit
   answer-at e r =
       cond (hit-at n l (six-cell rule-1 p q e))
-      (Blocked (record { cell = six-cell rule-1 p q e; code = byte-of n l (six-cell rule-1 p q e); place = entered-at p q e; reads = r }))
-      (Clear r)
+      (FirstHit.Hit (record { cell = six-cell rule-1 p q e; code = byte-of n l (six-cell rule-1 p q e); place = entered-at p q e; reads = r }))
+      (FirstHit.Clear r)

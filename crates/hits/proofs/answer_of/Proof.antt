@@ -11,7 +11,7 @@ use Rattle.cells.proofs.Machine.{held}
 use Rattle.lines.specs.Lines.{differences}
 use Rattle.tripod.specs.Tripod.{steps}
 use Rattle.grids.specs.Grid.{solid, cell-at}
-use Rattle.walks.specs.declared.FirstHit.the-variants.{Hit as Blocked}
+use Rattle.walks.specs.declared.FirstHit.the-variants as FirstHit
 use Rattle.routes.specs.Route.{byte-of-spot}
 use Rattle.places.specs.Entered.{entered}
 use Rattle.hits.specs.Answer.{answer-from}
@@ -71,7 +71,7 @@ returns-2 c =
     let m = c .before .measured .ensures .0 ∙ ap (differences (s .args .k .p)) (cell-is (c .before .before)) in
     let place = c .place-after .ensures ∙ ap (entered (steps (s .args .k .d))) m in
     rw (solid-is (c .before .before .before .before .before .before) ∙ not-false _ (c .before .before .before .before .before .if1 .left))
-    (λ i. Blocked (record { cell = cell-is (c .before .before) i; code = c .before .before .before .before .before .before .before .byte-at .ensures i; place = place i; reads = s .args .r .reads }))
+    (λ i. FirstHit.Hit (record { cell = cell-is (c .before .before) i; code = c .before .before .before .before .before .before .before .byte-at .ensures i; place = place i; reads = s .args .r .reads }))
 
 pub answer-of-spec : {M : Type 1} → statement M
 answer-of-spec =
