@@ -18,7 +18,8 @@ tabulate-at f zero k d h = absurd (omega arith)
 tabulate-at f (suc n) k d h = go (eq-or-lt-of-le {n = k} {m = n} (omega arith)) (tabulate-at f n k d)
   where
     go : (k ≡ n) ⊎ (k < n) → (k < n → getD (tabulate f n) k d ≡ f k) → getD (tabulate f n ++ (f n ∷ [])) k d ≡ f k
-    go (inl e) ih = ap (λ (j : ℕ). getD (tabulate f n ++ (f n ∷ [])) j d) (e ∙ sym (tabulate-length f n)) ∙ getD-append-seam (tabulate f n) (f n) [] d ∙ ap f (sym e)
+    go (inl e) ih = ap (λ (j : ℕ). getD (tabulate f n ++ (f n ∷ [])) j d) (e ∙ sym (tabulate-length f n))
+        ∙ getD-append-seam (tabulate f n) (f n) [] d ∙ ap f (sym e)
     go (inr l) ih = List·getD-append (tabulate f n) (f n ∷ []) d k (subst (λ (m : ℕ). k < m) (sym (tabulate-length f n)) l) ∙ ih l
 
 -- a list that is f at each index below its length n

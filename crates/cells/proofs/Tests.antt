@@ -74,7 +74,8 @@ _next_ h k = next-if h (λ none. k)
 -- ---- an answer by a verdict
 
 module _ {A B : Type 0} (tell : A → Told ⊎ B) (answer : Verdict → A) (refusing : (r : Refusal) → tell (answer (Refused r)) ≡ inl (told r)) where
-  pub answered : {tests : Tests} {v : Verdict} {r : A} → Judges tests v → (v ≡ Fine → (w : B) × (tell (answer Fine) ≡ inr w)) → r ≡ answer v → ByTests tests (tell r)
+  pub answered : {tests : Tests} {v : Verdict} {r : A} → Judges tests v → (v ≡ Fine → (w : B) × (tell (answer Fine) ≡ inr w)) → r ≡ answer v →
+      ByTests tests (tell r)
   answered {tests} {v} {r} h fine is = go v h fine is
     where
       go : (v : Verdict) → Judges tests v → (v ≡ Fine → (w : B) × (tell (answer Fine) ≡ inr w)) → r ≡ answer v → ByTests tests (tell r)

@@ -28,7 +28,8 @@ touching-iff k c d = (told, says)
         let (some, most) = and-both _ _ far in
         record { by-one = by-one x y z; differing = leb-true _ _ some; within = leb-true _ _ most }
       where
-        by-one : leb (apart (c .x) (d .x)) 1 ≡ true → leb (apart (c .y) (d .y)) 1 ≡ true → leb (apart (c .z) (d .z)) 1 ≡ true → (a : Axis) → apart (on c a) (on d a) ≤ 1
+        by-one : leb (apart (c .x) (d .x)) 1 ≡ true → leb (apart (c .y) (d .y)) 1 ≡ true → leb (apart (c .z) (d .z)) 1 ≡ true → (a : Axis) →
+            apart (on c a) (on d a) ≤ 1
         by-one x y z X = leb-true _ _ x
         by-one x y z Y = leb-true _ _ y
         by-one x y z Z = leb-true _ _ z

@@ -70,13 +70,15 @@ pub refused-untouched : RefusedUntouched
 refused-untouched =
     record {
       lines = λ line p q entry r exit h.
-          untouched (λ f. f .said) (λ v. flat-listed (by-verdict Listed.Refused (Listed.Cells (length line)) v)) (by-verdict (λ x. entry) (filled line entry)) refl (λ x. refl)
+          untouched (λ f. f .said) (λ v. flat-listed (by-verdict Listed.Refused (Listed.Cells (length line)) v))
+          (by-verdict (λ x. entry) (filled line entry)) refl (λ x. refl)
           (list-check p q (length line) (length entry)) (h .flat ∙ ap flat-listed (h .meets .says)) (h .meets .holds);
       mark = λ n entry r exit h.
           untouched (λ f. f .said) flat-verdict (by-verdict (λ x. entry) (marked 3 n entry)) refl (λ x. refl) (shape n (length entry))
           (h .flat ∙ ap flat-verdict (h .meets .says)) (h .meets .holds);
       written = λ n cells entry r exit h.
-          untouched (λ f. f .said) (λ v. flat-written (by-verdict Written.Refused (Written.Wrote (record-length n)) v)) (by-verdict (λ x. entry) (after-writing n cells entry)) refl (λ x. refl)
+          untouched (λ f. f .said) (λ v. flat-written (by-verdict Written.Refused (Written.Wrote (record-length n)) v))
+          (by-verdict (λ x. entry) (after-writing n cells entry)) refl (λ x. refl)
           (write-check n (length cells) (length entry)) (h .flat ∙ ap flat-written (h .meets .says)) (h .meets .holds);
     }
 

@@ -48,8 +48,18 @@ numbered n bytes fine =
     record {
       counts = (s .x .some, s .x .most, s .y .some, s .y .most, s .z .some, s .z .most);
       bytes-are = s .bytes-are;
-      inside = λ i h. (i % n .nx, i / n .nx % n .ny, i / (n .nx * n .ny), (x-below n bytes s i h, y-below n bytes s i h, z-below n bytes s i h), index-of-cell n i, refl);
-      every = λ x y z h. (subst (λ (t : ℕ). index n x y z < t) (sym (s .bytes-are)) (index-below n x y z (h .0) (h .1) (h .2)), cell-at-index n x y z (h .0) (h .1));
+      inside = λ i h. (
+        i % n .nx,
+        i / n .nx % n .ny,
+        i / (n .nx * n .ny),
+        (x-below n bytes s i h, y-below n bytes s i h, z-below n bytes s i h),
+        index-of-cell n i,
+        refl,
+      );
+      every = λ x y z h. (
+        subst (λ (t : ℕ). index n x y z < t) (sym (s .bytes-are)) (index-below n x y z (h .0) (h .1) (h .2)),
+        cell-at-index n x y z (h .0) (h .1),
+      );
     }
   where
     s : Shaped n bytes
@@ -101,7 +111,8 @@ which false false e = refl
 which true false e = absurd (let z : _≡_ {A = ℕ} 0 1 = cc in omega arith)
 which false true e = absurd (let z : _≡_ {A = ℕ} 0 1 = cc in omega arith)
 
-answered : (v : Verdict) (n : Counts) (l : List ℕ) (t : Bool) → yes-or-no t ≡ by-verdict Completeness.Refused (yes-or-no (complete 3 n l)) v → complete 3 n l ≡ t
+answered : (v : Verdict) (n : Counts) (l : List ℕ) (t : Bool) → yes-or-no t ≡ by-verdict Completeness.Refused (yes-or-no (complete 3 n l)) v →
+    complete 3 n l ≡ t
 answered Fine n l t e = which (complete 3 n l) t e
 answered (Refused r) n l true e = absurd (let z : _≡_ {A = ℕ} 0 1 = cc in omega arith)
 answered (Refused r) n l false e = absurd (let z : _≡_ {A = ℕ} 0 1 = cc in omega arith)
@@ -125,7 +136,8 @@ shut-out =
           let z : _≡_ {A = ℕ} 0 8 = ap length (sym none ∙ c .says ∙ ap (λ (l : List ℕ). layer example-counts l (pos 0)) e) in
           omega arith;
       first-layer = λ cells r e c same.
-          let f : start-of (layer-part two-layers (length (cells .now)) (pos 1)) ≡ 2 = ap (λ (l : List ℕ). start-of (layer-part two-layers (length l) (pos 1))) e in
+          let f : start-of (layer-part two-layers (length (cells .now)) (pos 1)) ≡ 2 = ap
+          (λ (l : List ℕ). start-of (layer-part two-layers (length l) (pos 1))) e in
           omega (arith, c .there .offset, ap (λ (p : ℕ × ℕ). p .1) same);
       first-part = λ c. let z : _≡_ {A = ℕ} 0 2 = ap start-of (c .says) in omega arith;
       no-part = λ r c. let z : _≡_ {A = ℕ} 0 2 = ap start-of (c .says) in omega arith;

@@ -45,7 +45,8 @@ beyond-limit : (z : ℤ) → (not (in-limit z) ≡ true) ↔ ((z <ℤ negℤ (po
 beyond-limit z = not-and-means (leZ-fails _ z) (leZ-fails z _)
 
 limit-judged : (e : End) (c : cell.Cell) → Judges (limit-tests e c) (end-check e c)
-limit-judged e c = when (beyond-limit (c .x)) (Refusal.Limit e X) next when (beyond-limit (c .y)) (Refusal.Limit e Y) next when (beyond-limit (c .z)) (Refusal.Limit e Z)
+limit-judged e c = when (beyond-limit (c .x)) (Refusal.Limit e X) next when (beyond-limit (c .y)) (Refusal.Limit e Y) next when (beyond-limit (c .z))
+    (Refusal.Limit e Z)
 
 pub line-judged : (p q : cell.Cell) (cells room : ℕ) → Judges (line-tests p q cells room) (list-check p q cells room)
 line-judged p q cells room = (limit-judged P p next limit-judged Q q) next when (ltb-means room (3 * cells)) Refusal.Room
@@ -57,7 +58,8 @@ count-means n = or-means (zero-means n) (ltb-means 1024 n)
 
 pub counts-judged : (n : Counts) → Judges (count-tests n) (count-check n)
 unfolding count-check
-counts-judged n = when (count-means (n .nx)) (Refusal.Count X) next when (count-means (n .ny)) (Refusal.Count Y) next when (count-means (n .nz)) (Refusal.Count Z)
+counts-judged n = when (count-means (n .nx)) (Refusal.Count X) next when (count-means (n .ny)) (Refusal.Count Y) next when (count-means (n .nz))
+    (Refusal.Count Z)
 
 pub shape-judged : (n : Counts) (bytes : ℕ) → Judges (shape-tests n bytes) (shape n bytes)
 unfolding shape

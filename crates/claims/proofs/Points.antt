@@ -37,7 +37,10 @@ one-answer n at p = record { alone = λ r s e f. e .says ∙ sym (f .says) }
 -- ---- the cell
 
 pub only-one : (q : Float) → OnlyOne q
-only-one q = record { only = λ k m small below there i. one-number q m k below (omega arith) i there; part = λ k small there. number-whole-part q k small there }
+only-one q = record {
+  only = λ k m small below there i. one-number q m k below (omega arith) i there;
+  part = λ k small there. number-whole-part q k small there;
+}
 
 -- where q is inside, the definition's number is the coordinate
 coordinate : (count : ℕ) (q : Float) → Inside count q → Coordinate count q (pos (cell-number count q))
@@ -61,7 +64,12 @@ cell-is-at n q c range i = same-cell c (cell-at n q) each
 
 pub the-cell : (n : Counts) (at : Placement) (p : Point) → TheCell n at p
 unfolding look-up
-the-cell n at p = record { given = given; found = λ c t f i. record { says = sym (cell-found n at p t (fine P c t f i) ∙ ap Cell (sym (is-at c t i))) }; end-given = end-given; end-found = end-found }
+the-cell n at p = record {
+  given = given;
+  found = λ c t f i. record { says = sym (cell-found n at p t (fine P c t f i) ∙ ap Cell (sym (is-at c t i))) };
+  end-given = end-given;
+  end-found = end-found;
+}
   where
     -- a cell where all quotients are inside
     in-it : (c : cell.Cell) → AllInside n (quotients at p) → c ≡ cell-at n (quotients at p) → InItsCell n (quotients at p) c
@@ -112,7 +120,22 @@ shares = record { half = refl; third = refl; start = refl }
 
 pub surveyed : Every table
 unfolding cell-of le lt ofInt div sub neg
-surveyed = (refl, (refl, (refl, (refl, (refl, (refl, (refl, (refl, (refl, (refl, (refl, (refl, (refl, (refl, (refl, (refl, (refl, (refl, (refl, (refl, tt))))))))))))))))))))
+surveyed = (
+  refl,
+  (
+    refl,
+    (
+      refl,
+      (
+        refl,
+        (
+          refl,
+          (refl, (refl, (refl, (refl, (refl, (refl, (refl, (refl, (refl, (refl, (refl, (refl, (refl, (refl, (refl, tt))))))))))))))),
+        ),
+      ),
+    ),
+  ),
+)
 
 -- what the definition says at that input
 at-one-and-a-half : told-lookup (cell-of (cube 4) (placement (metres 0) (metres 1)) (point (tenths 15) (metres 0) (metres 0))) ≡ cell-is 1 0 0

@@ -261,7 +261,8 @@ pub five-or-lines : (bytes given : RefT (List ℕ)) (t : List ℕ) (v : Venue) (
 five-or-lines bytes given t v e =
     record {
       pair = λ venue gives read k.
-          by k (rw (gives .says) (record-fits (bytes .now) v (sym (venue .says)) .fine)) (read-said n cells k t e (sym (read .says))) (walk-check n (length cells) p q) refl;
+          by k (rw (gives .says) (record-fits (bytes .now) v (sym (venue .says)) .fine)) (read-said n cells k t e (sym (read .says)))
+          (walk-check n (length cells) p q) refl;
     }
   where
     cells : List ℕ

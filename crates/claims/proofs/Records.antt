@@ -170,7 +170,8 @@ read-back-same n cells entry = record { same = same; in-place = in-place }
         let bytes-are : bytes .now ≡ head-bytes written-version n ++ (cells ++ rest) =
         is ∙ ap (λ l. l ++ rest) (f .front) ∙ append-assoc (head-bytes written-version n) cells rest in
         let long : size n ≡ length cells = sym (shaped n (length cells) (f .fine) .bytes-are) in
-        let back = ap venue-read bytes-are ∙ read-back n cells rest (f .fine) ∙ ap (λ (l : ℕ). Read (record { counts = n; start = cells-from written-version; long = l })) long in
+        let back = ap venue-read bytes-are ∙ read-back n cells rest (f .fine)
+        ∙ ap (λ (l : ℕ). Read (record { counts = n; start = cells-from written-version; long = l })) long in
         record {
           read = reads .says ∙ back;
           same-cells = gives .says ∙ ap venue-cells bytes-are ∙ cells-back n cells rest (f .fine);

@@ -66,7 +66,8 @@ use Rattle.claims.proofs.Judged.{line-judged, counts-judged, shape-judg
 listed-told : (line : List cell.Cell) (p q : cell.Cell) (entry exit : List ℤ) (r : Listed) → Lists line p q entry r exit →
     ByTests (line-tests p q (length line) (length entry)) (told-listed r)
 listed-told line p q entry exit r c =
-    answered told-listed (by-verdict Listed.Refused (Listed.Cells (length line))) (λ r. refl) (line-judged p q (length line) (length entry)) (λ fine. (length line, refl)) (c .says)
+    answered told-listed (by-verdict Listed.Refused (Listed.Cells (length line))) (λ r. refl) (line-judged p q (length line) (length entry))
+    (λ fine. (length line, refl)) (c .says)
 
 pub lines-told : (p q : cell.Cell) (entry exit : List ℤ) (r : Listed) → LinesTold p q entry exit r
 lines-told p q entry exit r =
@@ -92,7 +93,8 @@ yes-or-no-told false = refl
 
 layer-part-told : (n : Counts) (l : List ℕ) (z : ℤ) (r : LayerPart) → GivesLayerPart n (length l) z r → ByTests (layer-tests n (length l) z) (told-part r)
 unfolding layer-part
-layer-part-told n l z r c = answered told-part (by-verdict LayerPart.Refused (LayerPart.Part (layer-start n z) (layer-length n))) (λ r. refl) (layer-judged n (length l) z) (λ fine. (_, refl)) (c .says)
+layer-part-told n l z r c = answered told-part (by-verdict LayerPart.Refused (LayerPart.Part (layer-start n z) (layer-length n))) (λ r. refl)
+    (layer-judged n (length l) z) (λ fine. (_, refl)) (c .says)
 
 -- a refusal is no value
 one-of-two : {A B C : Type 0} {a : A} {b : B} → inl a ≡ inr b → C
@@ -138,7 +140,8 @@ cell-told n at p r c =
     (λ fine. (_, refl))
     (c .says ∙ in-one (count-check n) (placement-check at) (point-check P n p (quotients at p)) (Lookup.Cell (cell-at n (quotients at p))))
   where
-    in-one : (u v w : Verdict) (x : Lookup) → by-verdict Lookup.Refused (by-verdict Lookup.Refused x w) (u then v) ≡ by-verdict Lookup.Refused x (u then v then w)
+    in-one : (u v w : Verdict) (x : Lookup) →
+        by-verdict Lookup.Refused (by-verdict Lookup.Refused x w) (u then v) ≡ by-verdict Lookup.Refused x (u then v then w)
     in-one (Refused r) v w x = refl
     in-one Fine (Refused r) w x = refl
     in-one Fine Fine w x = refl
@@ -166,7 +169,8 @@ module _ (n : Counts) (l : List ℕ) (at : Placement) (camera ball : Point) wher
   unfolding sight looked look-up
   sight-by = in-one (shape n (length l)) (placement-check at) (point-check P n camera (quotients at camera)) (point-check Q n ball (quotients at ball))
     where
-      in-one : (u v w x : Verdict) → by-verdict Sight.Refused (seen n l (by-verdict Lookup.Refused (Lookup.Cell from) w) (by-verdict Lookup.Refused (Lookup.Cell to) x)) (u then v)
+      in-one : (u v w x : Verdict) → by-verdict Sight.Refused
+          (seen n l (by-verdict Lookup.Refused (Lookup.Cell from) w) (by-verdict Lookup.Refused (Lookup.Cell to) x)) (u then v)
           ≡ by-verdict Sight.Refused (sight-of (first-hit Adaptive n l from to)) (u then v then w then x)
       in-one (Refused r) v w x = refl
       in-one Fine (Refused r) w x = refl
@@ -226,7 +230,9 @@ records-told =
     record {
       read-venue = venue-told;
       venue-cells = cells-told;
-      read-pair = λ s r c. answered told-pair (by-verdict PairRead.Refused (PairRead.Read (pair-in s))) (λ r. refl) (pair-judged s) (λ fine. (_, refl)) (c .says);
+      read-pair = λ s r c. answered told-pair (by-verdict PairRead.Refused (PairRead.Read (pair-in s))) (λ r. refl) (pair-judged s)
+          (λ fine. (_, refl)) (c .says);
       write-venue = λ n cells entry exit r c.
-          answered told-written (by-verdict Written.Refused (Written.Wrote (record-length n))) (λ r. refl) (write-judged n (length cells) (length entry)) (λ fine. (_, refl)) (c .says);
+          answered told-written (by-verdict Written.Refused (Written.Wrote (record-length n))) (λ r. refl)
+          (write-judged n (length cells) (length entry)) (λ fine. (_, refl)) (c .says);
     }

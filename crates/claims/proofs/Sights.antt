@@ -72,7 +72,8 @@ module _ (n : Counts) (l : List ℕ) (at : Placement) (camera ball : Point) wher
   nothing-in-sight =
       record {
         open-way = λ whole sees.
-            let (fine, clear) = by-fine Refused (shape n (length l) then placement-check at) _ not-clear (sym (sight-is n l at camera ball) ∙ sym (sees .says)) in
+            let (fine, clear) = by-fine Refused (shape n (length l) then placement-check at) _ not-clear
+            (sym (sight-is n l at camera ball) ∙ sym (sees .says)) in
             let (c, b, reads, from, to, walk) = seen-clear n l _ _ (sym (looked-is n l at camera ball) ∙ clear) in
             record {
               from = c;
@@ -92,7 +93,8 @@ camera-first n l at camera =
   where
     alike : (r : Refusal) → look-up P n at camera ≡ Lookup.Refused r → (ball : Point) →
         sight n l at camera ball ≡ by-verdict Refused (Refused r) (shape n (length l) then placement-check at)
-    alike r lost ball = sight-is n l at camera ball ∙ ap (λ s. by-verdict Refused s (shape n (length l) then placement-check at)) (camera-refused n l at camera ball (sym lost) refl)
+    alike r lost ball = sight-is n l at camera ball
+        ∙ ap (λ s. by-verdict Refused s (shape n (length l) then placement-check at)) (camera-refused n l at camera ball (sym lost) refl)
 
 -- ---- wrong sights
 

@@ -15,11 +15,13 @@ use Rattle.claims.specs.Program.{example-input, example-output}
 use Rattle.claims.specs.Starred.{Every, no-more, _and_, program-rows, record-rows, sight-rows, table}
 
 pub example-writes : output example-input ≡ example-output
-unfolding beyond output decimal hit-line clear-line shape whole-check venue-version venue-head venue-check venue-read venue-cells signed pair-version pair-length pair-check pair-read first-hit
+unfolding beyond output decimal hit-line clear-line shape whole-check venue-version venue-head venue-check venue-read venue-cells signed pair-version
+    pair-length pair-check pair-read first-hit
 example-writes = refl
 
 programs-hold : Every program-rows
-unfolding beyond output decimal hit-line clear-line shape whole-check venue-version venue-head venue-check venue-read venue-cells signed pair-version pair-length pair-check pair-read first-hit
+unfolding beyond output decimal hit-line clear-line shape whole-check venue-version venue-head venue-check venue-read venue-cells signed pair-version
+    pair-length pair-check pair-read first-hit
 programs-hold = example-writes and refl and no-more
 
 records-hold : Every record-rows

@@ -63,7 +63,9 @@ module _ (n : Counts) (l : List ℕ) (p q : Cell) where
       let a = accepted n (length l) p q fine in
       ends-alike n l p q 3 (omega arith) (a .p-in) (a .q-in) (complete-safe 3 n l (a .shaped) whole)
 
-  same-answers : complete 3 n l ≡ true → (v : Verdict) → check ≡ v → SameStory (by-verdict FirstHit.Refused (answer-at n l p q (end-of n l p q Plain) (reads-of n l p q Plain)) v) (by-verdict FirstHit.Refused (answer-at n l p q (end-of n l p q Adaptive) (reads-of n l p q Adaptive)) v)
+  same-answers : complete 3 n l ≡ true → (v : Verdict) → check ≡ v →
+      SameStory (by-verdict FirstHit.Refused (answer-at n l p q (end-of n l p q Plain) (reads-of n l p q Plain)) v)
+      (by-verdict FirstHit.Refused (answer-at n l p q (end-of n l p q Adaptive) (reads-of n l p q Adaptive)) v)
   same-answers whole (Verdict.Refused r) h = refusals
   same-answers whole Verdict.Fine h =
       let e = alike h whole in
@@ -72,7 +74,8 @@ module _ (n : Counts) (l : List ℕ) (p q : Cell) where
     where
       by :
           (b : Bool) (c : Cell) (code : ℕ) (place : Place) {r s : ℕ} → s ≤ r →
-          SameStory (cond b (FirstHit.Hit (record { cell = c; code = code; place = place; reads = r })) (FirstHit.Clear r)) (cond b (FirstHit.Hit (record { cell = c; code = code; place = place; reads = s })) (FirstHit.Clear s))
+          SameStory (cond b (FirstHit.Hit (record { cell = c; code = code; place = place; reads = r })) (FirstHit.Clear r))
+          (cond b (FirstHit.Hit (record { cell = c; code = code; place = place; reads = s })) (FirstHit.Clear s))
       by true c code place le = hits refl refl refl le
       by false c code place le = clears le
 
@@ -87,7 +90,8 @@ module _ (n : Counts) (l : List ℕ) (p q : Cell) where
 
   -- an answer that is a hit is the hit at the walk's end
   hit-told : (v : Verdict) (k : Hit) (e r : ℕ) → FirstHit.Hit k ≡ by-verdict FirstHit.Refused (answer-at n l p q e r) v →
-      (v ≡ Verdict.Fine) × (hit-at n l (six-cell rule-1 p q e) ≡ true) × (k ≡ record { cell = six-cell rule-1 p q e; code = byte-of n l (six-cell rule-1 p q e); place = entered-at p q e; reads = r })
+      (v ≡ Verdict.Fine) × (hit-at n l (six-cell rule-1 p q e) ≡ true) ×
+      (k ≡ record { cell = six-cell rule-1 p q e; code = byte-of n l (six-cell rule-1 p q e); place = entered-at p q e; reads = r })
   unfolding kind hit-or
   hit-told (Verdict.Refused x) k e r h = absurd (let z : _≡_ {A = ℕ} 0 2 = ap kind h in omega arith)
   hit-told Verdict.Fine k e r h = by (hit-at n l (six-cell rule-1 p q e)) refl h
@@ -95,12 +99,14 @@ module _ (n : Counts) (l : List ℕ) (p q : Cell) where
       there : Hit
       there = record { cell = six-cell rule-1 p q e; code = byte-of n l (six-cell rule-1 p q e); place = entered-at p q e; reads = r }
 
-      by : (b : Bool) → hit-at n l (six-cell rule-1 p q e) ≡ b → FirstHit.Hit k ≡ cond b (FirstHit.Hit there) (FirstHit.Clear r) → (Verdict.Fine ≡ Verdict.Fine) × (hit-at n l (six-cell rule-1 p q e) ≡ true) × (k ≡ there)
+      by : (b : Bool) → hit-at n l (six-cell rule-1 p q e) ≡ b → FirstHit.Hit k ≡ cond b (FirstHit.Hit there) (FirstHit.Clear r) →
+          (Verdict.Fine ≡ Verdict.Fine) × (hit-at n l (six-cell rule-1 p q e) ≡ true) × (k ≡ there)
       by true b h = (refl, b, ap (hit-or k) h)
       by false b h = absurd (let z : _≡_ {A = ℕ} 0 1 = ap kind h in omega arith)
 
   -- an answer that is clear is so at the walk's end
-  clear-told : (v : Verdict) (k e r : ℕ) → FirstHit.Clear k ≡ by-verdict FirstHit.Refused (answer-at n l p q e r) v → (v ≡ Verdict.Fine) × (hit-at n l (six-cell rule-1 p q e) ≡ false) × (k ≡ r)
+  clear-told : (v : Verdict) (k e r : ℕ) → FirstHit.Clear k ≡ by-verdict FirstHit.Refused (answer-at n l p q e r) v →
+      (v ≡ Verdict.Fine) × (hit-at n l (six-cell rule-1 p q e) ≡ false) × (k ≡ r)
   unfolding kind reads-or
   clear-told (Verdict.Refused x) k e r h = absurd (let z : _≡_ {A = ℕ} 1 2 = ap kind h in omega arith)
   clear-told Verdict.Fine k e r h = by _ (hit-at n l (six-cell rule-1 p q e)) refl h
@@ -111,7 +117,8 @@ module _ (n : Counts) (l : List ℕ) (p q : Cell) where
       by there true b h = absurd (let z : _≡_ {A = ℕ} 1 0 = ap kind h in omega arith)
       by there false b h = (refl, b, ap (reads-or k) h)
 
-  inside-at : (h : Hit) (e r : ℕ) → e ≤ total (differences p q) → FirstHit.Hit h ≡ by-verdict FirstHit.Refused (answer-at n l p q e r) check → InGrid n (h .cell)
+  inside-at : (h : Hit) (e r : ℕ) → e ≤ total (differences p q) → FirstHit.Hit h ≡ by-verdict FirstHit.Refused (answer-at n l p q e r) check →
+      InGrid n (h .cell)
   inside-at h e r le is =
       let (fine, hit, there) = hit-told check h e r is in
       let a = accepted n (length l) p q fine in
@@ -126,7 +133,8 @@ module _ (n : Counts) (l : List ℕ) (p q : Cell) where
   pub hit-place : HitPlace n l p q
   hit-place = record { there = λ w h a. at h (end-of n l p q w) (reads-of n l p q w) (end-below n l p q w) (a .says ∙ first-hit-is n l p q w) }
     where
-      at : (h : Hit) (e r : ℕ) → e ≤ total (differences p q) → FirstHit.Hit h ≡ by-verdict FirstHit.Refused (answer-at n l p q e r) check → (s : ℕ) × OnTheLine n l p q h s
+      at : (h : Hit) (e r : ℕ) → e ≤ total (differences p q) → FirstHit.Hit h ≡ by-verdict FirstHit.Refused (answer-at n l p q e r) check →
+          (s : ℕ) × OnTheLine n l p q h s
       at h e r le is =
           let (fine, hit, there) = hit-told check h e r is in
           let cell = ap (λ k. k .cell) there in
@@ -152,7 +160,11 @@ module _ (n : Counts) (l : List ℕ) (p q : Cell) where
                 cell = ap (λ k. k .cell) there;
                 solid-there = hit;
                 none-before = plain-first (solid-at n l p q) (total (differences p q)) suc (by-one (total (differences p q)));
-                reads = omega (arith, ap (λ k. k .reads) there, visits-all (solid-at n l p q) (total (differences p q)) (six-count p q) 0 (omega arith) (omega arith));
+                reads = omega (
+                  arith,
+                  ap (λ k. k .reads) there,
+                  visits-all (solid-at n l p q) (total (differences p q)) (six-count p q) 0 (omega arith) (omega arith),
+                );
               },
             );
         none = λ reads a.
@@ -165,10 +177,18 @@ module _ (n : Counts) (l : List ℕ) (p q : Cell) where
       record {
         plain-too = λ k rp ha hp.
             let (fine, hit, is) = hit-told check k (end-of n l p q Adaptive) (reads-of n l p q Adaptive) (ha .says ∙ first-hit-is n l p q Adaptive) in
-            let there : Hit = record { cell = six-cell rule-1 p q (end-of n l p q Plain); code = byte-of n l (six-cell rule-1 p q (end-of n l p q Plain)); place = entered-at p q (end-of n l p q Plain); reads = reads-of n l p q Plain } in (
+            let there : Hit = record {
+              cell = six-cell rule-1 p q (end-of n l p q Plain);
+              code = byte-of n l (six-cell rule-1 p q (end-of n l p q Plain));
+              place = entered-at p q (end-of n l p q Plain);
+              reads = reads-of n l p q Plain;
+            } in (
               there,
-              hp .says ∙ first-hit-is n l p q Plain ∙ ap (by-verdict FirstHit.Refused (answer-at n l p q (end-of n l p q Plain) (reads-of n l p q Plain))) fine ∙ ap (λ b. cond b (FirstHit.Hit there) (FirstHit.Clear (reads-of n l p q Plain))) (not-invented n l p q hit),
-              subst (λ h. there .place .num * h .place .den ≤ h .place .num * there .place .den) (sym is) (never-falls p q (end-of n l p q Plain) (end-of n l p q Adaptive) (no-earlier n l p q) (end-below n l p q Adaptive)),
+              hp .says ∙ first-hit-is n l p q Plain ∙ ap
+                  (by-verdict FirstHit.Refused (answer-at n l p q (end-of n l p q Plain) (reads-of n l p q Plain))) fine
+                  ∙ ap (λ b. cond b (FirstHit.Hit there) (FirstHit.Clear (reads-of n l p q Plain))) (not-invented n l p q hit),
+              subst (λ h. there .place .num * h .place .den ≤ h .place .num * there .place .den) (sym is)
+                  (never-falls p q (end-of n l p q Plain) (end-of n l p q Adaptive) (no-earlier n l p q) (end-below n l p q Adaptive)),
               record {
                 of-c = end-of n l p q Plain;
                 of-d = end-of n l p q Adaptive;
@@ -212,7 +232,11 @@ module _ (n : Counts) (l : List ℕ) (p q : Cell) where
 -- ---- mark, then walk
 
 pub marked-first : (n : Counts) (l exit : List ℕ) → MarkedFirst n l exit
-marked-first n l exit = record { premise = λ m. ap (complete 3 n) (m .holds ∙ ap (by-verdict (λ s. l) (marked 3 n l)) (sym (m .says))) ∙ marked-complete 3 n l; asked = says-complete n l .yes }
+marked-first n l exit = record {
+  premise = λ m. ap (complete 3 n) (m .holds ∙ ap (by-verdict (λ s. l) (marked 3 n l)) (sym (m .says)))
+      ∙ marked-complete 3 n l;
+  asked = says-complete n l .yes;
+}
 
 -- ---- wrong walks
 
@@ -228,5 +252,7 @@ wrong-walks =
       adaptive-always-clear = λ reads h. absurd (let z : _≡_ {A = ℕ} 1 0 = ap kind (h .says) in omega arith);
       reads-made-up = λ reads h. ap (reads-or 0) (h .says);
       long-at-any-clear = λ h. absurd (let z : _≡_ {A = ℕ} 3 4 = ap (reads-or 0) (h .says) in omega arith);
-      place-of-first-face = λ h. absurd (let z : _≡_ {A = ℕ} 1 3 = ap (λ a. hit-or (record { cell = record { x = pos 0; y = pos 0; z = pos 0 }; code = 0; place = record { num = 0; den = 1 }; reads = 0 }) a .place .num) (h .says) in omega arith);
+      place-of-first-face = λ h. absurd (let z : _≡_ {A = ℕ} 1 3 = ap
+          (λ a. hit-or (record { cell = record { x = pos 0; y = pos 0; z = pos 0 }; code = 0; place = record { num = 0; den = 1 }; reads = 0 }) a
+          .place .num) (h .says) in omega arith);
     }

@@ -32,7 +32,10 @@ unfolding six-line
 of-lines =
     record {
       share = record { some = lit< tt; most = omega arith };
-      centre-of-p = record { from = λ a. elim a [ X ↦ record { lt = tt } | Y ↦ record { lt = tt } | Z ↦ record { lt = tt } ]; upto = λ a. elim a [ X ↦ record { lt = tt } | Y ↦ record { lt = tt } | Z ↦ record { lt = tt } ] };
+      centre-of-p = record {
+        from = λ a. elim a [ X ↦ record { lt = tt } | Y ↦ record { lt = tt } | Z ↦ record { lt = tt } ];
+        upto = λ a. elim a [ X ↦ record { lt = tt } | Y ↦ record { lt = tt } | Z ↦ record { lt = tt } ];
+      };
       limits = longest-list .accepted;
       in-order = one-place rule-1 steps-there .there 2 (omega arith) .0;
       last-made = entered rule-1 steps-there .by-last 1 (omega arith);
@@ -51,7 +54,10 @@ of-grids =
       says-yes = record { says = refl };
       says-no = record { says = refl };
       part = record { says = refl };
-      layer = λ cells e. record { says = e ∙ ap (λ (l : List ℕ). layer example-counts l (pos 0)) (sym e); there = record { block = refl; offset = rw e (omega arith) } };
+      layer = λ cells e. record {
+        says = e ∙ ap (λ (l : List ℕ). layer example-counts l (pos 0)) (sym e);
+        there = record { block = refl; offset = rw e (omega arith) };
+      };
       plain-hits = record { says = refl };
       adaptive-hits = record { says = refl };
       clear-marks = refl;

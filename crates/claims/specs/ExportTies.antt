@@ -24,7 +24,8 @@ use Rattle.oatmarten.proofs.oat_write_venue.Reads as write-venue
 -- what each call promises
 pub record ExportsPromised : Type 1 where
   pub of-line6 : (κs : _) (a : _) (r : _) (e : _) → line6.Post κs a r e → FlatLine6 (as-cell (a .0)) (as-cell (a .1 .0)) (a .1 .1 .0 .now) r (e .1 .1 .0 .now)
-  pub of-line26 : (κs : _) (a : _) (r : _) (e : _) → line26.Post κs a r e → FlatLine26 (as-cell (a .0)) (as-cell (a .1 .0)) (a .1 .1 .0 .now) r (e .1 .1 .0 .now)
+  pub of-line26 : (κs : _) (a : _) (r : _) (e : _) → line26.Post κs a r e →
+      FlatLine26 (as-cell (a .0)) (as-cell (a .1 .0)) (a .1 .1 .0 .now) r (e .1 .1 .0 .now)
   pub of-mark : (κs : _) (a : _) (r : _) (e : _) → mark.Post κs a r e → FlatMarks (as-counts (a .0)) (a .1 .0 .now) r (e .1 .0 .now)
   pub of-complete : (κs : _) (a : _) (r : _) (e : _) → complete.Post κs a r e → FlatCompletes (as-counts (a .0)) (a .1 .0 .now) r
   pub of-layer : (κs : _) (a : _) (r : _) (e : _) → layer.Post κs a r e → FlatGivesLayerPart (as-counts (a .0)) (length (a .1 .0 .now)) (a .1 .1 .0) r

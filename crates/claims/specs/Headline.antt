@@ -59,7 +59,8 @@ pub record AreThePapers : Type 0 where
   pub none-missing : (p q : Cell) (k d : ℕ) (c : Cell) → Share k d → InOpen p q k d c → (n : ℕ) × (n ≤ total (differences p q)) × (six-cell rule-1 p q n ≡ c)
   pub twenty-six : (p q : Cell) → TwentySixLine rule-1 p q
   pub plain : (n : Counts) (l : List ℕ) (p q : Cell) → FirstSolid n l p q
-  pub read-back : (n : Counts) (cells entry exit : List ℕ) (k : ℕ) → WritesVenue n cells entry (Wrote k) exit → (rest : List ℕ) (bytes part : RefT (List ℕ)) (r : VenueRead) →
+  pub read-back : (n : Counts) (cells entry exit : List ℕ) (k : ℕ) → WritesVenue n cells entry (Wrote k) exit →
+      (rest : List ℕ) (bytes part : RefT (List ℕ)) (r : VenueRead) →
       bytes .now ≡ take k exit ++ rest → ReadsVenue (bytes .now) r → GivesCells bytes part → records.SameVenue n cells bytes part r
 
 -- 3. Where the completeness call says yes, the adaptive and the plain walk find the same first solid cell, code and place, or both none, and the
@@ -68,6 +69,8 @@ pub record AreThePapers : Type 0 where
 pub record TellOneStory : Type 0 where
   pub same : (n : Counts) (l : List ℕ) (p q : Cell) → Completes n l Yes → (plain adaptive : FirstHit) → Finds Plain n l p q plain →
       Finds Adaptive n l p q adaptive → SameStory plain adaptive
-  pub clear : (n : Counts) (l : List ℕ) (at : Placement) (camera ball : Point) → Completes n l Yes → Sees n l at camera ball Sight.Clear → OpenWay n l at camera ball
-  pub never-invented : (n : Counts) (l : List ℕ) (p q : Cell) (k : Hit) (plain : FirstHit) → Finds Adaptive n l p q (FirstHit.Hit k) → Finds Plain n l p q plain →
+  pub clear : (n : Counts) (l : List ℕ) (at : Placement) (camera ball : Point) → Completes n l Yes → Sees n l at camera ball Sight.Clear →
+      OpenWay n l at camera ball
+  pub never-invented : (n : Counts) (l : List ℕ) (p q : Cell) (k : Hit) (plain : FirstHit) → Finds Adaptive n l p q (FirstHit.Hit k) →
+      Finds Plain n l p q plain →
       (h : Hit) × (plain ≡ FirstHit.Hit h) × NoLater p q (h .cell) (k .cell)

@@ -39,14 +39,16 @@ pub record NoneMissing (r : Preference) (p q : Cell) : Type 0 where
 -- 4. 26-line cell m is the place of the 6-line after all crossings at fractions up to and including m/M. There are M+1 cells, from P to Q; from one
 -- to the next each axis moves by 0 or 1, the longest by 1.
 pub record TwentySixLine (r : Preference) (p q : Cell) : Type 0 where
-  pub upto : (m : ℕ) → 0 < longest (differences p q) → m ≤ longest (differences p q) → MadeUpto (centres r (differences p q)) m (longest (differences p q)) (place-26 (differences p q) m)
+  pub upto : (m : ℕ) → 0 < longest (differences p q) → m ≤ longest (differences p q) →
+      MadeUpto (centres r (differences p q)) m (longest (differences p q)) (place-26 (differences p q) m)
   pub on-six : (m : ℕ) → m ≤ longest (differences p q) → cell-26 p q m ≡ six-cell r p q (total (place-26 (differences p q) m))
   pub many : length (line-26 p q) ≡ longest (differences p q) + 1
   pub numbered : (m : ℕ) → m ≤ longest (differences p q) → getD (line-26 p q) m p ≡ cell-26 p q m
   pub starts : cell-26 p q 0 ≡ p
   pub ends : cell-26 p q (longest (differences p q)) ≡ q
   pub by-one : (m : ℕ) (a : Axis) → m < longest (differences p q) → apart (on (cell-26 p q m) a) (on (cell-26 p q (m + 1)) a) ≤ 1
-  pub longest-moves : (m : ℕ) (a : Axis) → m < longest (differences p q) → differences p q a ≡ longest (differences p q) → apart (on (cell-26 p q m) a) (on (cell-26 p q (m + 1)) a) ≡ 1
+  pub longest-moves : (m : ℕ) (a : Axis) → m < longest (differences p q) → differences p q a ≡ longest (differences p q) →
+      apart (on (cell-26 p q m) a) (on (cell-26 p q (m + 1)) a) ≡ 1
 
 -- 5. The cells of the 6-line strictly between 26-line cells m and m+1 differ from cell m on one or two axes, by one.
 pub record Skipped (r : Preference) (p q : Cell) : Type 0 where

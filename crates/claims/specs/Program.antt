@@ -33,8 +33,10 @@ pub data Pairs (n : Counts) (cells : List ℕ) : ℕ → List ℕ → List ℕ �
 -- The venue's frame first, and where it is taken the pairs, with the counts and the cells that reading the frame gives.
 pub data Runs : List ℕ → List ℕ → Type 0 where
   ends : {s entry exit : List ℕ} {r : Step} → Says (venue-said (frame venue-most s)) entry r exit → r .next ≡ Over → Runs s (take (r .long) exit)
-  begins : {k : ℕ} {s entry exit out : List ℕ} {bytes cells : RefT (List ℕ)} {r : Step} {v : Venue} → Says (venue-said (frame venue-most s)) entry r exit → r .next ≡ On k
-      → bytes .now ≡ frame venue-most s → ReadsVenue (bytes .now) (Read v) → GivesCells bytes cells → Pairs (v .counts) (cells .now) k (after-frame venue-most s) out
+  begins : {k : ℕ} {s entry exit out : List ℕ} {bytes cells : RefT (List ℕ)} {r : Step} {v : Venue} →
+      Says (venue-said (frame venue-most s)) entry r exit → r .next ≡ On k
+      → bytes .now ≡ frame venue-most s → ReadsVenue (bytes .now) (Read v) → GivesCells bytes cells →
+      Pairs (v .counts) (cells .now) k (after-frame venue-most s) out
       → Runs s (take (r .long) exit ++ out)
 
 -- ---- the claims

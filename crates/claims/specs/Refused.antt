@@ -164,7 +164,8 @@ pub record GridsTold (n : Counts) (l : List ℕ) : Type 0 where
   pub mark : (r : Verdict) (exit : List ℕ) → Marks n l r exit → ByTests (shape-tests n (length l)) (told-verdict r)
   pub complete : (r : Completeness) → Completes n l r → ByTests (shape-tests n (length l)) (told-completeness r)
   pub layer-part : (z : ℤ) (r : LayerPart) → GivesLayerPart n (length l) z r → ByTests (layer-tests n (length l) z) (told-part r)
-  pub layer : (z : ℤ) (cells part : RefT (List ℕ)) → GivesLayer n cells z part → (part .now ≡ []) ↔ ((t : Told) × First (layer-tests n (length (cells .now)) z) t)
+  pub layer : (z : ℤ) (cells part : RefT (List ℕ)) → GivesLayer n cells z part →
+      (part .now ≡ []) ↔ ((t : Told) × First (layer-tests n (length (cells .now)) z) t)
   pub first-hit : (k : Walker) (p q : Cell) (r : FirstHit) → Finds k n l p q r → ByTests (walk-tests n (length l) p q) (told-hit r)
 
 -- surveyed points

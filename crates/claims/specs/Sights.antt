@@ -50,7 +50,8 @@ module _ (n : Counts) (l : List ℕ) (at : Placement) where
 
   -- 4. Where the camera's point has no cell, its refusal is the answer; so the answer does not depend on the ball, whatever else is refused.
   pub record CameraFirst (camera : Point) : Type 0 where
-    pub refusal : (r : Refusal) → shape n (length l) ≡ Fine → placement-check at ≡ Fine → look-up P n at camera ≡ Lookup.Refused r → (ball : Point) (s : Sight) →
+    pub refusal : (r : Refusal) → shape n (length l) ≡ Fine → placement-check at ≡ Fine → look-up P n at camera ≡ Lookup.Refused r →
+        (ball : Point) (s : Sight) →
         Sees n l at camera ball s → s ≡ Refused r
     pub any-ball : (r : Refusal) → look-up P n at camera ≡ Lookup.Refused r → (ball other : Point) (s t : Sight) →
         Sees n l at camera ball s → Sees n l at camera other t → s ≡ t

@@ -68,7 +68,8 @@ pub data Row : Type 0 where
 abbrev pub Holds : Row → Type 0
 Holds (six p q l) = six-line rule-1 p q ≡ l
 Holds (twenty-six p q l) = line-26 p q ≡ l
-Holds (lists p q room says) = told-listed (by-verdict Listed.Refused (Listed.Cells (length (six-line rule-1 p q))) (list-check p q (length (six-line rule-1 p q)) room)) ≡ says
+Holds (lists p q room says) = told-listed
+    (by-verdict Listed.Refused (Listed.Cells (length (six-line rule-1 p q))) (list-check p q (length (six-line rule-1 p q)) room)) ≡ says
 Holds (marks n l m) = marked 3 n l ≡ m
 Holds (finds w n l p q says) = told-hit (first-hit w n l p q) ≡ says
 Holds (venue s n cells) = told-venue (venue-read s) ≡ inr (n, length s - length cells, length cells)

@@ -53,7 +53,8 @@ pub record NeverInvented (n : Counts) (l : List ℕ) (p q : Cell) : Type 0 where
 
 -- 3. Nothing in the way: marks complete and the adaptive answer clear, then no cell whose open inside the segment meets is solid.
 pub record NothingInTheWay (n : Counts) (l : List ℕ) (p q : Cell) : Type 0 where
-  pub open-way : complete 3 n l ≡ true → (reads : ℕ) → Finds Adaptive n l p q (FirstHit.Clear reads) → (k d : ℕ) (c : Cell) → Share k d → InOpen p q k d c → solid (byte-of n l c) ≡ false
+  pub open-way : complete 3 n l ≡ true → (reads : ℕ) → Finds Adaptive n l p q (FirstHit.Clear reads) → (k d : ℕ) (c : Cell) → Share k d →
+      InOpen p q k d c → solid (byte-of n l c) ≡ false
 
 -- 4. With no hit plain reads A+B+C+1 cells, and adaptive between M+1 and A+B+C+1.
 pub record Reads (n : Counts) (l : List ℕ) (p q : Cell) : Type 0 where
@@ -120,7 +121,8 @@ first-face = record { cell = at 2 1 0; code = 2; place = record { num = 1; den =
 pub record WrongWalks : Type 0 where
   pub plain-refuses : (r : Refusal) → Finds Plain example-counts example-cells (at 0 0 0) (at 3 1 0) (FirstHit.Refused r) → ⊥
   pub adaptive-refuses : (r : Refusal) → Finds Adaptive example-counts example-cells (at 0 0 0) (at 3 1 0) (FirstHit.Refused r) → ⊥
-  pub secretly-plain : (r : FirstHit) → Finds Plain example-counts example-cells (at 0 0 0) (at 3 1 0) r → Finds Adaptive example-counts example-cells (at 0 0 0) (at 3 1 0) r → ⊥
+  pub secretly-plain : (r : FirstHit) → Finds Plain example-counts example-cells (at 0 0 0) (at 3 1 0) r →
+      Finds Adaptive example-counts example-cells (at 0 0 0) (at 3 1 0) r → ⊥
   pub plain-in-reads : Finds Adaptive (counts 3 2 1) all-clear (at 0 0 0) (at 2 1 0) (FirstHit.Clear 4) → ⊥
   pub plain-always-clear : (reads : ℕ) → Finds Plain example-counts example-cells (at 0 0 0) (at 3 1 0) (FirstHit.Clear reads) → ⊥
   pub adaptive-always-clear : (reads : ℕ) → Finds Adaptive example-counts marked-cells (at 0 0 0) (at 3 1 0) (FirstHit.Clear reads) → ⊥

@@ -53,7 +53,8 @@ pub record OfLines : Type 0 where
   pub centre-of-p : InOpen (at 0 0 0) (at 2 1 0) 0 1 (at 0 0 0)
   pub limits : InLimit lowest × InLimit highest
   pub in-order : InOrder (centres rule-1 steps-there) (place (centres rule-1 steps-there) 2)
-  pub last-made : LastMade (centres rule-1 steps-there) (place (centres rule-1 steps-there) 2) (next (centres rule-1 steps-there) (place (centres rule-1 steps-there) 1))
+  pub last-made : LastMade (centres rule-1 steps-there) (place (centres rule-1 steps-there) 2)
+      (next (centres rule-1 steps-there) (place (centres rule-1 steps-there) 1))
   -- a list that is written, and one that is refused
   pub listed : Line6 (at 0 0 0) (at 2 1 0) room (Listed.Cells 4) (numbers (at 0 0 0 ∷ at 1 0 0 ∷ at 1 1 0 ∷ at 2 1 0 ∷ []) ++ pos 7 ∷ [])
   pub no-room : Line6 (at 0 0 0) (at 2 1 0) [] (Listed.Refused Room) []
@@ -84,7 +85,8 @@ pub record OfPoints : Type 0 where
   pub in-its-cell : InItsCell (cube 4) (quotients (placement (metres 0) (metres 1)) (point (tenths 15) (metres 0) (tenths 39))) (at 1 0 3)
   pub looked-up : LooksUp (cube 4) (placement (metres 0) (metres 1)) (point (tenths 15) (metres 0) (tenths 39)) (Cell (at 1 0 3))
   -- a clear sight over complete marks
-  pub seen : Sees (counts 3 2 1) all-clear (placement (metres 0) (metres 1)) (point (halves 1) (halves 1) (halves 1)) (point (halves 5) (halves 3) (halves 1)) Sight.Clear
+  pub seen : Sees (counts 3 2 1) all-clear (placement (metres 0) (metres 1)) (point (halves 1) (halves 1) (halves 1))
+      (point (halves 5) (halves 3) (halves 1)) Sight.Clear
 
 pub record OfRecords : Type 0 where
   pub bytes : AllBytes example-venue

@@ -66,11 +66,13 @@ module _ (n : Counts) (l : List ℕ) (s : Shaped n (length l)) where
       }
 
   -- a solid cell beside one that is not solid touches it
-  pub beside-touches : (i : ℕ) → solid (getD l i 0) ≡ false → SolidBeside n l (i % n .nx) (i / n .nx % n .ny) (i / (n .nx * n .ny)) → touches-solid 3 n l (cell-at n i) ≡ true
+  pub beside-touches : (i : ℕ) → solid (getD l i 0) ≡ false → SolidBeside n l (i % n .nx) (i / n .nx % n .ny) (i / (n .nx * n .ny)) →
+      touches-solid 3 n l (cell-at n i) ≡ true
   unfolding touches-solid
   beside-touches i soft b =
       any-some (λ j. solid (getD l j 0) && touching 3 (cell-at n i) (cell-at n j)) (length l) j below
-      (rw (b .is-solid) (touching-iff 3 (cell-at n i) (cell-at n j) .1 (rw (cell-at-index n (b .x′) (b .y′) (b .z′) (b .on-x .inside) (b .on-y .inside)) touch)))
+      (rw (b .is-solid) (touching-iff 3 (cell-at n i) (cell-at n j) .1
+      (rw (cell-at-index n (b .x′) (b .y′) (b .z′) (b .on-x .inside) (b .on-y .inside)) touch)))
     where
       j : ℕ
       j = index n (b .x′) (b .y′) (b .z′)

@@ -69,7 +69,8 @@ module _ (z : ℤ) (count : ℕ) (most : count ≤ 1024) (h : off-axis z count �
 pub byte-below : (n : Counts) (bytes : ℕ) → Shaped n bytes → (c : Cell) → InGrid n c → byte-index n c < bytes
 byte-below n bytes s c h =
     subst (λ b. byte-index n c < b) (sym (s .bytes-are))
-    (index-below n (natAbs (c .x)) (natAbs (c .y)) (natAbs (c .z)) (inside-below (c .x) (n .nx) (h .inside X)) (inside-below (c .y) (n .ny) (h .inside Y)) (inside-below (c .z) (n .nz) (h .inside Z)))
+    (index-below n (natAbs (c .x)) (natAbs (c .y)) (natAbs (c .z)) (inside-below (c .x) (n .nx) (h .inside X))
+    (inside-below (c .y) (n .ny) (h .inside Y)) (inside-below (c .z) (n .nz) (h .inside Z)))
 
 -- a cell of the grid is the cell of its index
 pub record Indexed (n : Counts) (bytes : ℕ) (c : Cell) : Type 0 where
@@ -102,7 +103,8 @@ check-inside e n c h =
     let z = fine-rest (refuse-when (off-axis (c .y) (n .ny)) (OffGrid e Y)) _ yz in
     record { inside = all (passed _ _ x) (passed _ _ y) (passed _ _ z) }
   where
-    all : off-axis (c .x) (n .nx) ≡ false → off-axis (c .y) (n .ny) ≡ false → off-axis (c .z) (n .nz) ≡ false → (a : Axis) → off-axis (on c a) (count-on n a) ≡ false
+    all : off-axis (c .x) (n .nx) ≡ false → off-axis (c .y) (n .ny) ≡ false → off-axis (c .z) (n .nz) ≡ false → (a : Axis) →
+        off-axis (on c a) (count-on n a) ≡ false
     all x y z X = x
     all x y z Y = y
     all x y z Z = z

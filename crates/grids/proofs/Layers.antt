@@ -66,7 +66,8 @@ pub record Named (n : Counts) (bytes start long : ℕ) : Type 0 where
 pub part-named : (n : Counts) (bytes : ℕ) (z : ℤ) (start long : ℕ) → layer-part n bytes z ≡ LayerPart.Part start long → Named n bytes start long
 unfolding layer-part
 part-named n bytes z start long e =
-    let (f, same) = by-fine LayerPart.Refused (layer-check n bytes z) (LayerPart.Part (layer-start n z) (layer-length n)) (λ r no. let z : _≡_ {A = ℕ} 0 1 = cc no in omega arith) e in
+    let (f, same) = by-fine LayerPart.Refused (layer-check n bytes z) (LayerPart.Part (layer-start n z) (layer-length n))
+    (λ r no. let z : _≡_ {A = ℕ} 0 1 = cc no in omega arith) e in
     let a : layer-start n z ≡ start = cc same in
     let b : layer-length n ≡ long = cc same in
     record { within = omega (arith, layer-within n bytes z f); some = omega (arith, layer-shape n bytes z f .layer-some) }

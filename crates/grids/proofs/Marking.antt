@@ -29,7 +29,8 @@ pub touches-same : (k : ℕ) (n : Counts) (a b : List ℕ) (c : Cell) → SameSo
 unfolding touches-solid
 touches-same k n a b c s = any-same _ _ (length a) (λ j h. rw (s .alike j)) ∙ ap (any _) (s .long)
 
-pub marked-byte-is : (k : ℕ) (n : Counts) (l : List ℕ) (i : ℕ) → marked-byte k n l i ≡ cond (solid (getD l i 0)) (getD l i 0) (cond (touches-solid k n l (cell-at n i)) 1 0)
+pub marked-byte-is : (k : ℕ) (n : Counts) (l : List ℕ) (i : ℕ) →
+    marked-byte k n l i ≡ cond (solid (getD l i 0)) (getD l i 0) (cond (touches-solid k n l (cell-at n i)) 1 0)
 unfolding marked-byte
 marked-byte-is k n l i = refl
 
@@ -106,7 +107,8 @@ complete-iff k n l = (apart, whole)
     apart e i j hi hj c s t =
         true≢false
         (sym (any-some (λ i. clear (getD l i 0) && touches-solid k n l (cell-at n i)) (length l) i hi
-        (rw c (any-some (λ j. solid (getD l j 0) && touching k (cell-at n i) (cell-at n j)) (length l) j hj (rw s (touching-iff k (cell-at n i) (cell-at n j) .1 t)))))
+        (rw c (any-some (λ j. solid (getD l j 0) && touching k (cell-at n i) (cell-at n j)) (length l) j hj
+        (rw s (touching-iff k (cell-at n i) (cell-at n j) .1 t)))))
         ∙ not-true _ e)
 
     whole : NoneTouch k n l → complete k n l ≡ true

@@ -53,7 +53,7 @@ pub fn shape(n: Counts, bytes: usize) -> Verdict
     ensures { λ r. ⌜ Shapes n bytes r ⌝ }
 {
     match check_counts(n) {
-        Verdict::Refused(r) => Verdict::Refused(r),
+        Verdict::Refused(why) => Verdict::Refused(why),
         Verdict::Fine => {
             if bytes == (n.nx as usize) * (n.ny as usize) * (n.nz as usize) {
                 Verdict::Fine

@@ -32,7 +32,8 @@ use mathlib.Core.Path.{fun-ext}
 
 -- the steps from P to a place of the line
 pub steps-back : (p q : Cell) (t : Steps) → differences p (cell-of p q t) ≡ t
-steps-back p q t = fun-ext (λ a. ap₂ apart (sym (towards-start (on p a) (on q a))) (cell-on p q t a) ∙ towards-apart (on p a) (on q a) 0 (t a) ∙ less-nothing (t a))
+steps-back p q t = fun-ext (λ a. ap₂ apart (sym (towards-start (on p a) (on q a))) (cell-on p q t a) ∙ towards-apart (on p a) (on q a) 0 (t a)
+    ∙ less-nothing (t a))
   where
     less-nothing : (i : ℕ) → (0 - i) + (i - 0) ≡ i
     less-nothing i = omega arith
@@ -45,8 +46,10 @@ module _ (bytes : ℕ) (k : Route) (plan : Planned bytes k) (l : List ℕ) where
   pub stop-answers : (e many : ℕ) (r : Stop) → e ≤ total D → Stopped k e many r → answer-from l k r ≡ answer-at (k .n) l (k .p) (k .q) e many
   unfolding answer-from
   stop-answers e many r le h =
-      ap₂ (λ c b. cond (solid b) (FirstHit.Hit (record { cell = c; code = b; place = entered (steps (k .d)) (differences (k .p) c); reads = r .reads })) (FirstHit.Clear (r .reads))) cell byte
-      ∙ ap₂ (λ a m. cond (solid (byte-of (k .n) l f)) (FirstHit.Hit (record { cell = f; code = byte-of (k .n) l f; place = a; reads = m })) (FirstHit.Clear m)) entering (h .reads)
+      ap₂ (λ c b. cond (solid b) (FirstHit.Hit
+      (record { cell = c; code = b; place = entered (steps (k .d)) (differences (k .p) c); reads = r .reads })) (FirstHit.Clear (r .reads))) cell byte
+      ∙ ap₂ (λ a m. cond (solid (byte-of (k .n) l f)) (FirstHit.Hit (record { cell = f; code = byte-of (k .n) l f; place = a; reads = m }))
+      (FirstHit.Clear m)) entering (h .reads)
     where
       f : Cell
       f = six-cell rule-1 (k .p) (k .q) e

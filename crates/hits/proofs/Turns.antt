@@ -38,11 +38,13 @@ use Rattle.routes.proofs.Cells26.{at-26, from-26, faces-between}
 
 -- ---- what a turn came to
 
-pub outcome-stopped : (l : List ℕ) (k : Route) (next : ℕ → ℕ) (m : ℕ) (t : Bool) (s : Spot) (r : ℕ) → Outcome l k next m t s r → t ≡ true → Stops l k next (record { spot = s; reads = r })
+pub outcome-stopped : (l : List ℕ) (k : Route) (next : ℕ → ℕ) (m : ℕ) (t : Bool) (s : Spot) (r : ℕ) → Outcome l k next m t s r → t ≡ true →
+    Stops l k next (record { spot = s; reads = r })
 outcome-stopped l k next m true s r o e = o
 outcome-stopped l k next m false s r o e = absurd (let z : _≡_ {A = ℕ} 0 1 = cc in omega arith)
 
-pub outcome-walking : (l : List ℕ) (k : Route) (next : ℕ → ℕ) (m : ℕ) (t : Bool) (s : Spot) (r : ℕ) → Outcome l k next m t s r → t ≡ false → Walking l k next m r s
+pub outcome-walking : (l : List ℕ) (k : Route) (next : ℕ → ℕ) (m : ℕ) (t : Bool) (s : Spot) (r : ℕ) → Outcome l k next m t s r → t ≡ false →
+    Walking l k next m r s
 outcome-walking l k next m true s r o e = absurd (let z : _≡_ {A = ℕ} 0 1 = cc in omega arith)
 outcome-walking l k next m false s r o e = o
 
@@ -90,7 +92,8 @@ module _ (bytes : ℕ) (k : Route) (plan : Planned bytes k) (l : List ℕ) where
         let j : ℕ = m + n in
         let lt : j < longest D = omega arith in
         let on = runs-on n (omega arith) (λ i ge less. cl i ge (omega arith)) in
-        let e = goes-on bytes k plan l go (go-rises (k .n) l (k .p) (k .q)) (at-number j) (reads + n) on (ap solid (zero-at lt)) (omega (arith, grows-26 D j lt, next-within j lt)) in
+        let e = goes-on bytes k plan l go (go-rises (k .n) l (k .p) (k .q)) (at-number j) (reads + n) on (ap solid (zero-at lt))
+        (omega (arith, grows-26 D j lt, next-within j lt)) in
         subst (λ i. OnWay (hits l k) (last l k) go (at-number i) (reads + suc n)) (omega arith)
         (subst (OnWay (hits l k) (last l k) go (at-number (j + 1))) (omega arith)
         (subst (λ i. OnWay (hits l k) (last l k) go i (reads + n + 1)) (go-long (k .n) l (k .p) (k .q) j lt (ap clear (zero-at lt))) e))
@@ -117,7 +120,9 @@ module _ (bytes : ℕ) (k : Route) (plan : Planned bytes k) (l : List ℕ) where
           record {
             rises = go-rises (k .n) l (k .p) (k .q);
             fits = omega (arith, between, next-within m below);
-            one = λ j lo hi. ⊎-elim (λ e. subst (λ i. go i ≡ suc i) e first) (λ lt. go-between (k .n) l (k .p) (k .q) m j below lt (omega (arith, between)) (omega (arith, between, next-within m below))) (eq-or-lt-of-le {n = at-number m} {m = j} lo);
+            one = λ j lo hi. ⊎-elim (λ e. subst (λ i. go i ≡ suc i) e first)
+                (λ lt. go-between (k .n) l (k .p) (k .q) m j below lt (omega (arith, between)) (omega (arith, between, next-within m below)))
+                (eq-or-lt-of-le {n = at-number m} {m = j} lo);
             walking = here .walking;
           }
         where
@@ -125,11 +130,14 @@ module _ (bytes : ℕ) (k : Route) (plan : Planned bytes k) (l : List ℕ) where
           between = faces-between k m s r below (here .walking .spot) moves
 
           first : go (at-number m) ≡ suc (at-number m)
-          first = go-face (k .n) l (k .p) (k .q) (at-number m) (sym (ap clear (walk-byte bytes k plan l go (at-number m) s (here .walking .spot))) ∙ ne-eqb (byte-of-spot l s) 0 not-zero)
+          first = go-face (k .n) l (k .p) (k .q) (at-number m)
+              (sym (ap clear (walk-byte bytes k plan l go (at-number m) s (here .walking .spot))) ∙ ne-eqb (byte-of-spot l s) 0 not-zero)
 
-      pub near-turn : (t : Turn) → (byte-of-spot l s ≡ 0 → ⊥) → Walked l k s reads (total (moves-on r)) t → Outcome l k go (at-number (cell-left k (left - 1))) (t .hit) (t .spot) (t .reads)
+      pub near-turn : (t : Turn) → (byte-of-spot l s ≡ 0 → ⊥) → Walked l k s reads (total (moves-on r)) t →
+          Outcome l k go (at-number (cell-left k (left - 1))) (t .hit) (t .spot) (t .reads)
       near-turn t not-zero w =
-          subst (λ j. Outcome l k go j (t .hit) (t .spot) (t .reads)) (sym (faces-between k m s r below (here .walking .spot) moves) ∙ ap at-number next-left) (w .leads go (at-number m) (near-faces not-zero))
+          subst (λ j. Outcome l k go j (t .hit) (t .spot) (t .reads))
+          (sym (faces-between k m s r below (here .walking .spot) moves) ∙ ap at-number next-left) (w .leads go (at-number m) (near-faces not-zero))
         where
           next-left : m + 1 ≡ cell-left k (left - 1)
           next-left = omega (arith, here .some, here .most)
@@ -140,7 +148,12 @@ module _ (bytes : ℕ) (k : Route) (plan : Planned bytes k) (l : List ℕ) where
   first-26 = omega (arith, moved-start (longest D) (D X), moved-start (longest D) (D Y), moved-start (longest D) (D Z))
 
   pub last-26 : at-number (longest D) ≡ last l k
-  last-26 = omega (arith, moved-end (longest D) (D X) (longest-most D X), moved-end (longest D) (D Y) (longest-most D Y), moved-end (longest D) (D Z) (longest-most D Z))
+  last-26 = omega (
+    arith,
+    moved-end (longest D) (D X) (longest-most D X),
+    moved-end (longest D) (D Y) (longest-most D Y),
+    moved-end (longest D) (D Z) (longest-most D Z),
+  )
 
 -- ---- what a turn is given
 

@@ -68,7 +68,8 @@ module _ (bytes : ℕ) (k : Route) (plan : Planned bytes k) (l : List ℕ) (go :
 
   -- across the next face
   pub face-turn :
-      Rises N go → (m r : ℕ) (s : Spot) (n : Axis) → Walking l k go m r s → H m ≡ false → m < N → go m ≡ suc m → NextFace (s .e) n → Walking l k go (m + 1) (r + 1) (crossed-spot k n s)
+      Rises N go → (m r : ℕ) (s : Spot) (n : Axis) → Walking l k go m r s → H m ≡ false → m < N → go m ≡ suc m → NextFace (s .e) n →
+      Walking l k go (m + 1) (r + 1) (crossed-spot k n s)
   face-turn rises m r s n w h lt one face =
       record {
         spot = six-turn bytes k plan m s n lt (w .spot) face;
@@ -99,14 +100,20 @@ module _ (bytes : ℕ) (k : Route) (plan : Planned bytes k) (l : List ℕ) (star
         follows = λ next m c.
             let w = h .follows next m c in
             same-walking (m + j + 1) (m + (j + 1)) (reads + j + 1) (reads + (j + 1)) (omega arith) (omega arith)
-            (face-turn bytes k plan l next (c .rises) (m + j) (reads + j) s n w (walk-test bytes k plan l next (m + j) s (w .spot) clear) (omega (arith, c .fits)) (c .one (m + j) (omega arith) (omega arith)) face);
+            (face-turn bytes k plan l next (c .rises) (m + j) (reads + j) s n w (walk-test bytes k plan l next (m + j) s (w .spot) clear)
+            (omega (arith, c .fits)) (c .one (m + j) (omega arith) (omega arith)) face);
       }
 
   -- at a solid byte, or after the last
-  pub hit-face : (j : ℕ) (s : Spot) → Following l k start reads faces j s → solid (byte-of-spot l s) ≡ true → Walked l k start reads faces (record { spot = s; reads = reads + j + 1; hit = true })
+  pub hit-face : (j : ℕ) (s : Spot) → Following l k start reads faces j s → solid (byte-of-spot l s) ≡ true →
+      Walked l k start reads faces (record { spot = s; reads = reads + j + 1; hit = true })
   hit-face j s h solid-there =
-      record { leads = λ next m c. let w = h .follows next m c in at-hit bytes k plan l next (m + j) (reads + j) s w (walk-test bytes k plan l next (m + j) s (w .spot) solid-there) }
+      record {
+        leads = λ next m c. let w = h .follows next m c in at-hit bytes k plan l next (m + j) (reads + j) s w
+            (walk-test bytes k plan l next (m + j) s (w .spot) solid-there);
+      }
 
-  pub last-face : (j : ℕ) (s : Spot) → Following l k start reads faces j s → faces ≤ j → Walked l k start reads faces (record { spot = s; reads = reads + j; hit = false })
+  pub last-face : (j : ℕ) (s : Spot) → Following l k start reads faces j s → faces ≤ j →
+      Walked l k start reads faces (record { spot = s; reads = reads + j; hit = false })
   last-face j s h ge =
       record { leads = λ next m c. same-walking (m + j) (m + faces) (reads + j) (reads + j) (omega (arith, h .most)) refl (h .follows next m c) }

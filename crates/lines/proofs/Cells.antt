@@ -51,7 +51,8 @@ cell-end p q t z = same-cell (cell-of p q t) q (λ a. cell-on p q t a ∙ ap (to
 -- a cell has one place
 pub cell-tells : (p q : Cell) (s t : Steps) → cell-of p q s ≡ cell-of p q t → (a : Axis) → s a ≡ t a
 cell-tells p q s t e a =
-    let z : apart (on (cell-of p q s) a) (on (cell-of p q t) a) ≡ apart (on (cell-of p q s) a) (on (cell-of p q s) a) = ap (λ c. apart (on (cell-of p q s) a) (on c a)) (sym e) in
+    let z : apart (on (cell-of p q s) a) (on (cell-of p q t) a) ≡ apart (on (cell-of p q s) a) (on (cell-of p q s) a) = ap
+    (λ c. apart (on (cell-of p q s) a) (on c a)) (sym e) in
     omega (arith, cells-apart p q s t a, cells-apart p q s s a)
 
 -- a place that is k steps further on, at most one on each axis, with k from 1 on, touches by k
@@ -198,12 +199,18 @@ module _ (p q : Cell) where
   numbered-26 m le = tabulate-at (cell-26 p q) (longest D′ + 1) m p (omega arith)
 
   -- from m to m + 1
-  moves-26 : (m : ℕ) (a : Axis) → apart (on (cell-26 p q m) a) (on (cell-26 p q (m + 1)) a) ≡ (place-26 D′ m a - place-26 D′ (m + 1) a) + (place-26 D′ (m + 1) a - place-26 D′ m a)
+  moves-26 : (m : ℕ) (a : Axis) → apart (on (cell-26 p q m) a) (on (cell-26 p q (m + 1)) a) ≡
+      (place-26 D′ m a - place-26 D′ (m + 1) a) + (place-26 D′ (m + 1) a - place-26 D′ m a)
   moves-26 m a = rw (is-26 rule-1 p q m, is-26 rule-1 p q (m + 1)) (cells-apart p q (place-26 D′ m) (place-26 D′ (m + 1)) a)
 
   pub moves-by-one-26 : (m : ℕ) (a : Axis) → m < longest D′ → apart (on (cell-26 p q m) a) (on (cell-26 p q (m + 1)) a) ≤ 1
   moves-by-one-26 m a lt =
-      omega (arith, moves-26 m a, moved-grows (longest D′) (D′ a) (longest-most D′ a) (omega arith) m, moved-by-one (longest D′) (D′ a) (longest-most D′ a) (omega arith) m)
+      omega (
+        arith,
+        moves-26 m a,
+        moved-grows (longest D′) (D′ a) (longest-most D′ a) (omega arith) m,
+        moved-by-one (longest D′) (D′ a) (longest-most D′ a) (omega arith) m,
+      )
 
   pub longest-moves-26 : (m : ℕ) (a : Axis) → m < longest D′ → D′ a ≡ longest D′ → apart (on (cell-26 p q m) a) (on (cell-26 p q (m + 1)) a) ≡ 1
   longest-moves-26 m a lt e =

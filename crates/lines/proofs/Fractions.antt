@@ -22,7 +22,8 @@ ahead r s = 1 - (suc r - s)
 unfoldable pub Before : Course → Axis → ℕ → Axis → ℕ → Type 0
 Before c a i b j = upper c a i * c .lower b < upper c b j * c .lower a + ahead (c .rank a) (c .rank b)
 
-pub before-test : (c : Course) (a b : Axis) (i j : ℕ) → before c a i b j ≡ ltb (upper c a i * c .lower b) (upper c b j * c .lower a + ahead (c .rank a) (c .rank b))
+pub before-test : (c : Course) (a b : Axis) (i j : ℕ) →
+    before c a i b j ≡ ltb (upper c a i * c .lower b) (upper c b j * c .lower a + ahead (c .rank a) (c .rank b))
 unfolding before
 before-test c a b i j = go (upper c a i * c .lower b) (upper c b j * c .lower a) (c .rank a) (c .rank b)
   where
@@ -127,9 +128,11 @@ module _ (c : Course) (good : Good c) where
   pub laws : Laws (c .count) (Before c)
   unfolding Before
   laws = record {
-    trans = λ {a} {b} {c = d} {i} {j} {k} p q r. chain (upper c a i) (upper c b j) (upper c d k) (c .lower a) (c .lower b) (c .lower d) (c .rank a) (c .rank b) (c .rank d) (some-lower a p) (some-lower b q) (some-lower d r);
+    trans = λ {a} {b} {c = d} {i} {j} {k} p q r. chain (upper c a i) (upper c b j) (upper c d k) (c .lower a) (c .lower b) (c .lower d) (c .rank a)
+        (c .rank b) (c .rank d) (some-lower a p) (some-lower b q) (some-lower d r);
     asym = λ p q. omega arith;
-    either = λ a b i j e. ⊎-elim inl (λ h. inr (omega (arith, ranks-differ a b e))) (lt-or-ge (upper c a i * c .lower b) (upper c b j * c .lower a + ahead (c .rank a) (c .rank b)));
+    either = λ a b i j e. ⊎-elim inl (λ h. inr (omega (arith, ranks-differ a b e)))
+        (lt-or-ge (upper c a i * c .lower b) (upper c b j * c .lower a + ahead (c .rank a) (c .rank b)));
     mono = λ a {i} {j} p q. omega (arith, mul-lt-mul-of-pos-right (upper-grows a p) (some-lower a q));
   }
 
@@ -137,7 +140,12 @@ module _ (c : Course) (good : Good c) where
   not-before : (a b : Axis) (i j : ℕ) → same a b ≡ 0 → before c a i b j ≡ false → Before c b j a i
   unfolding Before
   not-before a b i j e w =
-      omega (arith, ltb-false (upper c a i * c .lower b) (upper c b j * c .lower a + ahead (c .rank a) (c .rank b)) (sym (before-test c a b i j) ∙ w), ranks-differ a b e)
+      omega (
+        arith,
+        ltb-false (upper c a i * c .lower b) (upper c b j * c .lower a + ahead (c .rank a) (c .rank b))
+            (sym (before-test c a b i j) ∙ w),
+        ranks-differ a b e,
+      )
 
   -- the sooner of two axes leads both
   sooner-leads : (t : Steps) (a b : Axis) → Leads (c .count) (Before c) t (sooner c t a b) a × Leads (c .count) (Before c) t (sooner c t a b) b

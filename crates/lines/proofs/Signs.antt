@@ -33,10 +33,12 @@ below-test p q h =
     (lt-or-ge p (q + h))
 
 -- which one's next crossing comes first is told by the sign of their decision value, with the tie bit
-pub sign-tells : (r : Preference) (D t : Steps) (a b : Axis) → before (centres r D) a (t a) b (t b) ≡ ltZ (decision D t a b) (pos (ahead (r .rank a) (r .rank b)))
+pub sign-tells : (r : Preference) (D t : Steps) (a b : Axis) →
+    before (centres r D) a (t a) b (t b) ≡ ltZ (decision D t a b) (pos (ahead (r .rank a) (r .rank b)))
 sign-tells r D t a b =
     before-test (centres r D) a b (t a) (t b)
-    ∙ halves ((1 + 2 * t a) * (2 * D b)) ((1 + 2 * t b) * (2 * D a)) (D b * (2 * t a + 1)) (D a * (2 * t b + 1)) (r .rank a) (r .rank b) (omega arith) (omega arith)
+    ∙ halves ((1 + 2 * t a) * (2 * D b)) ((1 + 2 * t b) * (2 * D a)) (D b * (2 * t a + 1)) (D a * (2 * t b + 1)) (r .rank a) (r .rank b)
+    (omega arith) (omega arith)
     ∙ sym (below-test (D b * (2 * t a + 1)) (D a * (2 * t b + 1)) (ahead (r .rank a) (r .rank b)))
   where
     halves : (x y p q k s : ℕ) → x ≡ 2 * p → y ≡ 2 * q → ltb x (y + ahead k s) ≡ ltb p (q + ahead k s)
@@ -64,8 +66,10 @@ signs-pick D t lt =
     go (ltZ (e-xy D t) (pos 0)) (ltZ (e-xz D t) (pos 0)) (ltZ (e-zy D t) (pos 0))
     (xy-tells D t) (xz-tells D t) (zy-tells D t)
   where
-    first : (n : Axis) → Leads D (Before (centres rule-1 D)) t n X → Leads D (Before (centres rule-1 D)) t n Y → Leads D (Before (centres rule-1 D)) t n Z → Next D (Before (centres rule-1 D)) t n
-    first n x y z = leader-is-next D (Before (centres rule-1 D)) (laws (centres rule-1 D) (centres-good rule-1 D)) t n (open-axis t D lt .0) all (open-axis t D lt .1)
+    first : (n : Axis) → Leads D (Before (centres rule-1 D)) t n X → Leads D (Before (centres rule-1 D)) t n Y →
+        Leads D (Before (centres rule-1 D)) t n Z → Next D (Before (centres rule-1 D)) t n
+    first n x y z = leader-is-next D (Before (centres rule-1 D)) (laws (centres rule-1 D) (centres-good rule-1 D)) t n (open-axis t D lt .0) all
+        (open-axis t D lt .1)
       where
         all : (b : Axis) → Leads D (Before (centres rule-1 D)) t n b
         all X = x
@@ -82,7 +86,8 @@ signs-pick D t lt =
     loses = other-leads (centres rule-1 D) (centres-good rule-1 D) t
 
     go :
-        (p q s : Bool) → before (centres rule-1 D) X (t X) Y (t Y) ≡ p → before (centres rule-1 D) X (t X) Z (t Z) ≡ q → before (centres rule-1 D) Z (t Z) Y (t Y) ≡ s →
+        (p q s : Bool) → before (centres rule-1 D) X (t X) Y (t Y) ≡ p → before (centres rule-1 D) X (t X) Z (t Z) ≡ q →
+        before (centres rule-1 D) Z (t Z) Y (t Y) ≡ s →
         Next D (Before (centres rule-1 D)) t (cond p (cond q X Z) (cond s Z Y))
     go true true s p q _ = first X itself (wins X Y p) (wins X Z q)
     go true false s p q _ = first Z (loses X Z refl q) (then (loses X Z refl q) (wins X Y p)) itself

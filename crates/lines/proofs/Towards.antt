@@ -87,7 +87,14 @@ record Span (u v : ℤ → ℕ) (p q c : ℤ) (n d s : ℕ) : Type 0 where
 module _ (p q c : ℤ) (n d s : ℕ) where
   point-is : up (point p q n d) + 2 * d * dn p + 2 * n * dn (q -ℤ p) ≡ dn (point p q n d) + 2 * d * up p + 2 * n * up (q -ℤ p)
   point-is =
-      omega (arith, sum-is (pos (2 * d) *ℤ p) (pos (2 * n) *ℤ (q -ℤ p)), times-up (2 * d) p, times-dn (2 * d) p, times-up (2 * n) (q -ℤ p), times-dn (2 * n) (q -ℤ p))
+      omega (
+        arith,
+        sum-is (pos (2 * d) *ℤ p) (pos (2 * n) *ℤ (q -ℤ p)),
+        times-up (2 * d) p,
+        times-dn (2 * d) p,
+        times-up (2 * n) (q -ℤ p),
+        times-dn (2 * n) (q -ℤ p),
+      )
 
   lower-is : up (lower-face d c) + 2 * d * dn c + d ≡ dn (lower-face d c) + 2 * d * up c
   lower-is = omega (arith, diff-is (pos (2 * d) *ℤ c) (pos d), times-up (2 * d) c, times-dn (2 * d) c)
@@ -152,7 +159,8 @@ pub passed-closed :
     (p q : ℤ) (t n d : ℕ) → 2 * t * d ≤ 2 * n * apart p q + d → 2 * n * apart p q ≤ (2 * t + 1) * d →
     (lower-face d (towards p q t) ≤ℤ point p q n d) × (point p q n d ≤ℤ upper-face d (towards p q t))
 passed-closed p q t n d lo hi =
-    let b = ⊎-elim (λ w. rising p q c n d 0 w .1 (passed-span up dn p q c n d w t refl lo hi)) (λ w. falling p q c n d 0 w .1 (passed-span dn up p q c n d w t refl lo hi)) (along p q) in
+    let b = ⊎-elim (λ w. rising p q c n d 0 w .1 (passed-span up dn p q c n d w t refl lo hi))
+    (λ w. falling p q c n d 0 w .1 (passed-span dn up p q c n d w t refl lo hi)) (along p q) in
     (≤ℤ-is (lower-face d c) (point p q n d) .1 (omega (arith, b .lower)), ≤ℤ-is (point p q n d) (upper-face d c) .1 (omega (arith, b .upper)))
   where
     c : ℤ

@@ -38,7 +38,8 @@ filled-none f last out₀ = record { most = omega arith; stored = refl; long = r
 module _ (f : ℕ → Cell) (last : ℕ) (out₀ : List ℤ) (room : 3 * (last + 1) ≤ length out₀) where
   -- a turn
   pub filled-one :
-      (out out′ : List ℤ) (c : Cell) (m at : ℕ) → Filling f last out₀ out m at → m < last → out′ ≡ put3 out at c → c ≡ f m → Filling f last out₀ out′ (m + 1) (at + 3)
+      (out out′ : List ℤ) (c : Cell) (m at : ℕ) → Filling f last out₀ out m at → m < last → out′ ≡ put3 out at c → c ≡ f m →
+      Filling f last out₀ out′ (m + 1) (at + 3)
   filled-one out out′ c m at h lt e is =
       record {
         most = omega arith;
@@ -49,7 +50,8 @@ module _ (f : ℕ → Cell) (last : ℕ) (out₀ : List ℤ) (room : 3 * (last +
 
   -- the last cell
   pub filled-last :
-      (out out′ : List ℤ) (q : Cell) (m at : ℕ) → Filling f last out₀ out m at → last ≤ m → f last ≡ q → out′ ≡ put3 out at q → out′ ≡ filled (tabulate f (last + 1)) out₀
+      (out out′ : List ℤ) (q : Cell) (m at : ℕ) → Filling f last out₀ out m at → last ≤ m → f last ≡ q → out′ ≡ put3 out at q →
+      out′ ≡ filled (tabulate f (last + 1)) out₀
   filled-last out out′ q m at h ge end e =
       let n : m ≡ last = omega (arith, h .most) in
       e ∙ ap₂ (λ l k. put3 l k q) (h .stored) (h .next-at) ∙ ap (put3 (front f m out₀) (3 * m)) (sym end ∙ ap f (sym n)) ∙ put-next f out₀ m (omega arith)
@@ -75,9 +77,11 @@ C p q = centres rule-1 (differences p q)
 
 module _ (p q : Cell) (w : SixWay) (way : WayOf p q w) where
   pub six-turn :
-      (m : ℕ) (s : SixSpot) (n : Axis) → m < total (differences p q) → SixSpotAt p q (place (C p q) m) s → NextFace (s .e) n → SixSpotAt p q (place (C p q) (m + 1)) (crossed-six w n s)
+      (m : ℕ) (s : SixSpot) (n : Axis) → m < total (differences p q) → SixSpotAt p q (place (C p q) m) s → NextFace (s .e) n →
+      SixSpotAt p q (place (C p q) (m + 1)) (crossed-six w n s)
   six-turn m s n lt h face =
       let (on, wi) = place-on (C p q) (centres-good rule-1 (differences p q)) m (omega arith) in
       let t = place (C p q) m in
       let e : n ≡ next (C p q) t = face .comes-first (differences p q) t wi (omega (arith, place-total (C p q) m)) (h .value) in
-      subst (λ u. SixSpotAt p q u (crossed-six w n s)) (ap (bump t) e ∙ sym (place-suc (C p q) m) ∙ ap (place (C p q)) (sym (add-one m))) (spot-crossed p q w way t s n h)
+      subst (λ u. SixSpotAt p q u (crossed-six w n s)) (ap (bump t) e ∙ sym (place-suc (C p q) m) ∙ ap (place (C p q)) (sym (add-one m)))
+      (spot-crossed p q w way t s n h)

@@ -70,9 +70,13 @@ module _ (line : List Cell) (p q : Cell) (entry : List ℤ) where
   refused-ends r h = record { says = sym (simp h); holds = sym (simp h) }
 
   pub refused-room : ends-check p q ≡ Fine → length entry < 3 * length line → Lists line p q entry (Listed.Refused Room) entry
-  refused-room h short = record { says = sym (simp (h, lt-ltb (length entry) (3 * length line) short)); holds = sym (simp (h, lt-ltb (length entry) (3 * length line) short)) }
+  refused-room h short = record {
+    says = sym (simp (h, lt-ltb (length entry) (3 * length line) short));
+    holds = sym (simp (h, lt-ltb (length entry) (3 * length line) short));
+  }
 
-  pub listed-all : (exit : List ℤ) → ends-check p q ≡ Fine → 3 * length line ≤ length entry → exit ≡ filled line entry → Lists line p q entry (Listed.Cells (length line)) exit
+  pub listed-all : (exit : List ℤ) → ends-check p q ≡ Fine → 3 * length line ≤ length entry → exit ≡ filled line entry →
+      Lists line p q entry (Listed.Cells (length line)) exit
   listed-all exit h room e =
       record { says = sym (simp (h, le-ltb (length entry) (3 * length line) room)); holds = e ∙ sym (simp (h, le-ltb (length entry) (3 * length line) room)) }
 

@@ -80,7 +80,14 @@ module _ (p q : Cell) (w : SixWay) (way : WayOf p q w) where
   pub can-cross : InLimit p → InLimit q → (t : Steps) (s : SixSpot) → ((a : Axis) → t a ≤ differences p q a) → SixSpotAt p q t s → CanCrossSix s w
   can-cross hp hq t s le h =
       record {
-        cells = rw (h .cell, way .towards) (record { x = coordinate X; y = coordinate Y; z = coordinate Z; hx = unit-small (p .x) (q .x); hy = unit-small (p .y) (q .y); hz = unit-small (p .z) (q .z) });
+        cells = rw (h .cell, way .towards) (record {
+          x = coordinate X;
+          y = coordinate Y;
+          z = coordinate Z;
+          hx = unit-small (p .x) (q .x);
+          hy = unit-small (p .y) (q .y);
+          hz = unit-small (p .z) (q .z);
+        });
         values = rw (h .value) (place-small (differences p q) t (limited-difference p q hp hq) le);
         twice = rw (way .twice) (doubled-small (differences p q) (limited-difference p q hp hq));
       }

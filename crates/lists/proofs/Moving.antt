@@ -43,7 +43,8 @@ module _ (M D m : ℕ) (fits : D ≤ M) (lt : m < M) where
 
   -- at least 0: the next cell moves
   due-moves : leZ (pos 0) (due-26 M D m) ≡ true → moved-26 M D (m + 1) ≡ k + 1
-  due-moves h = moves-iff M D fits (omega arith) m .1 (omega (arith, leZ-true (pos 0) (due-26 M D m) h, diff-is (pos (2 * (m + 1) * D)) (pos ((2 * k + 1) * M))))
+  due-moves h = moves-iff M D fits (omega arith) m .1
+      (omega (arith, leZ-true (pos 0) (due-26 M D m) h, diff-is (pos (2 * (m + 1) * D)) (pos ((2 * k + 1) * M))))
 
   due-stays : leZ (pos 0) (due-26 M D m) ≡ false → moved-26 M D (m + 1) ≡ k
   due-stays h = else-stays M D fits (omega arith) m (omega (arith, leZ-false (pos 0) (due-26 M D m) h, diff-is (pos (2 * (m + 1) * D)) (pos ((2 * k + 1) * M))))
@@ -158,7 +159,8 @@ module _ (p q : Cell) where
     pub paced-next : Paced p q (m + 1) (nexts (paces p q E) c)
     paced-next = record { x = turn X (c .x) (h .x); y = turn Y (c .y) (h .y); z = turn Z (c .z) (h .z) }
       where
-        turn : (a : Axis) (c : Coordinate) → OnPace (on p a) (on q a) (longest E) m c → OnPace (on p a) (on q a) (longest E) (m + 1) (next-of (pace (on p a) (on q a) (E a) (longest E)) c)
+        turn : (a : Axis) (c : Coordinate) → OnPace (on p a) (on q a) (longest E) m c →
+            OnPace (on p a) (on q a) (longest E) (m + 1) (next-of (pace (on p a) (on q a) (E a) (longest E)) c)
         turn a c o = next-on (on p a) (on q a) (longest E) (longest-most E a) m c lt o
 
     pub paced-moves : InLimit p → InLimit q → CanMoves c (paces p q E)

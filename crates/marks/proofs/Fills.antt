@@ -18,7 +18,13 @@ filled-none f from to l none = record { long = refl; inside = λ k ge lt. absurd
 pub filled-then :
     (f g : ℕ → ℕ) (a b c : ℕ) (l m r : List ℕ) → a ≤ b → b ≤ c → ((k : ℕ) → b ≤ k → k < c → g k ≡ f k) → Filled f a b l m → Filled g b c m r → Filled f a c l r
 filled-then f g a b c l m r ab bc same h k =
-    record { long = k .long ∙ h .long; inside = inside; before = λ i lt. k .before i (omega arith) ∙ h .before i lt; after = λ i ge. k .after i ge ∙ h .after i (omega arith) }
+    record {
+      long = k .long ∙ h .long;
+      inside = inside;
+      before = λ i lt. k .before i (omega arith) ∙ h .before i lt;
+      after = λ i ge. k .after i ge
+          ∙ h .after i (omega arith);
+    }
   where
     inside : (i : ℕ) → a ≤ i → i < c → getD r i 0 ≡ f i
     inside i ge lt =

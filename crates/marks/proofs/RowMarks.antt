@@ -26,12 +26,17 @@ filled-same k n from to l m h = record { long = h .long; alike = alike }
     alike i =
         elim (decLt i from) [
           | yes low ↦ ap solid (h .before i low)
-          | no ge ↦ elim (decLt i to) [ yes mid ↦ ap solid (h .inside i (omega arith) mid) ∙ marked-byte-solid k n l i | no up ↦ ap solid (h .after i (omega arith)) ]
+          | no ge ↦ elim (decLt i to) [
+            | yes mid ↦ ap solid (h .inside i (omega arith) mid)
+                ∙ marked-byte-solid k n l i
+            | no up ↦ ap solid (h .after i (omega arith))
+          ]
         ]
 
 -- ---- a row's window
 
-module _ (n : Counts) (l : List ℕ) (s : Shaped n (length l)) (r : ℕ) (below : r < n .ny * n .nz) (entry w : List ℕ) (seen : Shows (in-column n l r) (n .nx) entry w) (framed : Framed (n .nx) entry) where
+module _ (n : Counts) (l : List ℕ) (s : Shaped n (length l)) (r : ℕ) (below : r < n .ny * n .nz) (entry w : List ℕ)
+    (seen : Shows (in-column n l r) (n .nx) entry w) (framed : Framed (n .nx) entry) where
   -- the cell of byte x of row r
   row-x : (x : ℕ) → x < n .nx → (n .nx * r + x) % n .nx ≡ x
   row-x x h = mul-add-mod-self-left (n .nx) r x ∙ mod-eq-of-lt h
@@ -94,7 +99,8 @@ complete-is n l = refl
 
 module _ (n : Counts) (l : List ℕ) (r : ℕ) where
   -- no gap in the first r rows, nor in row r
-  pub no-gap-more : ((k : ℕ) → k < n .nx * r → gap n l k ≡ false) → any (λ x. gap n l (n .nx * r + x)) (n .nx) ≡ false → (k : ℕ) → k < n .nx * (r + 1) → gap n l k ≡ false
+  pub no-gap-more : ((k : ℕ) → k < n .nx * r → gap n l k ≡ false) → any (λ x. gap n l (n .nx * r + x)) (n .nx) ≡ false → (k : ℕ) →
+      k < n .nx * (r + 1) → gap n l k ≡ false
   no-gap-more none here k lt =
       elim (decLt k (n .nx * r)) [
         | yes low ↦ none k low

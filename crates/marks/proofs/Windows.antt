@@ -30,7 +30,11 @@ module _ (p : ℕ → Bool) (a b c : ℕ) where
   three-some k lo hi ab bc e =
       elim (decLt k b) [
         | yes lt ↦ rw (moved a (omega arith))
-        | no ge ↦ elim (decLt b k) [ yes gt ↦ rw (moved c (omega arith)) (or-true (p a || p b)) | no le ↦ rw (moved b (omega arith)) (ap (λ (t : Bool). t || p c) (or-true (p a))) ]
+        | no ge ↦ elim (decLt b k) [
+          | yes gt ↦ rw (moved c (omega arith)) (or-true (p a || p b))
+          | no le ↦ rw (moved b (omega arith))
+              (ap (λ (t : Bool). t || p c) (or-true (p a)))
+        ]
       ]
     where
       moved : (m : ℕ) → k ≡ m → p m ≡ true
@@ -119,7 +123,8 @@ shows-more p x v a m h is done =
         ]
 
 -- p, then q too
-pub shows-then : {p : ℕ → Bool} (q : ℕ → Bool) {nx : ℕ} {a b c : List ℕ} → Shows p nx a b → Shows (λ x. solid (getD b (x + 1) 0) || q x) nx b c → Shows (λ x. p x || q x) nx a c
+pub shows-then : {p : ℕ → Bool} (q : ℕ → Bool) {nx : ℕ} {a b c : List ℕ} → Shows p nx a b → Shows (λ x. solid (getD b (x + 1) 0) || q x) nx b c →
+    Shows (λ x. p x || q x) nx a c
 shows-then q h k =
     record {
       long = k .long ∙ h .long;
@@ -207,7 +212,8 @@ module _ (n : Counts) (l : List ℕ) (s : Shaped n (length l)) (r : ℕ) (below 
     -- where a window has a solid byte, a column of the row has one
     window-has : (k : ℕ) → k ≤ n .nx + 1 → solid (getD w k 0) ≡ true → (x : ℕ) × (k ≡ x + 1) × (x < n .nx) × (in-column n l r x ≡ true)
     window-has zero le e = absurd (true≢false (sym e ∙ edges .left))
-    window-has (suc x) le e = elim (decLt x (n .nx)) [ yes lt ↦ (x, omega arith, lt, sym (seen .over x lt) ∙ rw (add-one x) e) | no ge ↦ absurd (none (omega arith)) ]
+    window-has (suc x) le e = elim (decLt x (n .nx))
+        [ yes lt ↦ (x, omega arith, lt, sym (seen .over x lt) ∙ rw (add-one x) e) | no ge ↦ absurd (none (omega arith)) ]
       where
         none : suc x ≡ n .nx + 1 → ⊥
         none q = true≢false (sym e ∙ rw q (edges .right))

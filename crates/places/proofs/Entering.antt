@@ -45,7 +45,8 @@ module _ (D t : Steps) where
   unfolding Before
   later n b h e =
       elim (decLt 0 (t b)) [
-        | yes some ↦ by (t b) (t n) (D n) (D b) (suc (rule-1 .rank b) - rule-1 .rank n) some (h .some) (before-true C b n (t b - 1) (t n - 1) (h .last b e some))
+        | yes some ↦ by (t b) (t n) (D n) (D b) (suc (rule-1 .rank b) - rule-1 .rank n) some (h .some)
+            (before-true C b n (t b - 1) (t n - 1) (h .last b e some))
         | no none ↦ none-made (t b) (omega arith)
       ]
     where
@@ -60,7 +61,8 @@ module _ (D t : Steps) where
   unfolding Before
   strictly n b h e some ranks = by (t b) (t n) (D n) (D b) some (h .some) (before-true C b n (t b - 1) (t n - 1) (h .last b e some)) ranks
     where
-      by : (i j a c : ℕ) {r s : ℕ} → 0 < i → 0 < j → (1 + 2 * (i - 1)) * (2 * a) < (1 + 2 * (j - 1)) * (2 * c) + (1 - (suc r - s)) → s < r → numerator i * a < numerator j * c
+      by : (i j a c : ℕ) {r s : ℕ} → 0 < i → 0 < j → (1 + 2 * (i - 1)) * (2 * a) < (1 + 2 * (j - 1)) * (2 * c) + (1 - (suc r - s)) → s < r →
+          numerator i * a < numerator j * c
       by (suc i) (suc j) a c si sj lt ranks = let k = simp less-one at lt in rw (numerator-suc i, numerator-suc j) (omega arith)
 
   made : (i : ℕ) → 0 < numerator i → 0 < i
@@ -79,17 +81,23 @@ module _ (D t : Steps) where
 
   pub last-axis-is : (n : Axis) → LastMade C t n → last-axis D t ≡ n
   last-axis-is X h =
-      simp (behind-true (numerator (t X)) (D X) (numerator (t Y)) (D Y) (some-numerator (t X) (h .some)) (later X Y h refl), behind-true (numerator (t X)) (D X) (numerator (t Z)) (D Z) (some-numerator (t X) (h .some)) (later X Z h refl))
+      simp (
+        behind-true (numerator (t X)) (D X) (numerator (t Y)) (D Y) (some-numerator (t X) (h .some)) (later X Y h refl),
+        behind-true (numerator (t X)) (D X) (numerator (t Z)) (D Z) (some-numerator (t X) (h .some)) (later X Z h refl),
+      )
   last-axis-is Z h =
-      ap (λ b. cond (behind (numerator (t X)) (D X) (numerator (t Y)) (D Y) && b) X (cond (behind (numerator (t Z)) (D Z) (numerator (t Y)) (D Y)) Z Y)) (not-x Z h refl (omega arith))
+      ap (λ b. cond (behind (numerator (t X)) (D X) (numerator (t Y)) (D Y) && b) X
+      (cond (behind (numerator (t Z)) (D Z) (numerator (t Y)) (D Y)) Z Y)) (not-x Z h refl (omega arith))
       ∙ and-no (behind (numerator (t X)) (D X) (numerator (t Y)) (D Y))
       ∙ ap (λ b. cond b Z Y) (behind-true (numerator (t Z)) (D Z) (numerator (t Y)) (D Y) (some-numerator (t Z) (h .some)) (later Z Y h refl))
     where
-      and-no : (b : Bool) → cond (b && false) X (cond (behind (numerator (t Z)) (D Z) (numerator (t Y)) (D Y)) Z Y) ≡ cond (behind (numerator (t Z)) (D Z) (numerator (t Y)) (D Y)) Z Y
+      and-no : (b : Bool) → cond (b && false) X (cond (behind (numerator (t Z)) (D Z) (numerator (t Y)) (D Y)) Z Y) ≡ cond
+          (behind (numerator (t Z)) (D Z) (numerator (t Y)) (D Y)) Z Y
       and-no true = refl
       and-no false = refl
   last-axis-is Y h =
-      ap (λ b. cond (b && behind (numerator (t X)) (D X) (numerator (t Z)) (D Z)) X (cond (behind (numerator (t Z)) (D Z) (numerator (t Y)) (D Y)) Z Y)) (not-x Y h refl (omega arith))
+      ap (λ b. cond (b && behind (numerator (t X)) (D X) (numerator (t Z)) (D Z)) X
+      (cond (behind (numerator (t Z)) (D Z) (numerator (t Y)) (D Y)) Z Y)) (not-x Y h refl (omega arith))
       ∙ ap (λ b. cond b Z Y)
       (is-false _ (λ k.
       let (some, le) = behind-parts (numerator (t Z)) (D Z) (numerator (t Y)) (D Y) k in
@@ -100,9 +108,12 @@ pub entered-is : (p q : Cell) (s : ℕ) → s ≤ total (differences p q) → en
 unfolding entered
 entered-is p q zero le =
     let c = centres rule-1 (differences p q) in
-    ap (λ b. cond b (record { num = 0; den = 1 }) (place-along (differences p q) (place c 0) (last-axis (differences p q) (place c 0)))) (eq-eqb (total (place c 0)) 0 (place-total c 0))
+    ap (λ b. cond b (record { num = 0; den = 1 }) (place-along (differences p q) (place c 0) (last-axis (differences p q) (place c 0))))
+    (eq-eqb (total (place c 0)) 0 (place-total c 0))
 entered-is p q (suc s) le =
     let c = centres rule-1 (differences p q) in
     let t = place c (suc s) in
-    ap (λ b. cond b (record { num = 0; den = 1 }) (place-along (differences p q) t (last-axis (differences p q) t))) (ne-eqb (total t) 0 (λ e. omega (arith, place-total c (suc s))))
-    ∙ ap (place-along (differences p q) t) (last-axis-is (differences p q) t (next c (place c s)) (entered-by-last c (centres-good rule-1 (differences p q)) s (omega arith)))
+    ap (λ b. cond b (record { num = 0; den = 1 }) (place-along (differences p q) t (last-axis (differences p q) t)))
+    (ne-eqb (total t) 0 (λ e. omega (arith, place-total c (suc s))))
+    ∙ ap (place-along (differences p q) t) (last-axis-is (differences p q) t (next c (place c s))
+    (entered-by-last c (centres-good rule-1 (differences p q)) s (omega arith)))

@@ -94,7 +94,8 @@ module _ (s rest : List ℕ) (exact : length s ≡ length-field + announced s) w
   unfolding venue-read
   venue-unread = rw same-venue-check (go (venue-check s) refl)
     where
-      go : (v : Verdict) → venue-check s ≡ v → by-verdict VenueRead.Refused (VenueRead.Read (venue-in (s ++ rest))) v ≡ by-verdict VenueRead.Refused (VenueRead.Read (venue-in s)) v
+      go : (v : Verdict) → venue-check s ≡ v →
+          by-verdict VenueRead.Refused (VenueRead.Read (venue-in (s ++ rest))) v ≡ by-verdict VenueRead.Refused (VenueRead.Read (venue-in s)) v
       go Fine e = ap VenueRead.Read (same-venue (venue-whole s e .head))
       go (Refused r) e = refl
 
@@ -102,7 +103,8 @@ module _ (s rest : List ℕ) (exact : length s ≡ length-field + announced s) w
   unfolding pair-read
   pair-unread = rw same-pair-check (go (pair-check s) refl)
     where
-      go : (v : Verdict) → pair-check s ≡ v → by-verdict PairRead.Refused (PairRead.Read (pair-in (s ++ rest))) v ≡ by-verdict PairRead.Refused (PairRead.Read (pair-in s)) v
+      go : (v : Verdict) → pair-check s ≡ v → by-verdict PairRead.Refused (PairRead.Read (pair-in (s ++ rest))) v ≡ by-verdict PairRead.Refused
+          (PairRead.Read (pair-in s)) v
       go Fine e = ap PairRead.Read (same-pair (pair-whole s e .long))
       go (Refused r) e = refl
 

@@ -58,7 +58,8 @@ pub read-whole : (s : List ℕ) → whole-check s ≡ Fine → length-read s ≡
 read-whole s e = let w = whole-is s e in rw (le-ltb (length s) length-field (omega arith))
 
 -- by it, two tests say what the three say
-pub whole-read : (s : List ℕ) → whole-check s ≡ (refuse-when (eqb (length-read s) 0) Record then refuse-when (ltb (length s) (length-field + length-read s)) Record)
+pub whole-read : (s : List ℕ) → whole-check s ≡
+    (refuse-when (eqb (length-read s) 0) Record then refuse-when (ltb (length s) (length-field + length-read s)) Record)
 unfolding whole-check
 whole-read s = go (ltb (length s) length-field)
   where

@@ -61,11 +61,24 @@ module _ (n : Counts) (cells rest : List ℕ) (fine : shape n (length cells) ≡
   in-is : venue-in (head-bytes written-version n ++ (cells ++ rest)) ≡ venue-of n
   unfolding venue-head
   in-is =
-      rw (four-read (venue-head written-version + size n), two-read (n .nx), two-read (n .ny), two-read (n .nz), add-sub-cancel-left (venue-head written-version) (size n))
+      rw (
+        four-read (venue-head written-version + size n),
+        two-read (n .nx),
+        two-read (n .ny),
+        two-read (n .nz),
+        add-sub-cancel-left (venue-head written-version) (size n),
+      )
 
   all-there : length-field + announced (head-bytes written-version n ++ (cells ++ rest)) ≤ length (head-bytes written-version n ++ (cells ++ rest))
   all-there =
-      omega (arith, long-is, head-length n, length-append (head-bytes written-version n) (cells ++ rest), length-append cells rest, shaped n (length cells) fine .bytes-are)
+      omega (
+        arith,
+        long-is,
+        head-length n,
+        length-append (head-bytes written-version n) (cells ++ rest),
+        length-append cells rest,
+        shaped n (length cells) fine .bytes-are,
+      )
 
   -- what was written is read back, whatever follows
   pub read-back : venue-read (head-bytes written-version n ++ (cells ++ rest)) ≡ VenueRead.Read (venue-of n)
@@ -139,7 +152,8 @@ pub record Front (n : Counts) (cells : List ℕ) (k : ℕ) (exit : List ℕ) : T
 pub front-written : (n : Counts) (cells entry exit : List ℕ) (k : ℕ) → WritesVenue n cells entry (Written.Wrote k) exit → Front n cells k exit
 front-written n cells entry exit k c =
     let H = head-bytes written-version n in
-    let (f, same) = by-fine Written.Refused (write-check n (length cells) (length entry)) (Written.Wrote (record-length n)) (λ r no. let z : _≡_ {A = ℕ} 0 1 = cc no in omega arith) (sym (c .says)) in
+    let (f, same) = by-fine Written.Refused (write-check n (length cells) (length entry)) (Written.Wrote (record-length n))
+    (λ r no. let z : _≡_ {A = ℕ} 0 1 = cc no in omega arith) (sym (c .says)) in
     let count : record-length n ≡ k = cc same in
     let w = writable n (length cells) (length entry) f in
     let rest = drop (record-length n) entry in
@@ -165,7 +179,8 @@ record-fits s v e =
     record { fine = ap (shape (v .counts)) long ∙ fine; total = omega arith }
 
 -- written into room that is just enough, it is the same bytes
-pub same-bytes : (s : List ℕ) (v : Venue) (entry exit : List ℕ) (w : Written) → AllBytes s → venue-read s ≡ VenueRead.Read v → length entry ≡ length-field + announced s
+pub same-bytes : (s : List ℕ) (v : Venue) (entry exit : List ℕ) (w : Written) → AllBytes s → venue-read s ≡ VenueRead.Read v →
+    length entry ≡ length-field + announced s
     → WritesVenue (v .counts) (venue-cells s) entry w exit → (w ≡ Written.Wrote (length-field + announced s)) × (exit ≡ take (length-field + announced s) s)
 unfolding write-check
 same-bytes s v entry exit w bytes e room c =

@@ -43,7 +43,10 @@ writable n bytes room e =
 
 module _ (n : Counts) (cells entry : List ℕ) where
   pub not-written : (r : Refusal) → write-check n (length cells) (length entry) ≡ Refused r → WritesVenue n cells entry (Written.Refused r) entry
-  not-written r e = record { says = sym (ap (by-verdict Written.Refused (Written.Wrote (record-length n))) e); holds = sym (ap (by-verdict (λ s. entry) (after-writing n cells entry)) e) }
+  not-written r e = record {
+    says = sym (ap (by-verdict Written.Refused (Written.Wrote (record-length n))) e);
+    holds = sym (ap (by-verdict (λ s. entry) (after-writing n cells entry)) e);
+  }
 
   -- head and cells stored one behind the other
   filled : {start : ℕ} {m exit : List ℕ} → Writable n (length cells) (length entry) → start ≡ cells-from written-version

@@ -18,8 +18,10 @@ module _ (n : Counts) (bytes : ℕ) (p q : Cell) (fine : walk-check n bytes p q 
   has-shape = shaped n bytes (accepted n bytes p q fine .shaped)
 
   pub ends-enclosed : Enclosed n p × Enclosed n q
-  ends-enclosed =
-      (record { bytes = bytes; shaped = has-shape; inside = accepted n bytes p q fine .p-in }, record { bytes = bytes; shaped = has-shape; inside = accepted n bytes p q fine .q-in })
+  ends-enclosed = (
+    record { bytes = bytes; shaped = has-shape; inside = accepted n bytes p q fine .p-in },
+    record { bytes = bytes; shaped = has-shape; inside = accepted n bytes p q fine .q-in },
+  )
 
   pub route-planned : (k : Route) → RouteOf n p q k → Planned bytes k
   route-planned k r =

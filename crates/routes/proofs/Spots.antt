@@ -68,7 +68,8 @@ moved-by true w i i′ = i′ ≡ i + w
 moved-by false w i i′ = i ≡ i′ + w
 
 -- a coordinate moves by one
-coordinate-next : (p q : ℤ) (count i : ℕ) → off-axis p count ≡ false → off-axis (towards p q i) count ≡ false → off-axis (towards p q (i + 1)) count ≡ false → moved-by (leZ p q) 1 (natAbs (towards p q i)) (natAbs (towards p q (i + 1)))
+coordinate-next : (p q : ℤ) (count i : ℕ) → off-axis p count ≡ false → off-axis (towards p q i) count ≡ false →
+    off-axis (towards p q (i + 1)) count ≡ false → moved-by (leZ p q) 1 (natAbs (towards p q i)) (natAbs (towards p q (i + 1)))
 coordinate-next p q count i hp h h′ =
     go (leZ p q) (inside-parts p count hp .0) (inside-parts (towards p q i) count h .0) (inside-parts (towards p q (i + 1)) count h′ .0)
   where
@@ -123,18 +124,22 @@ module _ (bytes : ℕ) (k : Route) (plan : Planned bytes k) where
   inside = cell-inside (k .n) (k .p) (k .q) (plan .p-in) (plan .q-in)
 
   -- one coordinate of it
-  coordinate : (t : Steps) (n : Axis) → ((a : Axis) → bump t n a ≤ D a) → (a : Axis) → bump t n a ≡ t a + 1 → moved-by (leZ (on (k .p) a) (on (k .q) a)) 1 (natAbs (towards (on (k .p) a) (on (k .q) a) (t a))) (natAbs (towards (on (k .p) a) (on (k .q) a) (t a + 1)))
+  coordinate : (t : Steps) (n : Axis) → ((a : Axis) → bump t n a ≤ D a) → (a : Axis) → bump t n a ≡ t a + 1 →
+      moved-by (leZ (on (k .p) a) (on (k .q) a)) 1 (natAbs (towards (on (k .p) a) (on (k .q) a) (t a))) (natAbs (towards (on (k .p) a) (on (k .q) a) (t a + 1)))
   coordinate t n le a e =
       coordinate-next (on (k .p) a) (on (k .q) a) (count-on (k .n) a) (t a) (plan .p-in .inside a)
       (subst (λ z. off-axis z (count-on (k .n) a) ≡ false) (cell-on (k .p) (k .q) t a) (inside t (λ b. omega (arith, le b)) .inside a))
-      (subst (λ z. off-axis z (count-on (k .n) a) ≡ false) (cell-on (k .p) (k .q) (bump t n) a ∙ ap (towards (on (k .p) a) (on (k .q) a)) e) (inside (bump t n) le .inside a))
+      (subst (λ z. off-axis z (count-on (k .n) a) ≡ false) (cell-on (k .p) (k .q) (bump t n) a ∙ ap (towards (on (k .p) a) (on (k .q) a)) e)
+      (inside (bump t n) le .inside a))
 
   -- a coordinate that stays
   kept : (t : Steps) (a : Axis) → natAbs (towards (on (k .p) a) (on (k .q) a) (t a)) ≡ natAbs (towards (on (k .p) a) (on (k .q) a) (t a + 0))
   kept t a = ap (λ i. natAbs (towards (on (k .p) a) (on (k .q) a) i)) (sym (add-zero (t a)))
 
   -- the byte's place across a face along n
-  pub index-next : (t : Steps) (n : Axis) → ((a : Axis) → bump t n a ≤ D a) → pos (byte-index (k .n) (cell-of (k .p) (k .q) t)) +ℤ stride-on (strides (k .n) (k .p) (k .q)) n ≡ pos (byte-index (k .n) (cell-of (k .p) (k .q) (bump t n)))
+  pub index-next : (t : Steps) (n : Axis) → ((a : Axis) → bump t n a ≤ D a) →
+      pos (byte-index (k .n) (cell-of (k .p) (k .q) t)) +ℤ stride-on (strides (k .n) (k .p) (k .q)) n ≡ pos
+      (byte-index (k .n) (cell-of (k .p) (k .q) (bump t n)))
   index-next t X le =
       stride-moves (leZ (k .p .x) (k .q .x)) 1 _ _ (x-moves (leZ (k .p .x) (k .q .x)) (k .n) _ _ _ _ (coordinate t X le X refl))
       ∙ ap₂ (λ y z. pos (index (k .n) (natAbs (towards (k .p .x) (k .q .x) (t X + 1))) y z)) (kept t Y) (kept t Z)
@@ -188,7 +193,8 @@ module _ (bytes : ℕ) (k : Route) (plan : Planned bytes k) where
   place-within m le = place-on (course k) (centres-good rule-1 D) m le .1
 
   -- across the next face lies the next place
-  pub six-turn : (m : ℕ) (s : Spot) (n : Axis) → m < total D → SpotAt k (place (course k) m) s → NextFace (s .e) n → SpotAt k (place (course k) (m + 1)) (crossed-spot k n s)
+  pub six-turn : (m : ℕ) (s : Spot) (n : Axis) → m < total D → SpotAt k (place (course k) m) s → NextFace (s .e) n →
+      SpotAt k (place (course k) (m + 1)) (crossed-spot k n s)
   six-turn m s n lt h face =
       let t = place (course k) m in
       let e : n ≡ next (course k) t = face .comes-first D t (place-within m (omega arith)) (omega (arith, place-total (course k) m)) (h .value) in

@@ -40,5 +40,6 @@ module _ (n : Counts) (l : List ℕ) (at : Placement) (camera ball : Point) wher
   ball-refused hf f-is ht t-is = from-lookups hf f-is ht t-is
 
   pub both-found : {f t : Lookup} {c b : cell.Cell} {h : FirstHit} →
-      f ≡ look-up P n at camera → f ≡ Lookup.Cell c → t ≡ look-up Q n at ball → t ≡ Lookup.Cell b → h ≡ first-hit Adaptive n l c b → looked n l at camera ball ≡ sight-of h
+      f ≡ look-up P n at camera → f ≡ Lookup.Cell c → t ≡ look-up Q n at ball → t ≡ Lookup.Cell b → h ≡ first-hit Adaptive n l c b →
+      looked n l at camera ball ≡ sight-of h
   both-found hf f-is ht t-is h-is = from-lookups hf f-is ht t-is ∙ ap sight-of (sym h-is)

@@ -31,10 +31,12 @@ module _ (e : End) (n : Counts) (at : Placement) (p : Point) where
   pub lookup-inside : {q : Point} {v : Verdict} → Tested n at → q ≡ quotients at p → v ≡ point-check e n p q → v ≡ Verdict.Fine → AllInside n q
   lookup-inside t hq hv h = subst (AllInside n) (sym hq) (point-inside e n at p t (verdict-is hq hv h))
 
-  pub lookup-refused : {q : Point} {v : Verdict} {r : Refusal} → q ≡ quotients at p → v ≡ point-check e n p q → v ≡ Verdict.Refused r → look-up e n at p ≡ Refused r
+  pub lookup-refused : {q : Point} {v : Verdict} {r : Refusal} → q ≡ quotients at p → v ≡ point-check e n p q → v ≡ Verdict.Refused r →
+      look-up e n at p ≡ Refused r
   lookup-refused hq hv h = look-up-is ∙ ap (by-verdict Refused (Cell (cell-at n (quotients at p)))) (verdict-is hq hv h)
 
-  pub lookup-found : {q : Point} {v : Verdict} {c : cell.Cell} → q ≡ quotients at p → v ≡ point-check e n p q → v ≡ Verdict.Fine → c ≡ cell-at n q → look-up e n at p ≡ Cell c
+  pub lookup-found : {q : Point} {v : Verdict} {c : cell.Cell} → q ≡ quotients at p → v ≡ point-check e n p q → v ≡ Verdict.Fine → c ≡ cell-at n q →
+      look-up e n at p ≡ Cell c
   lookup-found hq hv h hc =
       look-up-is ∙ ap (by-verdict Refused (Cell (cell-at n (quotients at p)))) (verdict-is hq hv h) ∙
       ap (λ q. Cell (cell-at n q)) (sym hq) ∙ ap Cell (sym hc)
@@ -52,10 +54,12 @@ module _ (n : Counts) (at : Placement) (p : Point) where
       let (counts, placed) = each-fine _ _ (tests-are hu hv hw h) in
       record { counts = counts; placed = placed }
 
-  pub cell-refused : {u v w : Verdict} {r : Refusal} → u ≡ count-check n → v ≡ placement-check at → w ≡ (u then v) → w ≡ Verdict.Refused r → cell-of n at p ≡ Refused r
+  pub cell-refused : {u v w : Verdict} {r : Refusal} → u ≡ count-check n → v ≡ placement-check at → w ≡ (u then v) → w ≡ Verdict.Refused r →
+      cell-of n at p ≡ Refused r
   cell-refused hu hv hw h = cell-of-is ∙ ap (by-verdict Refused (look-up P n at p)) (tests-are hu hv hw h)
 
-  pub cell-looked-up : {u v w : Verdict} {l : Lookup} → u ≡ count-check n → v ≡ placement-check at → w ≡ (u then v) → w ≡ Verdict.Fine → l ≡ look-up P n at p → cell-of n at p ≡ l
+  pub cell-looked-up : {u v w : Verdict} {l : Lookup} → u ≡ count-check n → v ≡ placement-check at → w ≡ (u then v) → w ≡ Verdict.Fine →
+      l ≡ look-up P n at p → cell-of n at p ≡ l
   cell-looked-up hu hv hw h hl = cell-of-is ∙ ap (by-verdict Refused (look-up P n at p)) (tests-are hu hv hw h) ∙ sym hl
 
 -- ---- an answer that is a cell
@@ -65,18 +69,21 @@ no-refusal : (c : cell.Cell) (r : Refusal) → ¬ (Refused r ≡ Cell c)
 no-refusal c r h = let z : _≡_ {A = ℕ} 0 1 = cc in omega arith
 
 -- the quotients lie inside, and the cell is where they lie
-pub look-given : (e : End) (n : Counts) (at : Placement) (p : Point) (c : cell.Cell) → Tested n at → look-up e n at p ≡ Cell c → AllInside n (quotients at p) × (c ≡ cell-at n (quotients at p))
+pub look-given : (e : End) (n : Counts) (at : Placement) (p : Point) (c : cell.Cell) → Tested n at → look-up e n at p ≡ Cell c →
+    AllInside n (quotients at p) × (c ≡ cell-at n (quotients at p))
 look-given e n at p c tested h =
     let (fine, same) = by-fine Refused _ _ (no-refusal c) (sym (look-up-is e n at p) ∙ h) in
     (point-inside e n at p tested fine, cc)
 
 -- all tests are passed too
-pub cell-given : (n : Counts) (at : Placement) (p : Point) (c : cell.Cell) → cell-of n at p ≡ Cell c → Tested n at × AllInside n (quotients at p) × (c ≡ cell-at n (quotients at p))
+pub cell-given : (n : Counts) (at : Placement) (p : Point) (c : cell.Cell) → cell-of n at p ≡ Cell c →
+    Tested n at × AllInside n (quotients at p) × (c ≡ cell-at n (quotients at p))
 cell-given n at p c h =
     let (tests, looked) = by-fine Refused _ _ (no-refusal c) (sym (cell-of-is n at p) ∙ h) in
     let tested : Tested n at = cell-tested n at p refl refl refl tests in
     let (inside, same) = look-given P n at p c tested looked in
     (tested, inside, same)
 
-pub cell-found : (n : Counts) (at : Placement) (p : Point) → Tested n at → point-check P n p (quotients at p) ≡ Verdict.Fine → cell-of n at p ≡ Cell (cell-at n (quotients at p))
+pub cell-found : (n : Counts) (at : Placement) (p : Point) → Tested n at → point-check P n p (quotients at p) ≡ Verdict.Fine →
+    cell-of n at p ≡ Cell (cell-at n (quotients at p))
 cell-found n at p t h = cell-looked-up n at p (sym (t .counts)) (sym (t .placed)) refl refl (sym (lookup-found P n at p refl refl h refl))

@@ -53,8 +53,12 @@ number-there q (suc m) r from upto = go (lt q (as-f64 m)) refl (number-there q m
   where
     go : (b : Bool) → lt q (as-f64 m) ≡ b → (lt q (as-f64 m) ≡ true → (n : ℕ) × (n < m) × (in-cell q n ≡ true)) → (n : ℕ) × (n < suc m) × (in-cell q n ≡ true)
     go true e lower = let (n, l, i) = lower e in (n, omega arith, i)
-    go false e lower =
-        (m, omega arith, in-cell-of q m (at-least q m (omega arith) (compared (as-f64 0) q from) e) (subst (λ (k : ℕ). lt q (as-f64 k) ≡ true) (sym (add-one m)) upto))
+    go false e lower = (
+      m,
+      omega arith,
+      in-cell-of q m (at-least q m (omega arith) (compared (as-f64 0) q from) e)
+          (subst (λ (k : ℕ). lt q (as-f64 k) ≡ true) (sym (add-one m)) upto),
+    )
 
 -- ---- inside
 
@@ -74,7 +78,8 @@ number-in count q h =
     rw (number-found count n q (omega arith) below there) (below, there)
 
 -- the last number below the count that is not above q is the definition's number
-pub number-last : (count n : ℕ) (q : Float) → Inside count q → n < count → le (as-f64 n) q ≡ true → (n + 1 < count → lt q (as-f64 (n + 1)) ≡ true) → cell-number count q ≡ n
+pub number-last : (count n : ℕ) (q : Float) → Inside count q → n < count → le (as-f64 n) q ≡ true → (n + 1 < count → lt q (as-f64 (n + 1)) ≡ true) →
+    cell-number count q ≡ n
 number-last count n q h below from upto =
     let l = h .small in
     number-found count n q (omega arith) below (in-cell-of q n from (above (eq-or-lt-of-le below)))

@@ -88,7 +88,8 @@ between (fin false m e) (fin false m' e') (fin true n d) a b v w h k =
     let bz : B ≡ 0 = sym (eqb→eq A B (and-l (eqb A B) (eqb A 0) h)) ∙ az in
     let nz : n * up d * down e' ≡ 0 = no-product (n * up d) (down e) (down e') (down-pos e) bz in
     let s : 0 < n * up d * down e' + m' * up e' * down d = ltb→lt 0 (n * up d * down e' + m' * up e' * down d) k in
-    minus-zero (zero-whole (m * up e) a (down e) (down d) (down-pos e) (down-pos d) (v .1) az) (above-zero (m' * up e') b (down e') (down d) (w .1) (omega arith))
+    minus-zero (zero-whole (m * up e) a (down e) (down d) (down-pos e) (down-pos d) (v .1) az)
+    (above-zero (m' * up e') b (down e') (down d) (w .1) (omega arith))
 between (fin false m e) (fin false m' e') (fin false n d) a b v w h k =
     number
     (low-side (m * up e) a (down e) (down d) (n * up d) (down-pos e) (v .1) (test-at-most (m * up e * down d) (n * up d * down e) h))

@@ -108,7 +108,8 @@ by-signs-next e = record { comes-first = λ D t le lt h. ap by-signs h ∙ figur
 -- ---- the long step
 
 -- a test that says whether an axis moves tells what it adds
-moves-bit : (t : Bool) (D : Steps) (m : ℕ) (b : Axis) → m < longest D → (t ≡ true) ↔ (place-26 D (m + 1) b ≡ place-26 D m b + 1) → place-26 D (m + 1) b ≡ place-26 D m b + bit t
+moves-bit : (t : Bool) (D : Steps) (m : ℕ) (b : Axis) → m < longest D → (t ≡ true) ↔ (place-26 D (m + 1) b ≡ place-26 D m b + 1) →
+    place-26 D (m + 1) b ≡ place-26 D m b + bit t
 moves-bit true D m b lt i = i .0 refl
 moves-bit false D m b lt i =
     let some : 0 < longest D = omega arith in

@@ -55,7 +55,8 @@ unfolding number-of
 found-is f zero w s h = absurd (let z : _≡_ {A = ℕ} 0 1 = cc in omega arith)
 found-is f (suc n) w s h = go (is-cell w (f n)) refl h (found-is f n w s)
   where
-    go : (t : Bool) → is-cell w (f n) ≡ t → cond t (some n) (number-of f n w) ≡ some s → (number-of f n w ≡ some s → (s < n) × (w ≡ f s)) → (s < suc n) × (w ≡ f s)
+    go : (t : Bool) → is-cell w (f n) ≡ t → cond t (some n) (number-of f n w) ≡ some s → (number-of f n w ≡ some s → (s < n) × (w ≡ f s)) →
+        (s < suc n) × (w ≡ f s)
     go true e h ih =
         let k : n ≡ s = cc in
         (omega arith, is-cell-same w (f n) e ∙ ap f k)

@@ -41,4 +41,5 @@ cell-inside n p q hp hq t le =
 
 pub six-inside : (n : Counts) (p q : Cell) → InGrid n p → InGrid n q → (s : ℕ) → s ≤ total (differences p q) → InGrid n (six-cell rule-1 p q s)
 six-inside n p q hp hq s le =
-    rw (six-is rule-1 p q s) (cell-inside n p q hp hq (place (centres rule-1 (differences p q)) s) (place-on (centres rule-1 (differences p q)) (centres-good rule-1 (differences p q)) s le .1))
+    rw (six-is rule-1 p q s) (cell-inside n p q hp hq (place (centres rule-1 (differences p q)) s)
+    (place-on (centres rule-1 (differences p q)) (centres-good rule-1 (differences p q)) s le .1))

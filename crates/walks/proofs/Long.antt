@@ -41,12 +41,15 @@ module _ (p q : Cell) where
   pub found-at : (m : ℕ) → m ≤ longest (differences p q) → number-of (cell-26 p q) (count-26 p q) (six-cell rule-1 p q (number-26 p q m)) ≡ some m
   found-at m le =
       found (cell-26 p q) (count-26 p q) m (six-cell rule-1 p q (number-26 p q m))
-      (λ i j a b e. one-26 i j (omega arith) (omega arith) (six-different rule-1 p q (number-26 p q i) (number-26 p q j) (sym (six-at-26 rule-1 p q i (omega arith)) ∙ e ∙ six-at-26 rule-1 p q j (omega arith))))
+      (λ i j a b e. one-26 i j (omega arith) (omega arith)
+      (six-different rule-1 p q (number-26 p q i) (number-26 p q j)
+      (sym (six-at-26 rule-1 p q i (omega arith)) ∙ e ∙ six-at-26 rule-1 p q j (omega arith))))
       (omega arith) (sym (six-at-26 rule-1 p q m le))
 
 module _ (n : Counts) (l : List ℕ) (p q : Cell) where
   -- from a clear cell of the 26-line, which is not the last, a long step
-  pub go-long : (m : ℕ) → m < longest (differences p q) → clear (byte-of n l (six-cell rule-1 p q (number-26 p q m))) ≡ true → go n l p q (number-26 p q m) ≡ number-26 p q (m + 1)
+  pub go-long : (m : ℕ) → m < longest (differences p q) → clear (byte-of n l (six-cell rule-1 p q (number-26 p q m))) ≡ true →
+      go n l p q (number-26 p q m) ≡ number-26 p q (m + 1)
   go-long m lt h = ap₂ (λ b o. cond b (go-by n l p q (number-26 p q m) o) (suc (number-26 p q m))) h (found-at p q m (omega arith))
 
   -- from a cell that is not clear, one face
@@ -61,6 +64,8 @@ module _ (n : Counts) (l : List ℕ) (p q : Cell) where
       by face = refl
       by (long k e h) =
           ⊎-elim
-          (λ le. absurd (⊎-elim (λ same. omega (arith, h .number, ap (number-26 p q) same)) (λ less. omega (arith, h .number, rises-26 p q k m less (omega arith))) (eq-or-lt-of-le {n = k} {m = m} (omega arith))))
-          (λ ge. absurd (⊎-elim (λ same. omega (arith, h .number, ap (number-26 p q) same)) (λ more. omega (arith, h .number, rises-26 p q (m + 1) k more (omega (arith, h .below)))) (eq-or-lt-of-le {n = m + 1} {m = k} (omega arith))))
+          (λ le. absurd (⊎-elim (λ same. omega (arith, h .number, ap (number-26 p q) same))
+          (λ less. omega (arith, h .number, rises-26 p q k m less (omega arith))) (eq-or-lt-of-le {n = k} {m = m} (omega arith))))
+          (λ ge. absurd (⊎-elim (λ same. omega (arith, h .number, ap (number-26 p q) same))
+          (λ more. omega (arith, h .number, rises-26 p q (m + 1) k more (omega (arith, h .below)))) (eq-or-lt-of-le {n = m + 1} {m = k} (omega arith))))
           (lt-or-ge k (m + 1))

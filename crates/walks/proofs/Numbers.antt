@@ -67,7 +67,8 @@ module _ (p q : Cell) where
       let (below, is) = found-is (cell-26 p q) (count-26 p q) (f s) m h in
       let le : m ≤ longest (differences p q) = omega arith in
       let e : s ≡ number-26 p q m = six-different rule-1 p q s (number-26 p q m) (is ∙ six-at-26 rule-1 p q m le) in
-      let ne : m ≢ longest (differences p q) = λ k. omega (arith, six-different rule-1 p q s N (is ∙ ap (cell-26 p q) k ∙ end-26 p q ∙ sym (six-end rule-1 p q))) in
+      let ne : m ≢ longest (differences p q) = λ k. omega
+      (arith, six-different rule-1 p q s N (is ∙ ap (cell-26 p q) k ∙ end-26 p q ∙ sym (six-end rule-1 p q))) in
       record { below = omega arith; number = e; cell = is }
 
 module _ (n : Counts) (l : List ℕ) (p q : Cell) where
@@ -100,10 +101,12 @@ module _ (n : Counts) (l : List ℕ) (p q : Cell) where
           omega (arith, w X, w Y, w Z)
 
   -- what a step passes over shares a face or an edge with a clear cell that it left
-  pub skipped : (s t : ℕ) → s < last-number p q → s < t → t < go n l p q s → (clear (byte-of n l (six-cell rule-1 p q s)) ≡ true) × Touches 2 (six-cell rule-1 p q s) (six-cell rule-1 p q t)
+  pub skipped : (s t : ℕ) → s < last-number p q → s < t → t < go n l p q s →
+      (clear (byte-of n l (six-cell rule-1 p q s)) ≡ true) × Touches 2 (six-cell rule-1 p q s) (six-cell rule-1 p q t)
   skipped s t lt lo hi = over (way s lt) lo hi
     where
-      over : {u : ℕ} → Way s u → s < t → t < u → (clear (byte-of n l (six-cell rule-1 p q s)) ≡ true) × Touches 2 (six-cell rule-1 p q s) (six-cell rule-1 p q t)
+      over : {u : ℕ} → Way s u → s < t → t < u →
+          (clear (byte-of n l (six-cell rule-1 p q s)) ≡ true) × Touches 2 (six-cell rule-1 p q s) (six-cell rule-1 p q t)
       over face lo hi = absurd (omega arith)
       over (long m e h) lo hi = (e, rw (h .cell) (skipped-touches rule-1 p q m t (h .below) (omega (arith, h .number)) hi))
 
@@ -113,14 +116,16 @@ module _ (n : Counts) (l : List ℕ) (p q : Cell) where
     where
       by :
           (t : Bool) (o : Option ℕ) → number-of (cell-26 p q) (count-26 p q) (six-cell rule-1 p q s) ≡ o →
-          cond t (long-or-plain p q (six-cell rule-1 p q s) o) (next-plain p q (six-cell rule-1 p q s)) ≡ six-cell rule-1 p q (cond t (go-by n l p q s o) (suc s))
+          cond t (long-or-plain p q (six-cell rule-1 p q s) o) (next-plain p q (six-cell rule-1 p q s)) ≡ six-cell rule-1 p q
+          (cond t (go-by n l p q s o) (suc s))
       by false o h = plain-next p q s lt
       by true none h = plain-next p q s lt
       by true (some m) h = six-at-26 rule-1 p q (m + 1) (omega (arith, found-26 p q s m lt h .below))
 
 -- ---- a walk by cells is a walk by numbers
 
-module _ (n : Counts) (l : List ℕ) (p q : Cell) (next : Cell → Cell) (g : ℕ → ℕ) (rises : Rises (last-number p q) g) (steps : (s : ℕ) → s < last-number p q → next (six-cell rule-1 p q s) ≡ six-cell rule-1 p q (g s)) where
+module _ (n : Counts) (l : List ℕ) (p q : Cell) (next : Cell → Cell) (g : ℕ → ℕ) (rises : Rises (last-number p q) g)
+    (steps : (s : ℕ) → s < last-number p q → next (six-cell rule-1 p q s) ≡ six-cell rule-1 p q (g s)) where
   abbrev F : ℕ → Cell
   F = six-cell rule-1 p q
 
@@ -139,8 +144,10 @@ module _ (n : Counts) (l : List ℕ) (p q : Cell) (next : Cell → Cell) (g : �
       let e : (hit-at n l (F s) || is-cell (F s) q) ≡ stops s = ap (λ b. solid-at n l p q s || b) (is-q p q s) in
       let r = turn (stops s) refl (λ lt. followed fuel (g s) (rises .most s lt) (omega (arith, rises .up s lt))) in
       record {
-        long = subst (λ t. length (F s ∷ cond t [] (walk (hit-at n l) next q fuel (next (F s)))) ≡ suc (cond (stops s) 0 (visits (solid-at n l p q) (last-number p q) g fuel (g s)))) (sym e) (r .0);
-        last = λ c. subst (λ t. last-of (F s) (cond t [] (walk (hit-at n l) next q fuel (next (F s)))) ≡ F (cond (stops s) s (ends (solid-at n l p q) (last-number p q) g fuel (g s)))) (sym e) (r .1);
+        long = subst (λ t. length (F s ∷ cond t [] (walk (hit-at n l) next q fuel (next (F s)))) ≡ suc
+            (cond (stops s) 0 (visits (solid-at n l p q) (last-number p q) g fuel (g s)))) (sym e) (r .0);
+        last = λ c. subst (λ t. last-of (F s) (cond t [] (walk (hit-at n l) next q fuel (next (F s)))) ≡ F
+            (cond (stops s) s (ends (solid-at n l p q) (last-number p q) g fuel (g s)))) (sym e) (r .1);
       }
     where
       turn :

@@ -40,7 +40,8 @@ module _ (p q : Cell) where
   earlier s t lt most =
       let (on-s, in-s) = place-on C (centres-good rule-1 D) (suc s) (omega arith) in
       let (on-t, in-t) = place-on C (centres-good rule-1 D) t (omega arith) in
-      let below = fewer-is-below D (Before C) (laws C (centres-good rule-1 D)) (place C (suc s)) (place C t) in-s in-t on-s on-t (omega (arith, place-total C (suc s), place-total C t)) (enters s) in
+      let below = fewer-is-below D (Before C) (laws C (centres-good rule-1 D)) (place C (suc s)) (place C t) in-s in-t on-s on-t
+      (omega (arith, place-total C (suc s), place-total C t)) (enters s) in
       let real = next-rule C (centres-good rule-1 D) (place C t) in-t (omega (arith, place-total C t)) .0 in
       omega (arith, on-t (enters s) (enters t) (place C s (enters s)) (place C t (enters t)) (omega (arith, one-more s)) (omega arith) real)
 

@@ -25,7 +25,8 @@ module _ (solid : ℕ → Bool) (N : ℕ) (go : ℕ → ℕ) where
   pub on-stop : (s r : ℕ) → OnWay solid N go s r → stop solid N s ≡ true → (s ≡ ends solid N go (N + 1) 0) × (r + 1 ≡ visits solid N go (N + 1) 0)
   on-stop s r w h = by (w .fuel) (w .enough) (w .end) (w .reads)
     where
-      by : (fuel : ℕ) → N < s + fuel → ends solid N go fuel s ≡ ends solid N go (N + 1) 0 → r + visits solid N go fuel s ≡ visits solid N go (N + 1) 0 → (s ≡ ends solid N go (N + 1) 0) × (r + 1 ≡ visits solid N go (N + 1) 0)
+      by : (fuel : ℕ) → N < s + fuel → ends solid N go fuel s ≡ ends solid N go (N + 1) 0 →
+          r + visits solid N go fuel s ≡ visits solid N go (N + 1) 0 → (s ≡ ends solid N go (N + 1) 0) × (r + 1 ≡ visits solid N go (N + 1) 0)
       by zero enough e v = absurd (omega (arith, w .most))
       by (suc fuel) enough e v = (sym (ends-by fuel s h) ∙ e, ap (λ k. r + k) (sym (visits-by fuel s h)) ∙ v)
 
@@ -39,7 +40,8 @@ module _ (solid : ℕ → Bool) (N : ℕ) (go : ℕ → ℕ) where
       lt : s < N
       lt = omega (arith, w .most, ne)
 
-      by : (fuel : ℕ) → N < s + fuel → ends solid N go fuel s ≡ ends solid N go (N + 1) 0 → r + visits solid N go fuel s ≡ visits solid N go (N + 1) 0 → OnWay solid N go (go s) (r + 1)
+      by : (fuel : ℕ) → N < s + fuel → ends solid N go fuel s ≡ ends solid N go (N + 1) 0 →
+          r + visits solid N go fuel s ≡ visits solid N go (N + 1) 0 → OnWay solid N go (go s) (r + 1)
       by zero enough e v = absurd (omega (arith, w .most))
       by (suc fuel) enough e v =
           record {

@@ -60,7 +60,11 @@ module _ (solid : ℕ → Bool) (N : ℕ) (go : ℕ → ℕ) (rises : Rises N go
           let ne : s ≢ N = k in
           let lt : s < N = omega arith in
           elim (decLt t (go s)) [
-            | yes before ↦ elim (decLt s t) [ yes after ↦ skips s t lt after before | no same ↦ subst (λ m. solid m ≡ false) (both-ways s t lo (omega arith)) clear ]
+            | yes before ↦ elim (decLt s t) [
+              | yes after ↦ skips s t lt after before
+              | no same ↦ subst (λ m. solid m ≡ false)
+                  (both-ways s t lo (omega arith)) clear
+            ]
             | no after ↦ h lt (omega arith) hi
           ]
 
@@ -89,7 +93,8 @@ by-one N = record { up = λ s lt. omega arith; most = λ s lt. omega arith }
 -- it visits every number up to its end
 pub visits-all : (solid : ℕ → Bool) (N fuel s : ℕ) → s ≤ N → N < s + fuel → s + visits solid N suc fuel s ≡ ends solid N suc fuel s + 1
 visits-all solid N fuel s le enough =
-    both-ways _ _ (ended solid N suc (by-one N) fuel s le enough .few) (omega (arith, at-least solid N suc (by-one N) (λ k. k) (λ k lt. omega arith) fuel s le enough))
+    both-ways _ _ (ended solid N suc (by-one N) fuel s le enough .few)
+    (omega (arith, at-least solid N suc (by-one N) (λ k. k) (λ k lt. omega arith) fuel s le enough))
 
 -- ---- two walks over the same numbers, from the first on
 

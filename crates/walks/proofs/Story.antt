@@ -42,8 +42,10 @@ module _ (n : Counts) (l : List ℕ) (p q : Cell) where
   answer-is : (cells : List Cell) (e r : ℕ) → e ≤ N → last-of p cells ≡ f e → length cells ≡ r → answer-of n l p q cells ≡ answer-at n l p q e r
   unfolding answer-of place-of
   answer-is cells e r le last many =
-      ap₂ (λ w k. cond (hit-at n l w) (FirstHit.Hit (record { cell = w; code = byte-of n l w; place = place-of p q w; reads = k })) (FirstHit.Clear k)) last many
-      ∙ ap (λ a. cond (hit-at n l (f e)) (FirstHit.Hit (record { cell = f e; code = byte-of n l (f e); place = a; reads = r })) (FirstHit.Clear r)) (ap (place-by p q) (six-found p q e le))
+      ap₂ (λ w k. cond (hit-at n l w) (FirstHit.Hit (record { cell = w; code = byte-of n l w; place = place-of p q w; reads = k }))
+      (FirstHit.Clear k)) last many
+      ∙ ap (λ a. cond (hit-at n l (f e)) (FirstHit.Hit (record { cell = f e; code = byte-of n l (f e); place = a; reads = r })) (FirstHit.Clear r))
+      (ap (place-by p q) (six-found p q e le))
 
   walk-ended : (k : Walker) → Ended (solid-at n l p q) N (step n l p q k) (step-rises n l p q k) 0 (end-of n l p q k) (reads-of n l p q k)
   walk-ended k = ended (solid-at n l p q) N (step n l p q k) (step-rises n l p q k) (six-count p q) 0 (omega arith) (omega arith)
@@ -51,9 +53,11 @@ module _ (n : Counts) (l : List ℕ) (p q : Cell) where
   pub end-below : (k : Walker) → end-of n l p q k ≤ N
   end-below k = walk-ended k .most
 
-  pub first-hit-is : (k : Walker) → first-hit k n l p q ≡ by-verdict FirstHit.Refused (answer-at n l p q (end-of n l p q k) (reads-of n l p q k)) (walk-check n (length l) p q)
+  pub first-hit-is : (k : Walker) → first-hit k n l p q ≡ by-verdict FirstHit.Refused (answer-at n l p q (end-of n l p q k) (reads-of n l p q k))
+      (walk-check n (length l) p q)
   unfolding first-hit
-  first-hit-is k = ap (λ a. by-verdict FirstHit.Refused a (walk-check n (length l) p q)) (answer-is (walk-of k n l p q) _ _ (end-below k) (walk-last n l p q k p) (walk-length n l p q k))
+  first-hit-is k = ap (λ a. by-verdict FirstHit.Refused a (walk-check n (length l) p q))
+      (answer-is (walk-of k n l p q) _ _ (end-below k) (walk-last n l p q k p) (walk-length n l p q k))
 
   -- ---- no walk runs out: its last cell is solid, or Q
 
@@ -120,9 +124,11 @@ module _ (n : Counts) (l : List ℕ) (p q : Cell) where
   pub adaptive-clear-least : solid-at n l p q (end-of n l p q Adaptive) ≡ false → longest (differences p q) + 1 ≤ reads-of n l p q Adaptive
   adaptive-clear-least h =
       let e = ends-at-q (end-of n l p q Adaptive) (walk-ended Adaptive .stops) h in
-      let w : μ (end-of n l p q Adaptive) + 1 ≤ μ 0 + reads-of n l p q Adaptive = at-least (solid-at n l p q) N (go n l p q) (go-rises n l p q) μ (λ s lt. grows s lt (way n l p q s lt)) (six-count p q) 0 (omega arith) (omega arith) in
+      let w : μ (end-of n l p q Adaptive) + 1 ≤ μ 0 + reads-of n l p q Adaptive = at-least (solid-at n l p q) N (go n l p q) (go-rises n l p q) μ
+      (λ s lt. grows s lt (way n l p q s lt)) (six-count p q) 0 (omega arith) (omega arith) in
       let z : μ 0 ≡ 0 = place-start (centres rule-1 (differences p q)) a in
-      let y : μ (end-of n l p q Adaptive) ≡ longest (differences p q) = ap μ e ∙ place-end (centres rule-1 (differences p q)) (centres-good rule-1 (differences p q)) a ∙ is-longest in
+      let y : μ (end-of n l p q Adaptive) ≡ longest (differences p q) = ap μ e
+      ∙ place-end (centres rule-1 (differences p q)) (centres-good rule-1 (differences p q)) a ∙ is-longest in
       omega (arith, w)
     where
       a : Axis
@@ -143,5 +149,6 @@ module _ (n : Counts) (l : List ℕ) (p q : Cell) where
       at-26 m le = sym (is-place-26 (differences p q) rule-1 m le a) ∙ rw is-longest (moved-longest (longest (differences p q)) m le)
 
       grows : (s : ℕ) {t : ℕ} → s < N → Way n l p q s t → μ t ≤ μ s + 1
-      grows s lt face = rw (place-suc (centres rule-1 (differences p q)) s) (omega (arith, at-most-one (cmp (next (centres rule-1 (differences p q)) (place (centres rule-1 (differences p q)) s)) a)))
+      grows s lt face = rw (place-suc (centres rule-1 (differences p q)) s)
+          (omega (arith, at-most-one (cmp (next (centres rule-1 (differences p q)) (place (centres rule-1 (differences p q)) s)) a)))
       grows s lt (long m e h) = omega (arith, at-26 m (omega (arith, h .below)), at-26 (m + 1) (omega (arith, h .below)), ap μ (h .number))

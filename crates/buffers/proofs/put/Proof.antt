@@ -1,4 +1,4 @@
--- The piece is copied into the part that is lent from its place on. Assumes nothing.
+-- `buffers::put` meets its contract: the piece is copied into the part that is lent from its place on. Assumes nothing.
 use denote.Ref.{now}
 use borrow.Author.Needs.{needs}
 use Rattle.buffers.proofs.Over.{lent-over}

@@ -1,4 +1,4 @@
--- The upper two bytes are stored, then the lower two. Assumes nothing.
+-- `buffers::put_four` meets its contract: the upper two bytes are stored, then the lower two. Assumes nothing.
 use mathlib.Core.Path.{refl}
 use Rattle.buffers.proofs.Over.{then-over}
 use borrow.Author.Needs.{needs}

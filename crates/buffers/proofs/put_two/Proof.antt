@@ -1,4 +1,4 @@
--- The two bytes are stored one behind the other. Assumes nothing.
+-- `buffers::put_two` meets its contract: the two bytes are stored one behind the other. Assumes nothing.
 use mathlib.Core.Path.{refl}
 use denote.Ref.{now}
 use Rattle.buffers.proofs.Over.{then-over}

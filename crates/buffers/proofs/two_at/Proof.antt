@@ -1,4 +1,4 @@
--- Each byte is below 256, so the sum of the definition fits. Assumes nothing.
+-- `buffers::two_at` meets its contract: each byte is below 256, so the sum of the definition fits. Assumes nothing.
 use Prim.Native.Nat.{_+_}
 use mathlib.Core.Path.{refl}
 use native.Mathlib.Omega.{arith}

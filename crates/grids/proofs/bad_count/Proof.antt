@@ -1,4 +1,4 @@
--- 0 is bad, and so is all above 1,024: the definition's two tests, in its order. Assumes nothing.
+-- `grids::bad_count` meets its contract: 0 is bad, and so is all above 1,024: the definition's two tests, in its order. Assumes nothing.
 use borrow.Author.Tests.{eq-eqb, ne-eqb}
 use Rattle.grids.proofs.bad_count.Statement.{statement}
 use Rattle.grids.proofs.bad_count.Tie as tie

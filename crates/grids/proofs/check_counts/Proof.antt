@@ -1,4 +1,4 @@
--- Each test is the definition's, in its order. Assumes nothing.
+-- `grids::check_counts` meets its contract: each test is the definition's, in its order. Assumes nothing.
 use mathlib.Core.Path.{_≡_, sym, _∙_}
 use mathlib.Core.Bool.{false}
 use borrow.Author.Needs.{needs}

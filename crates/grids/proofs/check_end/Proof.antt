@@ -30,7 +30,10 @@ returns-2 : tie.Need-returns-2
 returns-2 c =
     let s = c .before .before .before in
     let a = s .before .before .before .args in
-    simp (off-of (a .c .x) (a .n .nx) (search needs) (s .before .off-axis .ensures) (s .if1 .left), off-of (a .c .y) (a .n .ny) (search needs) (c .before .off-axis2 .ensures) (c .if2 .taken))
+    simp (
+      off-of (a .c .x) (a .n .nx) (search needs) (s .before .off-axis .ensures) (s .if1 .left),
+      off-of (a .c .y) (a .n .ny) (search needs) (c .before .off-axis2 .ensures) (c .if2 .taken),
+    )
 
 off-axis-requires-3 : tie.Need-off-axis-requires-3
 off-axis-requires-3 c κs = search needs
@@ -40,14 +43,22 @@ returns-3 c =
     let t = c .before .before .before in
     let s = t .before .before .before in
     let a = s .before .before .before .args in
-    simp (off-of (a .c .x) (a .n .nx) (search needs) (s .before .off-axis .ensures) (s .if1 .left), off-of (a .c .y) (a .n .ny) (search needs) (t .before .off-axis2 .ensures) (t .if2 .left), off-of (a .c .z) (a .n .nz) (search needs) (c .before .off-axis3 .ensures) (c .if3 .taken))
+    simp (
+      off-of (a .c .x) (a .n .nx) (search needs) (s .before .off-axis .ensures) (s .if1 .left),
+      off-of (a .c .y) (a .n .ny) (search needs) (t .before .off-axis2 .ensures) (t .if2 .left),
+      off-of (a .c .z) (a .n .nz) (search needs) (c .before .off-axis3 .ensures) (c .if3 .taken),
+    )
 
 returns-4 : tie.Need-returns-4
 returns-4 c =
     let t = c .before .before .before in
     let s = t .before .before .before in
     let a = s .before .before .before .args in
-    simp (off-of (a .c .x) (a .n .nx) (search needs) (s .before .off-axis .ensures) (s .if1 .left), off-of (a .c .y) (a .n .ny) (search needs) (t .before .off-axis2 .ensures) (t .if2 .left), off-of (a .c .z) (a .n .nz) (search needs) (c .before .off-axis3 .ensures) (c .if3 .left))
+    simp (
+      off-of (a .c .x) (a .n .nx) (search needs) (s .before .off-axis .ensures) (s .if1 .left),
+      off-of (a .c .y) (a .n .ny) (search needs) (t .before .off-axis2 .ensures) (t .if2 .left),
+      off-of (a .c .z) (a .n .nz) (search needs) (c .before .off-axis3 .ensures) (c .if3 .left),
+    )
 
 pub check-end-spec : {M : Type 1} → statement M
 check-end-spec =

@@ -29,7 +29,8 @@ returns-2 : tie.Need-returns-2
 unfolding walk-check
 returns-2 c =
     let a = c .before .before .before .before .args in
-    c .check-ends .ensures ∙ ap (λ v. v then grid-check P (a .n) (a .p) then grid-check Q (a .n) (a .q)) (sym (c .before .enum-told .given .1) ∙ c .before .before .before .shape .ensures .says)
+    c .check-ends .ensures ∙ ap (λ v. v then grid-check P (a .n) (a .p) then grid-check Q (a .n) (a .q))
+    (sym (c .before .enum-told .given .1) ∙ c .before .before .before .shape .ensures .says)
 
 pub check-walk-spec : {M : Type 1} → statement M
 check-walk-spec =

@@ -19,12 +19,19 @@ number : (c : tie.Start) (a : Axis) → natAbs (held (on (c .args .c) a)) ≡ na
 number c a = ap natAbs (inside-held (on (c .args .c) a) _ (counts-most (c .args .n) (c .pre .shaped) a) (c .pre .inside .inside a))
 
 -- what is read back is the place
-reads-back : (c : tie.Start) → index (c .args .n) (natAbs (held (c .args .c .x))) (natAbs (held (c .args .c .y))) (natAbs (held (c .args .c .z))) ≡ byte-index (c .args .n) (c .args .c)
+reads-back : (c : tie.Start) → index (c .args .n) (natAbs (held (c .args .c .x))) (natAbs (held (c .args .c .y)))
+    (natAbs (held (c .args .c .z))) ≡ byte-index (c .args .n) (c .args .c)
 reads-back c = rw (number c X, number c Y, number c Z)
 
 below : (c : tie.Start) → index (c .args .n) (natAbs (held (c .args .c .x))) (natAbs (held (c .args .c .y))) (natAbs (held (c .args .c .z))) < 2 ^ 32
 below c =
-    omega (arith, reads-back c, byte-below (c .args .n) (c .pre .bytes) (c .pre .shaped) (c .args .c) (c .pre .inside), c .pre .shaped .bytes-are, c .pre .shaped .size-most)
+    omega (
+      arith,
+      reads-back c,
+      byte-below (c .args .n) (c .pre .bytes) (c .pre .shaped) (c .args .c) (c .pre .inside),
+      c .pre .shaped .bytes-are,
+      c .pre .shaped .size-most,
+    )
 
 -- a row's number is at most that of its first byte
 rows : (c : tie.Start) → natAbs (held (c .args .c .y)) + c .args .n .ny * natAbs (held (c .args .c .z)) < 2 ^ 32
@@ -34,10 +41,12 @@ cast-x : tie.Need-cast-x
 cast-x c = let s = c .before .before in inside-cast (s .args .c .x) (s .args .n .nx) (counts-most (s .args .n) (s .pre .shaped) X) (s .pre .inside .inside X)
 
 cast-y : tie.Need-cast-y
-cast-y c = let s = c .before .before .before .before in inside-cast (s .args .c .y) (s .args .n .ny) (counts-most (s .args .n) (s .pre .shaped) Y) (s .pre .inside .inside Y)
+cast-y c = let s = c .before .before .before .before in inside-cast (s .args .c .y) (s .args .n .ny) (counts-most (s .args .n) (s .pre .shaped) Y)
+    (s .pre .inside .inside Y)
 
 cast-z : tie.Need-cast-z
-cast-z c = let s = c .before .before .before .before .before .before in inside-cast (s .args .c .z) (s .args .n .nz) (counts-most (s .args .n) (s .pre .shaped) Z) (s .pre .inside .inside Z)
+cast-z c = let s = c .before .before .before .before .before .before in inside-cast (s .args .c .z) (s .args .n .nz)
+    (counts-most (s .args .n) (s .pre .shaped) Z) (s .pre .inside .inside Z)
 
 mul-result : tie.Need-mul-result
 mul-result c = record { fits = omega (arith, rows (c .before .before .before .before .before .before .before)) }

@@ -77,7 +77,8 @@ returns-2 c =
     let long = c .before .before .start .given .0 .1 .0 in
     let named = sym (asked (c .before .before .before .before)) ∙ c .before .before .start .given .1 in
     record {
-      says = rw named (ap (λ (t : ℕ). take t (drop start (now (c .before .before .before .before .before .before .args .cells)))) (add-sub-cancel-left start long));
+      says = rw named (ap (λ (t : ℕ). take t (drop start (now (c .before .before .before .before .before .before .args .cells))))
+          (add-sub-cancel-left start long));
       there = record { block = refl; offset = rw named (omega arith) };
     }
 

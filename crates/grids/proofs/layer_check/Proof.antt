@@ -1,4 +1,4 @@
--- The shape's verdict, and where it is fine the test of z: the definition's order. Assumes nothing.
+-- `grids::layer_check` meets its contract: the shape's verdict, and where it is fine the test of z: the definition's order. Assumes nothing.
 use mir.Syntax.{w32}
 use mir.ValLaws.{toZ-ofZ}
 use mathlib.Core.Path.{_≡_, sym, _∙_, ap}

@@ -1,4 +1,5 @@
--- Where the check is fine, z is not below 0 and below nz, so the products fit; the answer is the definition's. Assumes nothing.
+-- `grids::layer_part` meets its contract: where the check is fine, z is not below 0 and below nz, so the products fit; the answer is the
+-- definition's. Assumes nothing.
 use mir.Syntax.{w32}
 use mir.ValLaws.{toZ-ofZ}
 use mathlib.Core.Path.{_≡_, sym, _∙_, ap}
@@ -22,7 +23,8 @@ checked c =
     let a = c .before .before .args in
     c .layer-check .ensures ∙ ap (λ (z : ℤ). layer-check (a .n) (length (now (a .cells))) z) (toZ-ofZ w32 (a .z) (c .before .before .fits .z))
 
-fine : (c : tie.After-struct-known2) → let a = c .before .before .before .before .before .before .args in layer-check (a .n) (length (now (a .cells))) (a .z) ≡ Fine
+fine : (c : tie.After-struct-known2) → let a = c .before .before .before .before .before .before .args in layer-check (a .n)
+    (length (now (a .cells))) (a .z) ≡ Fine
 fine c = sym (checked (c .before .before .before .before)) ∙ c .before .before .enum-told .given .1
 
 layer-check-requires : tie.Need-layer-check-requires

@@ -1,4 +1,5 @@
--- The counts' own test comes first; the products fit, since by then every count is at most 1,024. Assumes nothing.
+-- `grids::shape` meets its contract: the counts' own test comes first; the products fit, since by then every count is at most 1,024. Assumes
+-- nothing.
 use mathlib.Core.Path.{_≡_, sym, ap, _∙_}
 use native.Mathlib.Nat.{mul-le-mul, lt-of-le-of-lt}
 use lib.Dec.{lit<, eqb}
@@ -16,8 +17,8 @@ use Rattle.grids.proofs.shape.Tie as tie
 check-counts-requires : tie.Need-check-counts-requires
 check-counts-requires c κs = search needs
 
-enum-known-r : tie.Need-enum-known-r
-enum-known-r c = search needs
+enum-known-why : tie.Need-enum-known-why
+enum-known-why c = search needs
 
 enum-told : tie.Need-enum-told
 enum-told c = search needs
@@ -47,7 +48,10 @@ returns : tie.Need-returns
 unfolding shape
 returns c =
     let s = c .before .before .before .before in
-    record { says = ap (λ v. v then refuse-when (not (eqb (s .args .bytes) (size (s .args .n)))) Bytes) (sym (c .before .r .given .1) ∙ c .before .before .before .check-counts .ensures) }
+    record {
+      says = ap (λ v. v then refuse-when (not (eqb (s .args .bytes) (size (s .args .n)))) Bytes)
+          (sym (c .before .why .given .1) ∙ c .before .before .before .check-counts .ensures);
+    }
 
 returns-2 : tie.Need-returns-2
 unfolding shape
@@ -62,7 +66,7 @@ shape-spec =
     tie.close
     (tie.spec
     check-counts-requires
-    enum-known-r
+    enum-known-why
     enum-told
     cast-if1
     cast-if1-2

@@ -31,11 +31,13 @@ below : (c : tie.Start) → natAbs (held (c .args .r .spot .at)) < 1073741824
 below c = rw (at-is c) (lt-of-lt-of-le (has-byte c) (c .pre .1 .few))
 
 -- what the test of the byte answered
-solid-is : (c : tie.After-is-solid) → let s = c .before .before .before .before in solid (byte-of-spot (s .args .cells .now) (s .args .r .spot)) ≡ c .is-solid .result
+solid-is : (c : tie.After-is-solid) → let s = c .before .before .before .before in solid
+    (byte-of-spot (s .args .cells .now) (s .args .r .spot)) ≡ c .is-solid .result
 solid-is c = sym (c .is-solid .ensures ∙ ap solid (c .before .byte-at .ensures))
 
 -- the cell
-cell-is : (c : tie.After-cell-at) → let s = c .before .before .before .before .before .before .before .before in c .cell-at .result ≡ cell-at (s .args .k .n) (natAbs (s .args .r .spot .at))
+cell-is : (c : tie.After-cell-at) → let s = c .before .before .before .before .before .before .before .before in c .cell-at .result ≡ cell-at
+    (s .args .k .n) (natAbs (s .args .r .spot .at))
 cell-is c = let s = c .before .before .before .before .before .before .before .before in c .cell-at .ensures ∙ ap (cell-at (s .args .k .n)) (at-is s)
 
 byte-at-requires : tie.Need-byte-at-requires
@@ -71,7 +73,12 @@ returns-2 c =
     let m = c .before .measured .ensures .0 ∙ ap (differences (s .args .k .p)) (cell-is (c .before .before)) in
     let place = c .place-after .ensures ∙ ap (entered (steps (s .args .k .d))) m in
     rw (solid-is (c .before .before .before .before .before .before) ∙ not-false _ (c .before .before .before .before .before .if1 .left))
-    (λ i. FirstHit.Hit (record { cell = cell-is (c .before .before) i; code = c .before .before .before .before .before .before .before .byte-at .ensures i; place = place i; reads = s .args .r .reads }))
+    (λ i. FirstHit.Hit (record {
+      cell = cell-is (c .before .before) i;
+      code = c .before .before .before .before .before .before .before .byte-at .ensures i;
+      place = place i;
+      reads = s .args .r .reads;
+    }))
 
 pub answer-of-spec : {M : Type 1} → statement M
 answer-of-spec =

@@ -16,8 +16,10 @@ long-moves-requires c κs =
     (turn-small _ _ _ _ _ _ g, g .plan .short, g .long)
 
 -- the moves, of the ends' own differences
-moves : (c : tie.After-long-moves) → let s = c .before .before .before .before in LongMoves (differences (s .args .k .p) (s .args .k .q)) (s .args .s .e) (c .long-moves .result)
-moves c = let s = c .before .before .before .before in subst (λ E. LongMoves E (s .args .s .e) (c .long-moves .result)) (s .pre .0 .plan .is) (c .long-moves .ensures)
+moves : (c : tie.After-long-moves) → let s = c .before .before .before .before in LongMoves (differences (s .args .k .p) (s .args .k .q))
+    (s .args .s .e) (c .long-moves .result)
+moves c = let s = c .before .before .before .before in subst (λ E. LongMoves E (s .args .s .e) (c .long-moves .result)) (s .pre .0 .plan .is)
+    (c .long-moves .ensures)
 
 faces-of-requires : tie.Need-faces-of-requires
 faces-of-requires c κs = search needs
@@ -29,7 +31,11 @@ walk-faces-requires c κs =
     let l = s .args .cells .now in (
       g .plan,
       subst (CanWalk l (s .args .k) (s .args .s) (s .args .reads)) (sym (c .faces-of .ensures))
-          (record { next = going l (s .args .k) Adaptive; from = _; crossing = near-faces _ (s .args .k) (g .plan) l (s .args .left) (s .args .s) (s .args .reads) (g .at) _ (moves (c .before)) near }),
+          (record {
+            next = going l (s .args .k) Adaptive;
+            from = _;
+            crossing = near-faces _ (s .args .k) (g .plan) l (s .args .left) (s .args .s) (s .args .reads) (g .at) _ (moves (c .before)) near;
+          }),
     )
 
 sub-t11 : tie.Need-sub-t11
@@ -43,8 +49,10 @@ returns c =
     record {
       fewer = omega (arith, g .at .some);
       came =
-          near-turn _ (s .args .k) (g .plan) l (s .args .left) (s .args .s) (s .args .reads) (g .at) _ (moves (c .before .before .before)) (c .before .walk-faces .result) near
-          (subst (λ f. Walked l (s .args .k) (s .args .s) (s .args .reads) f (c .before .walk-faces .result)) (c .before .before .faces-of .ensures) (c .before .walk-faces .ensures));
+          near-turn _ (s .args .k) (g .plan) l (s .args .left) (s .args .s) (s .args .reads) (g .at) _ (moves (c .before .before .before))
+          (c .before .walk-faces .result) near
+          (subst (λ f. Walked l (s .args .k) (s .args .s) (s .args .reads) f (c .before .walk-faces .result)) (c .before .before .faces-of .ensures)
+          (c .before .walk-faces .ensures));
     }
 
 pub near-turn-spec : {M : Type 1} → statement M

@@ -84,7 +84,16 @@ add-t10 c =
     let a = c .before .before .before .before in
     let s = a .before .before .before .before .before .before in
     let w = a .loop .inv .1 in
-    record { fits = omega (arith, w .on .few, w .on .most, short-at _ (s .args .k) (s .pre .0) X, short-at _ (s .args .k) (s .pre .0) Y, short-at _ (s .args .k) (s .pre .0) Z) }
+    record {
+      fits = omega (
+        arith,
+        w .on .few,
+        w .on .most,
+        short-at _ (s .args .k) (s .pre .0) X,
+        short-at _ (s .args .k) (s .pre .0) Y,
+        short-at _ (s .args .k) (s .pre .0) Z,
+      );
+    }
 
 returns-2 : tie.Need-returns-2 Inv-loop μ-loop
 returns-2 c =
@@ -92,7 +101,8 @@ returns-2 c =
     let s = a .before .before .before .before .before .before in
     let k = s .args .k in
     let all-made : cell-left k (a .loop .t .left) ≡ longest (differences (k .p) (k .q)) = omega (arith, c .before .before .if1 .left) in
-    at-end _ k (s .pre .0) (s .args .cells .now) _ _ _ _ (a .loop .inv .1) (ap (number-26 (k .p) (k .q)) all-made ∙ last-26 _ k (s .pre .0) (s .args .cells .now))
+    at-end _ k (s .pre .0) (s .args .cells .now) _ _ _ _ (a .loop .inv .1)
+    (ap (number-26 (k .p) (k .q)) all-made ∙ last-26 _ k (s .pre .0) (s .args .cells .now))
 
 pub walk-adaptive-spec : {M : Type 1} → statement M
 walk-adaptive-spec =

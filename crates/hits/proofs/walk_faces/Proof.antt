@@ -60,7 +60,8 @@ returns : tie.Need-returns Inv-loop μ-loop
 returns c =
     let l = c .before .before .before .before in
     let s = l .before .before in
-    hit-face _ (s .args .k) (s .pre .0) (s .args .cells .now) (s .args .start) (s .args .reads) (s .args .faces) (l .loop .j) _ (l .loop .inv) (tested (c .before) ∙ c .if1 .taken)
+    hit-face _ (s .args .k) (s .pre .0) (s .args .cells .now) (s .args .start) (s .args .reads) (s .args .faces) (l .loop .j) _ (l .loop .inv)
+    (tested (c .before) ∙ c .if1 .taken)
 
 next-face-requires : tie.Need-next-face-requires Inv-loop μ-loop
 next-face-requires c κs = search needs
@@ -84,7 +85,8 @@ loop-again c =
     let s = l .before .before in
     subst (Following (s .args .cells .now) (s .args .k) (s .args .start) (s .args .reads) (s .args .faces) (l .loop .j + 1)) (sym (c .crossed .ensures))
     (one-face _ (s .args .k) (s .pre .0) (s .args .cells .now) (s .args .start) (s .args .reads) (s .args .faces) (l .loop .j) _ _ (l .loop .inv)
-    (c .before .before .before .before .before .loop-test .taken) (tested (c .before .before .before) ∙ c .before .before .if1 .left) (c .before .next-face .ensures))
+    (c .before .before .before .before .before .loop-test .taken) (tested (c .before .before .before) ∙ c .before .before .if1 .left)
+    (c .before .next-face .ensures))
 
 add-t14 : tie.Need-add-t14 Inv-loop μ-loop
 add-t14 c = record { fits = omega (arith, few (c .before)) }
@@ -93,7 +95,8 @@ returns-2 : tie.Need-returns-2 Inv-loop μ-loop
 returns-2 c =
     let l = c .before in
     let s = l .before .before in
-    last-face _ (s .args .k) (s .pre .0) (s .args .cells .now) (s .args .start) (s .args .reads) (s .args .faces) (l .loop .j) _ (l .loop .inv) (c .loop-test .left)
+    last-face _ (s .args .k) (s .pre .0) (s .args .cells .now) (s .args .start) (s .args .reads) (s .args .faces) (l .loop .j) _ (l .loop .inv)
+    (c .loop-test .left)
 
 pub walk-faces-spec : {M : Type 1} → statement M
 walk-faces-spec =

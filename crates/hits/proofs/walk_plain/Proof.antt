@@ -53,7 +53,16 @@ add-t7 : tie.Need-add-t7
 add-t7 c =
     let s = c .before .before .before .before .before .before .before in
     let w = walking (c .before) in
-    record { fits = omega (arith, w .on .few, w .on .most, short-at _ (s .args .k) (s .pre .0) X, short-at _ (s .args .k) (s .pre .0) Y, short-at _ (s .args .k) (s .pre .0) Z) }
+    record {
+      fits = omega (
+        arith,
+        w .on .few,
+        w .on .most,
+        short-at _ (s .args .k) (s .pre .0) X,
+        short-at _ (s .args .k) (s .pre .0) Y,
+        short-at _ (s .args .k) (s .pre .0) Z,
+      );
+    }
 
 returns-2 : tie.Need-returns-2
 returns-2 c =

@@ -1,4 +1,4 @@
--- The marks are complete exactly when no row has a gap. Assumes nothing.
+-- `marks::complete` meets its contract: the marks are complete exactly when no row has a gap. Assumes nothing.
 use native.Mathlib.Omega.{arith}
 use mathlib.Core.Path.{_≡_, sym, _∙_}
 use lib.ListN.{length}

@@ -1,4 +1,5 @@
--- After x turns `most` is solid exactly when one of the first x cells is a gap; the measure is what is left of nx. Assumes nothing.
+-- `marks::gap_by` meets its contract: after x turns `most` is solid exactly when one of the first x cells is a gap; the measure is what is left of
+-- nx. Assumes nothing.
 use Prim.Native.Nat.{_-_, _≤_}
 use native.Mathlib.Omega.{arith}
 use mathlib.Core.Path.{_≡_, sym}

@@ -1,4 +1,4 @@
--- The window shows the rows beside row r and keeps its frame, so it tells the row's gaps. Assumes nothing.
+-- `marks::gap_in_row` meets its contract: the window shows the rows beside row r and keeps its frame, so it tells the row's gaps. Assumes nothing.
 use Prim.Native.Nat.{_+_, _*_, _≤_}
 use native.Mathlib.Omega.{arith}
 use mathlib.Core.Path.{_∙_}
@@ -13,7 +13,8 @@ use Rattle.marks.proofs.gap_in_row.Statement.{statement}
 use Rattle.marks.proofs.gap_in_row.Tie as tie
 
 -- the row lies within the cells
-fits : (c : tie.After-struct-known) → let a = c .before .before .before .before .before .before .before .args in a .n .nx * a .r + a .n .nx ≤ length (now (a .cells))
+fits : (c : tie.After-struct-known) → let a = c .before .before .before .before .before .before .before .args in a .n .nx * a .r + a .n .nx ≤ length
+    (now (a .cells))
 fits c = let s = c .before .before .before .before .before .before .before in row-within _ _ _ (shaped _ _ (s .pre .0)) (s .pre .1 .0)
 
 framed : (c : tie.After-look) → Framed (c .before .before .before .before .args .n .nx) (c .look .last .1 .1 .1 .0)
@@ -37,8 +38,11 @@ same-length c = search needs
 returns : tie.Need-returns
 returns c =
     let d = c .before .before .before .before .before in
-    let s = d .before .before .before .before in
-    (c .gap-by .ensures ∙ gap-row (s .args .n) (now (s .args .cells)) (shaped _ _ (s .pre .0)) (s .args .r) (s .pre .1 .0) _ _ (d .look .ensures) (s .pre .1 .1), framed d)
+    let s = d .before .before .before .before in (
+      c .gap-by .ensures ∙ gap-row (s .args .n) (now (s .args .cells)) (shaped _ _ (s .pre .0)) (s .args .r) (s .pre .1 .0) _ _ (d .look .ensures)
+          (s .pre .1 .1),
+      framed d,
+    )
 
 pub gap-in-row-spec : {M : Type 1} → statement M
 gap-in-row-spec =

@@ -1,4 +1,5 @@
--- After r turns no cell of the first r rows is a gap, and the window has its frame; the measure is what is left of the rows. Assumes nothing.
+-- `marks::has_gap` meets its contract: after r turns no cell of the first r rows is a gap, and the window has its frame; the measure is what is
+-- left of the rows. Assumes nothing.
 use Prim.Native.Nat.{ℕ, _*_, _-_, _≤_, _<_}
 use native.Mathlib.Nat.{lt-of-le-of-lt}
 use native.Mathlib.Omega.{arith}
@@ -16,7 +17,8 @@ use Rattle.marks.proofs.has_gap.Statement.{statement}
 use Rattle.marks.proofs.has_gap.Tie as tie
 
 abbrev Inv-loop : tie.InvT-loop
-Inv-loop n cells window₀ rows r₀ window r = (r ≤ rows) × ((k : ℕ) → k < n .nx * r → gap n cells k ≡ false) × Framed (n .nx) window × (length window ≡ length window₀)
+Inv-loop n cells window₀ rows r₀ window r = (r ≤ rows) × ((k : ℕ) → k < n .nx * r → gap n cells k ≡ false) × Framed (n .nx) window ×
+    (length window ≡ length window₀)
 
 abbrev μ-loop : tie.MeasureT-loop
 μ-loop n cells window₀ rows r₀ window r = rows - r

@@ -1,4 +1,5 @@
--- The up to nine rows beside row r lie within the grid; the window shows those of the layer below, then those of the others too. Assumes nothing.
+-- `marks::look` meets its contract: the up to nine rows beside row r lie within the grid; the window shows those of the layer below, then those of
+-- the others too. Assumes nothing.
 use Prim.Native.Nat.{ℕ, _+_, _*_, _%_, _^_, _≤_, _<_}
 use native.Mathlib.Nat.{lt-of-le-of-lt}
 use native.Mathlib.Omega.{arith}
@@ -19,7 +20,8 @@ fine : (c : tie.After-struct-known2) → let a = c .before .before .before .befo
 fine c = shaped _ _ (c .before .before .before .before .pre .0)
 
 -- each of the three layers lies within the cells
-layers : (c : tie.After-starts) → let a = c .before .before .before .before .before .before .args in Within (c .starts .result) (a .n .nx * a .n .ny) (length (now (a .cells)))
+layers : (c : tie.After-starts) → let a = c .before .before .before .before .before .before .args in Within (c .starts .result) (a .n .nx * a .n .ny)
+    (length (now (a .cells)))
 layers c =
     let s = c .before .before .before .before .before .before in
     rw (c .starts .ensures) (layers-within (s .args .n) (now (s .args .cells)) (fine (c .before .before)) (s .args .r) (s .pre .1 .0))
@@ -82,8 +84,10 @@ raise-rows-requires : tie.Need-raise-rows-requires
 raise-rows-requires c κs =
     let low = c .before .before .before in
     let e = low .before .before in
-    let d = e .before .before .before in
-    (omega (arith, low .set-rows .ensures .long, d .before .before .before .before .before .before .pre .1 .1), its-rows d _ _ (e .before .starts3 .ensures) (omega (arith, layers d)))
+    let d = e .before .before .before in (
+      omega (arith, low .set-rows .ensures .long, d .before .before .before .before .before .before .pre .1 .1),
+      its-rows d _ _ (e .before .starts3 .ensures) (omega (arith, layers d)),
+    )
 
 raise-rows-requires-2 : tie.Need-raise-rows-requires-2
 raise-rows-requires-2 c κs =

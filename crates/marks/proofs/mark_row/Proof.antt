@@ -1,4 +1,4 @@
--- The window shows the rows beside row r and keeps its frame, so it tells the row's marks. Assumes nothing.
+-- `marks::mark_row` meets its contract: the window shows the rows beside row r and keeps its frame, so it tells the row's marks. Assumes nothing.
 use Prim.Native.Nat.{_+_, _*_, _≤_}
 use native.Mathlib.Omega.{arith}
 use lib.ListN.{length}
@@ -13,7 +13,8 @@ use Rattle.marks.proofs.mark_row.Statement.{statement}
 use Rattle.marks.proofs.mark_row.Tie as tie
 
 -- the row lies within the cells
-fits : (c : tie.After-struct-known) → let a = c .before .before .before .before .before .before .before .before .args in a .n .nx * a .r + a .n .nx ≤ length (now (a .cells))
+fits : (c : tie.After-struct-known) → let a = c .before .before .before .before .before .before .before .before .args in a .n .nx * a .r + a .n
+    .nx ≤ length (now (a .cells))
 fits c = let s = c .before .before .before .before .before .before .before .before in row-within _ _ _ (shaped _ _ (s .pre .0)) (s .pre .1 .0)
 
 framed : (c : tie.After-look) → Framed (c .before .before .before .before .before .args .n .nx) (c .look .last .1 .1 .1 .0)
@@ -42,7 +43,8 @@ returns c =
     let d = c .before .before .before .before .before .before .before .before in
     let s = d .before .before .before .before .before in (
       filled-as _ _ _ _ _ _ (omega arith)
-          (put-marks (s .args .n) (now (s .args .cells)) (shaped _ _ (s .pre .0)) (s .args .r) (s .pre .1 .0) _ _ (d .look .ensures) (s .pre .1 .1)) (c .before .before .put .ensures),
+          (put-marks (s .args .n) (now (s .args .cells)) (shaped _ _ (s .pre .0)) (s .args .r) (s .pre .1 .0) _ _ (d .look .ensures) (s .pre .1 .1))
+          (c .before .before .put .ensures),
       framed d,
     )
 

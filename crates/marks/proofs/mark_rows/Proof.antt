@@ -1,5 +1,5 @@
--- After r turns the first r rows are marked and the others as at entry, and the window has its frame. Marking changes no cell's solidity, so the
--- next row's marks are those of the entry. The measure is what is left of the rows. Assumes nothing.
+-- `marks::mark_rows` meets its contract: after r turns the first r rows are marked and the others as at entry, and the window has its frame.
+-- Marking changes no cell's solidity, so the next row's marks are those of the entry. The measure is what is left of the rows. Assumes nothing.
 use Prim.Native.Nat.{_+_, _*_, _-_, _≤_}
 use native.Mathlib.Nat.{lt-of-le-of-lt}
 use native.Mathlib.Omega.{arith}
@@ -18,7 +18,8 @@ use Rattle.marks.proofs.mark_rows.Statement.{statement}
 use Rattle.marks.proofs.mark_rows.Tie as tie
 
 abbrev Inv-loop : tie.InvT-loop
-Inv-loop n cells₀ window₀ rows r₀ cells window r = (r ≤ rows) × Filled (marked-byte 3 n cells₀) 0 (n .nx * r) cells₀ cells × Framed (n .nx) window × (length window ≡ length window₀)
+Inv-loop n cells₀ window₀ rows r₀ cells window r = (r ≤ rows) × Filled (marked-byte 3 n cells₀) 0 (n .nx * r) cells₀ cells × Framed (n .nx) window ×
+    (length window ≡ length window₀)
 
 abbrev μ-loop : tie.MeasureT-loop
 μ-loop n cells₀ window₀ rows r₀ cells window r = rows - r
@@ -41,7 +42,8 @@ mark-row-requires c κs =
     (rw (l .loop .inv .1 .long) (l .before .before .before .before .before .pre .0), (c .before .before .loop-test .taken, l .loop .inv .2))
 
 add-r : tie.Need-add-r Inv-loop μ-loop
-add-r c = let l = c .before .before .before .before .before .before .before .before in omega (arith, shaped _ _ (l .before .before .before .before .before .pre .0) .rows-most)
+add-r c = let l = c .before .before .before .before .before .before .before .before in omega
+    (arith, shaped _ _ (l .before .before .before .before .before .pre .0) .rows-most)
 
 loop-less : tie.Need-loop-less Inv-loop μ-loop
 loop-less c = omega arith

@@ -1,4 +1,4 @@
--- Where b is clear the answer is m, else it is 0, which is not solid. Assumes nothing.
+-- `marks::missed` meets its contract: where b is clear the answer is m, else it is 0, which is not solid. Assumes nothing.
 use borrow.Author.Tests.{eq-eqb, ne-eqb}
 use Rattle.marks.proofs.missed.Statement.{statement}
 use Rattle.marks.proofs.missed.Tie as tie

@@ -1,5 +1,5 @@
--- After x turns the row's first x bytes are marked and all others as at entry; each is marked by its own byte and the window alone. The
--- measure is what is left of nx. Assumes nothing.
+-- `marks::put` meets its contract: after x turns the row's first x bytes are marked and all others as at entry; each is marked by its own byte and
+-- the window alone. The measure is what is left of nx. Assumes nothing.
 use Prim.Native.Nat.{_+_, _-_, _≤_}
 use native.Mathlib.Nat.{le-refl}
 use native.Mathlib.Omega.{arith}

@@ -1,4 +1,5 @@
--- After x turns the window shows what it had and the three rows for the numbers below x; the measure is what is left of nx. Assumes nothing.
+-- `marks::raise_rows` meets its contract: after x turns the window shows what it had and the three rows for the numbers below x; the measure is
+-- what is left of nx. Assumes nothing.
 use Prim.Native.Nat.{_+_, _-_, _≤_}
 use native.Mathlib.Nat.{le-refl}
 use native.Mathlib.Omega.{arith}
@@ -49,8 +50,11 @@ loop-again : tie.Need-loop-again Inv-loop μ-loop
 loop-again c =
     let l = c .before .before .before .before in
     let x = l .loop .x in
-    let done = l .loop .inv .1 in
-    (omega arith, shows-more _ x _ _ _ (omega (arith, done .long)) (rw (c .larger .ensures, solid-max, done .after (x + 1) (omega arith), c .before .largest-in .ensures)) done)
+    let done = l .loop .inv .1 in (
+      omega arith,
+      shows-more _ x _ _ _ (omega (arith, done .long))
+          (rw (c .larger .ensures, solid-max, done .after (x + 1) (omega arith), c .before .largest-in .ensures)) done,
+    )
 
 same-length : tie.Need-same-length Inv-loop μ-loop
 same-length c = c .before .loop .inv .1 .long

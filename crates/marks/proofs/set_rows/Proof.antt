@@ -1,4 +1,5 @@
--- After `at` turns the window shows the three rows for the numbers below `at`; the measure is what is left of nx. Assumes nothing.
+-- `marks::set_rows` meets its contract: after `at` turns the window shows the three rows for the numbers below `at`; the measure is what is left of
+-- nx. Assumes nothing.
 use Prim.Native.Nat.{_-_, _≤_}
 use native.Mathlib.Nat.{le-refl}
 use native.Mathlib.Omega.{arith}

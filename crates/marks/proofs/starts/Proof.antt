@@ -1,4 +1,4 @@
--- Each product and each sum is below where row n would start, which fits. Assumes nothing.
+-- `marks::starts` meets its contract: each product and each sum is below where row n would start, which fits. Assumes nothing.
 use Prim.Native.Nat.{ℕ, _+_, _*_, _^_, _≤_, _<_}
 use native.Mathlib.Omega.{arith}
 use borrow.Author.Needs.{needs}

@@ -43,7 +43,8 @@ returns-2 c =
     let n = c .before .before .before .last-made .ensures in
     let num = c .before .numerator-of .ensures ∙ ap numerator (c .before .before .along .ensures ∙ ap (steps (s .args .t)) n) in
     let den = c .along2 .ensures ∙ ap (steps (s .args .d)) n in
-    rw (ne-eqb _ _ (λ e. c .before .before .before .before .if1 .left (c .before .before .before .before .before .total .ensures ∙ e))) (λ i. record { num = num i; den = 2 * den i })
+    rw (ne-eqb _ _ (λ e. c .before .before .before .before .if1 .left (c .before .before .before .before .before .total .ensures ∙ e)))
+    (λ i. record { num = num i; den = 2 * den i })
 
 pub place-after-spec : {M : Type 1} → statement M
 place-after-spec =

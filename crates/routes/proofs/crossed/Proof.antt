@@ -31,19 +31,22 @@ add-t12 c = let k = c .before .before .before .before .before .before .before .b
 returns : tie.Need-returns
 returns c =
     let s = c .before .before .before .before .before .before .before .before .before in
-    let at = sum-held _ _ (s .pre .at) (s .pre .x) ∙ ap (λ a. s .args .s .at +ℤ stride-on (s .args .k .strides) a) (sym (c .before .before .enum-told .given .1)) in
+    let at = sum-held _ _ (s .pre .at) (s .pre .x)
+    ∙ ap (λ a. s .args .s .at +ℤ stride-on (s .args .k .strides) a) (sym (c .before .before .enum-told .given .1)) in
     λ i. record { at = at i; e = c .before .before .before .before .moved .ensures i }
 
 returns-2 : tie.Need-returns-2
 returns-2 c =
     let s = c .before .before .before .before .before .before .before .before .before in
-    let at = sum-held _ _ (s .pre .at) (s .pre .y) ∙ ap (λ a. s .args .s .at +ℤ stride-on (s .args .k .strides) a) (sym (c .before .before .enum-told2 .given .1)) in
+    let at = sum-held _ _ (s .pre .at) (s .pre .y)
+    ∙ ap (λ a. s .args .s .at +ℤ stride-on (s .args .k .strides) a) (sym (c .before .before .enum-told2 .given .1)) in
     λ i. record { at = at i; e = c .before .before .before .before .moved .ensures i }
 
 returns-3 : tie.Need-returns-3
 returns-3 c =
     let s = c .before .before .before .before .before .before .before .before .before in
-    let at = sum-held _ _ (s .pre .at) (s .pre .z) ∙ ap (λ a. s .args .s .at +ℤ stride-on (s .args .k .strides) a) (sym (c .before .before .enum-told3 .given .1)) in
+    let at = sum-held _ _ (s .pre .at) (s .pre .z)
+    ∙ ap (λ a. s .args .s .at +ℤ stride-on (s .args .k .strides) a) (sym (c .before .before .enum-told3 .given .1)) in
     λ i. record { at = at i; e = c .before .before .before .before .moved .ensures i }
 
 pub crossed-spec : {M : Type 1} → statement M

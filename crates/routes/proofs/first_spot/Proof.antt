@@ -22,7 +22,13 @@ below : (c : tie.After-index-of) → c .index-of .result < 2 ^ 31
 below c =
     let s = c .before .before in
     let h = s .pre .0 in
-    omega (arith, c .index-of .ensures, byte-below (s .args .k .n) (h .bytes) (h .shaped) (s .args .k .p) (h .inside), h .shaped .bytes-are, h .shaped .size-most)
+    omega (
+      arith,
+      c .index-of .ensures,
+      byte-below (s .args .k .n) (h .bytes) (h .shaped) (s .args .k .p) (h .inside),
+      h .shaped .bytes-are,
+      h .shaped .size-most,
+    )
 
 first-values-requires : tie.Need-first-values-requires
 first-values-requires c κs = search needs

@@ -20,7 +20,16 @@ twice-requires c κs = search needs
 returns : tie.Need-returns
 returns c =
     let m = c .before .before .measured .ensures in
-    record { grid = refl; start = refl; end = refl; is = m .0; short = m .1; moves = c .before .strides-of .ensures; twice = c .twice .ensures ∙ ap doubled (m .0) }
+    record {
+      grid = refl;
+      start = refl;
+      end = refl;
+      is = m .0;
+      short = m .1;
+      moves = c .before .strides-of .ensures;
+      twice = c .twice .ensures
+          ∙ ap doubled (m .0);
+    }
 
 pub route-of-spec : {M : Type 1} → statement M
 route-of-spec = tie.close (tie.spec measured-requires strides-of-requires twice-requires returns)

@@ -1,4 +1,5 @@
--- The lookups decide as the definition has it; where both give a cell, the walk between them passes its tests and tells the rest. Assumes nothing.
+-- `sight::look` meets its contract: the lookups decide as the definition has it; where both give a cell, the walk between them passes its tests and
+-- tells the rest. Assumes nothing.
 use mathlib.Core.Path.{sym, _∙_}
 use Rattle.sight.proofs.Seen.{camera-refused, ball-refused, both-found}
 use Rattle.sight.proofs.Walkable.{walkable}
@@ -24,7 +25,8 @@ enum-told c = search needs
 returns : tie.Need-returns
 returns c =
     let a = c .before .before .before .before .before .before .before .before .args in
-    sym (camera-refused (a .n) (a .cells .now) (a .at) (a .camera) (a .ball) (c .before .before .before .before .before .before .look-up .ensures) (c .before .before .before .before .from2 .given .1 ∙ c .before .from3 .given .1))
+    sym (camera-refused (a .n) (a .cells .now) (a .at) (a .camera) (a .ball) (c .before .before .before .before .before .before .look-up .ensures)
+    (c .before .before .before .before .from2 .given .1 ∙ c .before .from3 .given .1))
 
 returns-2 : tie.Need-returns-2
 returns-2 c = search needs
@@ -49,7 +51,8 @@ returns-3 c =
     let a = c .before .before .before .before .before .before .before .before .before .before .before .before .args in
     sym
     (ball-refused (a .n) (a .cells .now) (a .at) (a .camera) (a .ball)
-    (c .before .before .before .before .before .before .before .before .before .before .look-up .ensures) (c .before .before .before .before .before .before .before .before .from .given .1)
+    (c .before .before .before .before .before .before .before .before .before .before .look-up .ensures)
+    (c .before .before .before .before .before .before .before .before .from .given .1)
     (c .before .before .before .before .before .before .look-up2 .ensures) (c .before .before .before .before .to2 .given .1 ∙ c .before .to3 .given .1))
 
 returns-4 : tie.Need-returns-4
@@ -72,7 +75,8 @@ returns-5 c =
     c .sight-of .ensures ∙
     sym
     (both-found (a .n) (a .cells .now) (a .at) (a .camera) (a .ball)
-    (c .before .before .before .before .before .before .before .before .before .look-up .ensures) (c .before .before .before .before .before .before .before .from .given .1)
+    (c .before .before .before .before .before .before .before .before .before .look-up .ensures)
+    (c .before .before .before .before .before .before .before .from .given .1)
     (c .before .before .before .before .before .look-up2 .ensures) (c .before .before .before .to .given .1)
     (c .before .walked .ensures .says))
 

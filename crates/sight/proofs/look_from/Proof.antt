@@ -1,4 +1,4 @@
--- The placement's verdict decides, and where it is fine the lookups. Assumes nothing.
+-- `sight::look_from` meets its contract: the placement's verdict decides, and where it is fine the lookups. Assumes nothing.
 use mathlib.Core.Path.{sym, _∙_}
 use Rattle.grids.proofs.Shapes.{shape-counts}
 use borrow.Author.Needs.{needs}

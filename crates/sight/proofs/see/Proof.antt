@@ -1,4 +1,4 @@
--- The shape's verdict decides, and where it is fine the placement and the lookups. Assumes nothing.
+-- `sight::see` meets its contract: the shape's verdict decides, and where it is fine the placement and the lookups. Assumes nothing.
 use mathlib.Core.Path.{sym, _∙_}
 use Rattle.sight.proofs.Seen.{sight-is}
 use borrow.Author.Needs.{needs}
@@ -20,12 +20,25 @@ look-from-requires c κs = sym (c .before .before .shape .ensures .says) ∙ c .
 returns : tie.Need-returns
 returns c =
     let a = c .before .before .before .before .before .args in
-    record { says = rw (sight-is (a .n) (a .cells .now) (a .at) (a .camera) (a .ball), sym (c .before .before .before .shape .ensures .says) ∙ c .before .r .given .1) }
+    record {
+      says = rw (
+        sight-is (a .n) (a .cells .now) (a .at) (a .camera) (a .ball),
+        sym (c .before .before .before .shape .ensures .says)
+            ∙ c .before .r .given .1,
+      );
+    }
 
 returns-2 : tie.Need-returns-2
 returns-2 c =
     let a = c .before .before .before .before .before .args in
-    record { says = rw (sight-is (a .n) (a .cells .now) (a .at) (a .camera) (a .ball), sym (c .before .before .before .shape .ensures .says) ∙ c .before .enum-told .given .1, c .look-from .ensures) }
+    record {
+      says = rw (
+        sight-is (a .n) (a .cells .now) (a .at) (a .camera) (a .ball),
+        sym (c .before .before .before .shape .ensures .says)
+            ∙ c .before .enum-told .given .1,
+        c .look-from .ensures,
+      );
+    }
 
 pub see-spec : {M : Type 1} → statement M
 see-spec =

@@ -1,4 +1,4 @@
--- Each case of the walk's answer is the case that the definition makes of it. Assumes nothing.
+-- `sight::sight_of` meets its contract: each case of the walk's answer is the case that the definition makes of it. Assumes nothing.
 use borrow.Author.Needs.{needs}
 use Rattle.sight.proofs.sight_of.Statement.{statement}
 use Rattle.sight.proofs.sight_of.Tie as tie

@@ -1,4 +1,4 @@
--- The walk has a route; it stops where the definition's ends, and answers from there. Assumes nothing.
+-- `sight::walked` meets its contract: the walk has a route; it stops where the definition's ends, and answers from there. Assumes nothing.
 use lib.ListN.{length}
 use borrow.Author.Needs.{needs}
 use Rattle.walks.specs.declared.Walker.the-variants.{Adaptive}

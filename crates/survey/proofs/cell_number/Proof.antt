@@ -41,8 +41,12 @@ loop-less c = c .halved .ensures .shorter
 loop-again : tie.Need-loop-again Inv-loop μ-loop
 loop-again c =
     let before = c .before .before .before .before .loop in
-    let closer = c .halved .ensures in
-    (closer .rising, omega arith, closer .from, above (c .before .before .before .before .before .args .q) (before .s .hi) (closer .within) (closer .upto) (before .inv .3))
+    let closer = c .halved .ensures in (
+      closer .rising,
+      omega arith,
+      closer .from,
+      above (c .before .before .before .before .before .args .q) (before .s .hi) (closer .within) (closer .upto) (before .inv .3),
+    )
 
 returns : tie.Need-returns Inv-loop μ-loop
 returns c =
@@ -50,7 +54,8 @@ returns c =
     let s = c .before .before .before .loop .s in
     let inv = c .before .before .before .loop .inv in
     let last : s .hi ≡ s .lo + 1 = omega arith in
-    sym (number-last (a .count) (s .lo) (a .q) (c .before .before .before .before .pre) (omega arith) (inv .2) (subst (λ k. k < a .count → lt (a .q) (as-f64 k) ≡ true) last (inv .3)))
+    sym (number-last (a .count) (s .lo) (a .q) (c .before .before .before .before .pre) (omega arith) (inv .2)
+    (subst (λ k. k < a .count → lt (a .q) (as-f64 k) ≡ true) last (inv .3)))
 
 pub cell-number-spec : {M : Type 1} → statement M
 cell-number-spec =

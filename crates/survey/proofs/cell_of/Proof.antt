@@ -25,14 +25,16 @@ look-up-requires : tie.Need-look-up-requires
 look-up-requires c κs =
     let a = c .before .before .before .before .before .args in
     cell-tested (a .n) (a .at) (a .point)
-    (c .before .before .before .before .check-counts .ensures) (c .before .before .before .check-placement .ensures) (c .before .before .first-of .ensures) (c .enum-told .given .1)
+    (c .before .before .before .before .check-counts .ensures) (c .before .before .before .check-placement .ensures)
+    (c .before .before .first-of .ensures) (c .enum-told .given .1)
 
 returns : tie.Need-returns
 returns c =
     let a = c .before .before .before .before .before .before .args in
     record {
       says = sym (cell-refused (a .n) (a .at) (a .point)
-          (c .before .before .before .before .before .check-counts .ensures) (c .before .before .before .before .check-placement .ensures) (c .before .before .before .first-of .ensures) (c .before .r .given .1));
+          (c .before .before .before .before .before .check-counts .ensures) (c .before .before .before .before .check-placement .ensures)
+          (c .before .before .before .first-of .ensures) (c .before .r .given .1));
     }
 
 returns-2 : tie.Need-returns-2
@@ -40,7 +42,8 @@ returns-2 c =
     let a = c .before .before .before .before .before .before .args in
     record {
       says = sym (cell-looked-up (a .n) (a .at) (a .point)
-          (c .before .before .before .before .before .check-counts .ensures) (c .before .before .before .before .check-placement .ensures) (c .before .before .before .first-of .ensures) (c .before .enum-told .given .1) (c .look-up .ensures));
+          (c .before .before .before .before .before .check-counts .ensures) (c .before .before .before .before .check-placement .ensures)
+          (c .before .before .before .first-of .ensures) (c .before .enum-told .given .1) (c .look-up .ensures));
     }
 
 pub cell-of-spec : {M : Type 1} → statement M

@@ -34,7 +34,8 @@ returns-2 : tie.Need-returns-2
 returns-2 c =
     let a = c .before .before .before .before .before .args in
     sym (lookup-found (a .end) (a .n) (a .at) (a .point)
-    (c .before .before .before .before .quotients .ensures) (c .before .before .before .check-point .ensures) (c .before .enum-told .given .1) (c .cell-at .ensures))
+    (c .before .before .before .before .quotients .ensures) (c .before .before .before .check-point .ensures) (c .before .enum-told .given .1)
+    (c .cell-at .ensures))
 
 pub look-up-spec : {M : Type 1} → statement M
 look-up-spec =

@@ -13,7 +13,8 @@ use Rattle.tripod.proofs.long_moves.Statement.{statement}
 use Rattle.tripod.proofs.long_moves.Tie as tie
 
 -- moves that are the tests' are the long step's
-by : (e : Tripod) (d : Diffs) {long : Axis} (a : Axis) (r : Moves) → long ≡ a → steps d long ≡ longest (steps d) → r ≡ by-long a (steps d) e → LongMoves (steps d) e r
+by : (e : Tripod) (d : Diffs) {long : Axis} (a : Axis) (r : Moves) → long ≡ a → steps d long ≡ longest (steps d) → r ≡ by-long a (steps d) e →
+    LongMoves (steps d) e r
 by e d a r l long h = subst (LongMoves (steps d) e) (sym h) (by-long-goes a (steps d) e (rw l at long))
 
 cast-a : tie.Need-cast-a

@@ -35,17 +35,20 @@ add-t13 c = let (e, d) = c .before .before .before .before .before .before .befo
 returns : tie.Need-returns
 returns c =
     let (e, d) = c .before .before .before .before .before .before .before .before .before .pre in
-    rw (c .before .before .before .before .enum-told .given .1) (same-values (sum-held _ _ (e .xy) (d .b2)) (sum-held _ _ (e .xz) (d .c2)) (small-held _ (e .zy)))
+    rw (c .before .before .before .before .enum-told .given .1)
+    (same-values (sum-held _ _ (e .xy) (d .b2)) (sum-held _ _ (e .xz) (d .c2)) (small-held _ (e .zy)))
 
 returns-2 : tie.Need-returns-2
 returns-2 c =
     let (e, d) = c .before .before .before .before .before .before .before .before .before .pre in
-    rw (c .before .before .before .before .enum-told2 .given .1) (same-values (diff-held _ _ (e .xy) (d .a2)) (small-held _ (e .xz)) (diff-held _ _ (e .zy) (d .c2)))
+    rw (c .before .before .before .before .enum-told2 .given .1)
+    (same-values (diff-held _ _ (e .xy) (d .a2)) (small-held _ (e .xz)) (diff-held _ _ (e .zy) (d .c2)))
 
 returns-3 : tie.Need-returns-3
 returns-3 c =
     let (e, d) = c .before .before .before .before .before .before .before .before .before .pre in
-    rw (c .before .before .before .before .enum-told3 .given .1) (same-values (small-held _ (e .xy)) (diff-held _ _ (e .xz) (d .a2)) (sum-held _ _ (e .zy) (d .b2)))
+    rw (c .before .before .before .before .enum-told3 .given .1)
+    (same-values (small-held _ (e .xy)) (diff-held _ _ (e .xz) (d .a2)) (sum-held _ _ (e .zy) (d .b2)))
 
 pub moved-spec : {M : Type 1} → statement M
 moved-spec =

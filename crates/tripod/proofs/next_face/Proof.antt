@@ -37,17 +37,26 @@ returns c =
 returns-2 : tie.Need-returns-2
 returns-2 c =
     let e = c .before .before .before .before .before .before .args .e in
-    by e Z (simp (negative (e .xy) (search needs) (omega (arith, leZ-true, ltZ-true)), not-negative (e .xz) (search needs) (omega (arith, leZ-false, ltZ-false))))
+    by e Z (simp (
+      negative (e .xy) (search needs) (omega (arith, leZ-true, ltZ-true)),
+      not-negative (e .xz) (search needs) (omega (arith, leZ-false, ltZ-false)),
+    ))
 
 returns-3 : tie.Need-returns-3
 returns-3 c =
     let e = c .before .before .before .before .before .before .args .e in
-    by e Z (simp (not-negative (e .xy) (search needs) (omega (arith, leZ-false, ltZ-false)), negative (e .zy) (search needs) (omega (arith, leZ-true, ltZ-true))))
+    by e Z (simp (
+      not-negative (e .xy) (search needs) (omega (arith, leZ-false, ltZ-false)),
+      negative (e .zy) (search needs) (omega (arith, leZ-true, ltZ-true)),
+    ))
 
 returns-4 : tie.Need-returns-4
 returns-4 c =
     let e = c .before .before .before .before .before .before .args .e in
-    by e Y (simp (not-negative (e .xy) (search needs) (omega (arith, leZ-false, ltZ-false)), not-negative (e .zy) (search needs) (omega (arith, leZ-false, ltZ-false))))
+    by e Y (simp (
+      not-negative (e .xy) (search needs) (omega (arith, leZ-false, ltZ-false)),
+      not-negative (e .zy) (search needs) (omega (arith, leZ-false, ltZ-false)),
+    ))
 
 pub next-face-spec : {M : Type 1} → statement M
 next-face-spec = tie.close (tie.spec returns returns-2 returns-3 returns-4)

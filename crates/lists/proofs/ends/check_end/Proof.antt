@@ -28,7 +28,10 @@ returns-2 : tie.Need-returns-2
 returns-2 c =
     let s = c .before .before .before in
     let p = s .before .before .before .args .c in
-    simp (limit-of (p .x) (search needs) (s .before .in-limit .ensures) (not-false _ (s .if1 .left)), limit-of (p .y) (search needs) (c .before .in-limit2 .ensures) (not-true _ (c .if2 .taken)))
+    simp (
+      limit-of (p .x) (search needs) (s .before .in-limit .ensures) (not-false _ (s .if1 .left)),
+      limit-of (p .y) (search needs) (c .before .in-limit2 .ensures) (not-true _ (c .if2 .taken)),
+    )
 
 in-limit-requires-3 : tie.Need-in-limit-requires-3
 in-limit-requires-3 c κs = search needs
@@ -38,14 +41,22 @@ returns-3 c =
     let t = c .before .before .before in
     let s = t .before .before .before in
     let p = s .before .before .before .args .c in
-    simp (limit-of (p .x) (search needs) (s .before .in-limit .ensures) (not-false _ (s .if1 .left)), limit-of (p .y) (search needs) (t .before .in-limit2 .ensures) (not-false _ (t .if2 .left)), limit-of (p .z) (search needs) (c .before .in-limit3 .ensures) (not-true _ (c .if3 .taken)))
+    simp (
+      limit-of (p .x) (search needs) (s .before .in-limit .ensures) (not-false _ (s .if1 .left)),
+      limit-of (p .y) (search needs) (t .before .in-limit2 .ensures) (not-false _ (t .if2 .left)),
+      limit-of (p .z) (search needs) (c .before .in-limit3 .ensures) (not-true _ (c .if3 .taken)),
+    )
 
 returns-4 : tie.Need-returns-4
 returns-4 c =
     let t = c .before .before .before in
     let s = t .before .before .before in
     let p = s .before .before .before .args .c in
-    simp (limit-of (p .x) (search needs) (s .before .in-limit .ensures) (not-false _ (s .if1 .left)), limit-of (p .y) (search needs) (t .before .in-limit2 .ensures) (not-false _ (t .if2 .left)), limit-of (p .z) (search needs) (c .before .in-limit3 .ensures) (not-false _ (c .if3 .left)))
+    simp (
+      limit-of (p .x) (search needs) (s .before .in-limit .ensures) (not-false _ (s .if1 .left)),
+      limit-of (p .y) (search needs) (t .before .in-limit2 .ensures) (not-false _ (t .if2 .left)),
+      limit-of (p .z) (search needs) (c .before .in-limit3 .ensures) (not-false _ (c .if3 .left)),
+    )
 
 pub check-end-spec : {M : Type 1} → statement M
 check-end-spec =

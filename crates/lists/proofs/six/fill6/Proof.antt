@@ -22,7 +22,8 @@ use Rattle.lists.proofs.six.fill6.Statement.{statement}
 use Rattle.lists.proofs.six.fill6.Tie as tie
 
 abbrev Inv-loop : tie.InvT-loop
-Inv-loop out₀ q w s₀ crossings m₀ at₀ out s m at = Filling (six-cell rule-1 (s₀ .at) q) crossings out₀ out m at × SixSpotAt (s₀ .at) q (place (C (s₀ .at) q) m) s
+Inv-loop out₀ q w s₀ crossings m₀ at₀ out s m at = Filling (six-cell rule-1 (s₀ .at) q) crossings out₀ out m at × SixSpotAt (s₀ .at) q
+    (place (C (s₀ .at) q) m) s
 
 abbrev μ-loop : tie.MeasureT-loop
 μ-loop out₀ q w s₀ crossings m₀ at₀ out s m at = crossings - m
@@ -44,8 +45,11 @@ loop-holds : tie.Need-loop-holds Inv-loop μ-loop
 loop-holds c =
     let s = c .before .before .before in
     let p = s .args .p in
-    let q = s .args .q in
-    (filled-none (six-cell rule-1 p q) _ _, spot-start p q (place (C p q) 0) _ (place-start (C p q)) refl (c .before .first-values .ensures ∙ ap (λ D. values D (at 0 0 0)) (s .pre .0 .is)))
+    let q = s .args .q in (
+      filled-none (six-cell rule-1 p q) _ _,
+      spot-start p q (place (C p q) 0) _ (place-start (C p q)) refl
+          (c .before .first-values .ensures ∙ ap (λ D. values D (at 0 0 0)) (s .pre .0 .is)),
+    )
 
 put-requires : tie.Need-put-requires Inv-loop μ-loop
 put-requires c κs = search needs
@@ -81,7 +85,8 @@ loop-again c =
       filled-one (six-cell rule-1 p q) _ _ (room (l .before)) _ _ _ (l .loop .m) _ (l .loop .inv .0) (omega arith) (c .before .before .before .put .ensures)
           (l .loop .inv .1 .cell ∙ sym (six-is rule-1 p q (l .loop .m))),
       subst (SixSpotAt p q (place (C p q) (l .loop .m + 1))) (sym (c .crossed .ensures))
-          (six-turn p q _ (l .before .before .before .way-of .ensures) (l .loop .m) (l .loop .s) _ (omega (arith, ap total (k .is))) (l .loop .inv .1) (c .before .next-face .ensures)),
+          (six-turn p q _ (l .before .before .before .way-of .ensures) (l .loop .m) (l .loop .s) _ (omega (arith, ap total (k .is)))
+          (l .loop .inv .1) (c .before .next-face .ensures)),
     )
 
 put-requires-2 : tie.Need-put-requires-2 Inv-loop μ-loop

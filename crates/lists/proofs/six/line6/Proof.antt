@@ -57,7 +57,8 @@ fill6-requires c κs =
 returns : tie.Need-returns
 returns c =
     let s = c .before .before .before .before in
-    refused-ends (six-line rule-1 (s .args .p) (s .args .q)) (s .args .p) (s .args .q) (s .args .out .now) _ (sym (c .before .before .before .check-ends .ensures) ∙ c .before .r .given .1)
+    refused-ends (six-line rule-1 (s .args .p) (s .args .q)) (s .args .p) (s .args .q) (s .args .out .now) _
+    (sym (c .before .before .before .check-ends .ensures) ∙ c .before .r .given .1)
 
 returns-2 : tie.Need-returns-2
 returns-2 c =

@@ -68,7 +68,8 @@ next-coordinates-requires c κs =
     let s = l .before .before .before in
     let k = s .pre .0 in
     subst (CanMoves (l .loop .c)) (sym (paces-are (l .before .before)))
-    (paced-moves (s .args .p) (s .args .q) (l .loop .m) (l .loop .c) (omega (arith, c .before .before .before .before .loop-test .taken, last-is (l .before .before))) (on-line l) (k .p-in) (k .q-in))
+    (paced-moves (s .args .p) (s .args .q) (l .loop .m) (l .loop .c)
+    (omega (arith, c .before .before .before .before .loop-test .taken, last-is (l .before .before))) (on-line l) (k .p-in) (k .q-in))
 
 add-at : tie.Need-add-at Inv-loop μ-loop
 add-at c = search needs
@@ -90,7 +91,8 @@ turned c =
     let p = s .args .p in
     let q = s .args .q in
     subst (Paced p q (l .loop .m + 1)) (sym (c .next-coordinates .ensures ∙ ap (λ k. nexts k (l .loop .c)) (paces-are (l .before .before))))
-    (paced-next p q (l .loop .m) (l .loop .c) (omega (arith, c .before .before .before .before .before .loop-test .taken, last-is (l .before .before))) (on-line l))
+    (paced-next p q (l .loop .m) (l .loop .c)
+    (omega (arith, c .before .before .before .before .before .loop-test .taken, last-is (l .before .before))) (on-line l))
 
 loop-again : tie.Need-loop-again Inv-loop μ-loop
 loop-again c =
@@ -116,7 +118,8 @@ returns c =
     let p = s .args .p in
     let q = s .args .q in
     let e = last-is (l .before .before) in
-    filled-last _ _ _ (s .pre .2) _ _ q (l .loop .m) _ (l .loop .inv .0) (omega arith) (ap (λ u. cell-26 u q (s .args .last)) (at-p (l .before)) ∙ ap (cell-26 p q) e ∙ end-26 p q) (c .before .put2 .ensures)
+    filled-last _ _ _ (s .pre .2) _ _ q (l .loop .m) _ (l .loop .inv .0) (omega arith)
+    (ap (λ u. cell-26 u q (s .args .last)) (at-p (l .before)) ∙ ap (cell-26 p q) e ∙ end-26 p q) (c .before .put2 .ensures)
     ∙ ap (λ u. filled (tabulate (cell-26 u q) (s .args .last + 1)) (s .args .out .now)) (at-p (l .before))
     ∙ ap (λ n. filled (tabulate (cell-26 p q) (n + 1)) (s .args .out .now)) e ∙ ap (λ x. filled x (s .args .out .now)) (sym (line-26-is p q))
 

@@ -56,7 +56,8 @@ fill26-requires c κs =
 returns : tie.Need-returns
 returns c =
     let s = c .before .before .before .before in
-    refused-ends (line-26 (s .args .p) (s .args .q)) (s .args .p) (s .args .q) (s .args .out .now) _ (sym (c .before .before .before .check-ends .ensures) ∙ c .before .r .given .1)
+    refused-ends (line-26 (s .args .p) (s .args .q)) (s .args .p) (s .args .q) (s .args .out .now) _
+    (sym (c .before .before .before .check-ends .ensures) ∙ c .before .r .given .1)
 
 returns-2 : tie.Need-returns-2
 returns-2 c =

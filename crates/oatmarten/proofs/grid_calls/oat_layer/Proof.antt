@@ -17,7 +17,13 @@ returns : tie.Need-returns
 returns c =
     record {
       answer = c .before .layer-part .result;
-      meets = record { says = rw (c .before .layer-part .ensures .says, c .before .before .counts .ensures, held-is _ (c .before .before .before .before .fits .z)) };
+      meets = record {
+        says = rw (
+          c .before .layer-part .ensures .says,
+          c .before .before .counts .ensures,
+          held-is _ (c .before .before .before .before .fits .z),
+        );
+      };
       flat = c .flat-part .ensures;
     }
 

@@ -22,7 +22,8 @@ returns c =
     let s = c .before .before .before .before .before .before .before in
     record {
       answer = c .before .before .before .mark .result;
-      meets = subst (λ n. Marks n (s .args .cells .now) (c .before .before .before .mark .result) (c .before .before .before .mark .last .1 .0)) (c .before .before .before .before .before .counts .ensures) (c .before .before .before .mark .ensures);
+      meets = subst (λ n. Marks n (s .args .cells .now) (c .before .before .before .mark .result) (c .before .before .before .mark .last .1 .0))
+          (c .before .before .before .before .before .counts .ensures) (c .before .before .before .mark .ensures);
       flat = c .flat-verdict .ensures;
     }
 

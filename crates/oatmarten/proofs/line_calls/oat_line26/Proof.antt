@@ -25,7 +25,8 @@ returns c =
     let s = c .before .before .before .before .before .before in
     record {
       answer = c .before .before .line26 .result;
-      meets = subst₂ (λ a b. Line26 a b (s .args .out .now) (c .before .before .line26 .result) (c .before .before .line26 .last .1 .1 .0)) (c .before .before .before .before .before .cell .ensures) (c .before .before .before .before .cell2 .ensures) (c .before .before .line26 .ensures);
+      meets = subst₂ (λ a b. Line26 a b (s .args .out .now) (c .before .before .line26 .result) (c .before .before .line26 .last .1 .1 .0))
+          (c .before .before .before .before .before .cell .ensures) (c .before .before .before .before .cell2 .ensures) (c .before .before .line26 .ensures);
       flat = c .flat-listed .ensures;
     }
 

@@ -25,7 +25,8 @@ returns c =
     let s = c .before .before .before .before .before .before in
     record {
       answer = c .before .before .line6 .result;
-      meets = subst₂ (λ a b. Line6 a b (s .args .out .now) (c .before .before .line6 .result) (c .before .before .line6 .last .1 .1 .0)) (c .before .before .before .before .before .cell .ensures) (c .before .before .before .before .cell2 .ensures) (c .before .before .line6 .ensures);
+      meets = subst₂ (λ a b. Line6 a b (s .args .out .now) (c .before .before .line6 .result) (c .before .before .line6 .last .1 .1 .0))
+          (c .before .before .before .before .before .cell .ensures) (c .before .before .before .before .cell2 .ensures) (c .before .before .line6 .ensures);
       flat = c .flat-listed .ensures;
     }
 

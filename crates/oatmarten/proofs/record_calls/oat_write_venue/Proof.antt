@@ -23,7 +23,8 @@ returns c =
     let s = c .before .before .before .before .before .before .before .before in
     record {
       answer = w .result;
-      meets = subst (λ n. WritesVenue n (s .args .cells .now) (s .args .out .now) (w .result) (w .last .1 .1 .0)) (c .before .before .before .before .before .counts .ensures) (w .ensures);
+      meets = subst (λ n. WritesVenue n (s .args .cells .now) (s .args .out .now) (w .result) (w .last .1 .1 .0))
+          (c .before .before .before .before .before .counts .ensures) (w .ensures);
       flat = c .flat-written .ensures;
     }
 

@@ -22,7 +22,14 @@ returns : tie.Need-returns
 returns c =
     record {
       answer = c .before .cell-of .result;
-      meets = record { says = rw (c .before .cell-of .ensures .says, c .before .before .point .ensures, c .before .before .before .placement .ensures, c .before .before .before .before .counts .ensures) };
+      meets = record {
+        says = rw (
+          c .before .cell-of .ensures .says,
+          c .before .before .point .ensures,
+          c .before .before .before .placement .ensures,
+          c .before .before .before .before .counts .ensures,
+        );
+      };
       flat = c .flat-found .ensures;
     }
 

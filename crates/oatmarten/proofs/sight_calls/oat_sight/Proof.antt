@@ -25,7 +25,15 @@ returns : tie.Need-returns
 returns c =
     record {
       answer = c .before .see .result;
-      meets = record { says = rw (c .before .see .ensures .says, c .before .before .point2 .ensures, c .before .before .before .point .ensures, c .before .before .before .before .placement .ensures, c .before .before .before .before .before .counts .ensures) };
+      meets = record {
+        says = rw (
+          c .before .see .ensures .says,
+          c .before .before .point2 .ensures,
+          c .before .before .before .point .ensures,
+          c .before .before .before .before .placement .ensures,
+          c .before .before .before .before .before .counts .ensures,
+        );
+      };
       flat = c .flat-sight .ensures;
     }
 

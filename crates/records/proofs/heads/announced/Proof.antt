@@ -1,4 +1,4 @@
--- Four bytes are the number the definition reads, and with fewer the answer is 0. Assumes nothing.
+-- `records::heads::announced` meets its contract: four bytes are the number the definition reads, and with fewer the answer is 0. Assumes nothing.
 use lib.Dec.{lit<}
 use lib.ListN.{length}
 use denote.Ref.{now}

@@ -1,4 +1,5 @@
--- Fewer than four bytes announce 0, so two tests say what the definition's three say. Assumes nothing.
+-- `records::heads::check_whole` meets its contract: fewer than four bytes announce 0, so two tests say what the definition's three say. Assumes
+-- nothing.
 use mathlib.Core.Path.{_≡_}
 use Prim.Native.Nat.{_+_}
 use native.Mathlib.Omega.{arith}

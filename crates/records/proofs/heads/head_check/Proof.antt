@@ -1,4 +1,4 @@
--- Each test is the definition's, in its order. Assumes nothing.
+-- `records::heads::head_check` meets its contract: each test is the definition's, in its order. Assumes nothing.
 use mathlib.Core.Path.{_≡_, sym, _∙_}
 use denote.Ref.{now}
 use borrow.Author.Tests.{not-true, not-false}

@@ -1,4 +1,4 @@
--- The fifth byte, or what the definition puts where there is none. Assumes nothing.
+-- `records::heads::version_of` meets its contract: the fifth byte, or what the definition puts where there is none. Assumes nothing.
 use mathlib.Core.Path.{sym}
 use native.Mathlib.Omega.{arith}
 use lib.ListN.{List·getD-eq-default}

@@ -1,4 +1,5 @@
--- Three signed numbers of two bytes, one behind the other; each is below 2^16, so it is read back as it was. Assumes nothing.
+-- `records::pairs::cell_in` meets its contract: three signed numbers of two bytes, one behind the other; each is below 2^16, so it is read back as
+-- it was. Assumes nothing.
 use Rattle.records.proofs.Complement.{signed-held}
 use borrow.Author.Needs.{needs}
 use Rattle.records.proofs.pairs.cell_in.Statement.{statement}

@@ -1,4 +1,4 @@
--- The tests of the head are the definition's; the length is read where it counts. Assumes nothing.
+-- `records::pairs::pair_check` meets its contract: the tests of the head are the definition's; the length is read where it counts. Assumes nothing.
 use mathlib.Core.Path.{ap, ap₂, _∙_}
 use mathlib.Core.Bool.{not}
 use lib.Dec.{eqb}

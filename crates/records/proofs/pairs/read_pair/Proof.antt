@@ -1,4 +1,5 @@
--- The check, and where it is fine both ends, which the length of 13 bytes has room for. Assumes nothing.
+-- `records::pairs::read_pair` meets its contract: the check, and where it is fine both ends, which the length of 13 bytes has room for. Assumes
+-- nothing.
 use mathlib.Core.Path.{_≡_, sym, _∙_}
 use native.Mathlib.Omega.{arith}
 use denote.Ref.{now}
@@ -23,7 +24,8 @@ cell-in-requires : tie.Need-cell-in-requires
 cell-in-requires c κs = let w = pair-whole _ (fine c) in omega (arith, pair-least (version-of (now (c .before .before .before .before .args .bytes))))
 
 cell-in-requires-2 : tie.Need-cell-in-requires-2
-cell-in-requires-2 c κs = let w = pair-whole _ (fine (c .before)) in omega (arith, pair-least (version-of (now (c .before .before .before .before .before .args .bytes))))
+cell-in-requires-2 c κs = let w = pair-whole _ (fine (c .before)) in omega
+    (arith, pair-least (version-of (now (c .before .before .before .before .before .args .bytes))))
 
 enum-known-r : tie.Need-enum-known-r
 enum-known-r c = search needs

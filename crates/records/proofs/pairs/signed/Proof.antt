@@ -1,4 +1,5 @@
--- Below 2^15 the number is held as it is; from there on 2^16 is taken off, which fits. Assumes nothing.
+-- `records::pairs::signed` meets its contract: below 2^15 the number is held as it is; from there on 2^16 is taken off, which fits. Assumes
+-- nothing.
 use native.Mathlib.Omega.{arith}
 use mathlib.Core.Path.{sym, ap, _∙_}
 use borrow.Author.Tests.{lt-ltb, le-ltb}

@@ -1,4 +1,4 @@
--- Three numbers of two bytes, one behind the other. Assumes nothing.
+-- `records::venues::counts_at` meets its contract: three numbers of two bytes, one behind the other. Assumes nothing.
 
 use borrow.Author.Needs.{needs}
 use Rattle.records.proofs.venues.counts_at.Statement.{statement}

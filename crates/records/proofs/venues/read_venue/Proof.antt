@@ -1,4 +1,4 @@
--- The check, and where it is fine the venue in the record. Assumes nothing.
+-- `records::venues::read_venue` meets its contract: the check, and where it is fine the venue in the record. Assumes nothing.
 use mathlib.Core.Path.{_≡_, sym, _∙_}
 use denote.Ref.{now}
 use Rattle.cells.specs.declared.Verdict.the-variants.{Fine}

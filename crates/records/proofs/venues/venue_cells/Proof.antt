@@ -55,7 +55,8 @@ returns-2 c =
     let v = c .before .before .before .venue .given .0 .0 in
     let named = sym (c .before .before .before .before .before .read-venue .ensures .says) ∙ c .before .before .before .venue .given .1 in
     record {
-      says = rw named (ap (λ (t : ℕ). take t (drop (v .start) (now (c .before .before .before .before .before .before .before .args .bytes)))) (add-sub-cancel-left (v .start) (v .long)));
+      says = rw named (ap (λ (t : ℕ). take t (drop (v .start) (now (c .before .before .before .before .before .before .before .args .bytes))))
+          (add-sub-cancel-left (v .start) (v .long)));
       there = record { block = refl; offset = rw named (omega arith) };
     }
 

@@ -1,4 +1,4 @@
--- The tests of the head, and where they pass the shape. Assumes nothing.
+-- `records::venues::venue_check` meets its contract: the tests of the head, and where they pass the shape. Assumes nothing.
 use mathlib.Core.Path.{_≡_, sym, ap, ap₂, _∙_}
 use lib.Dec.{ltb}
 use denote.Ref.{now}
@@ -41,11 +41,13 @@ enum-told-2 : tie.Need-enum-told-2
 enum-told-2 c = search needs
 
 returns : tie.Need-returns
-returns c = let e = c .enum-told2 .given .1 in rw (venue-tests (now (c .before .before .before .before .before .before .before .before .args .s)), sym (tested (c .before .before)) ∙ e, e)
+returns c = let e = c .enum-told2 .given .1 in rw
+    (venue-tests (now (c .before .before .before .before .before .before .before .before .args .s)), sym (tested (c .before .before)) ∙ e, e)
 
 venue-in-requires : tie.Need-venue-in-requires
 venue-in-requires c κs =
-    let w = head-fits _ (venue-version (version-of (now (c .before .before .before .before .before .before .before .before .args .s)))) _ (sym (tested (c .before .before)) ∙ c .enum-told .given .1) in
+    let w = head-fits _ (venue-version (version-of (now (c .before .before .before .before .before .before .before .before .args .s)))) _
+    (sym (tested (c .before .before)) ∙ c .enum-told .given .1) in
     (w .there, ltb-false _ _ (w .long))
 
 shape-requires : tie.Need-shape-requires
@@ -56,7 +58,11 @@ returns-2 c =
     let past = c .before .before .before in
     let venue = c .before .before .venue-in .ensures in
     c .shape .ensures .says
-    ∙ rw (venue, venue-tests (now (past .before .before .before .before .before .before .before .before .args .s)), sym (tested (past .before .before)) ∙ past .enum-told .given .1)
+    ∙ rw (
+      venue,
+      venue-tests (now (past .before .before .before .before .before .before .before .before .args .s)),
+      sym (tested (past .before .before)) ∙ past .enum-told .given .1,
+    )
 
 pub venue-check-spec : {M : Type 1} → statement M
 venue-check-spec =

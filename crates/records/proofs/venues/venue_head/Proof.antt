@@ -1,4 +1,4 @@
--- By definition. Assumes nothing.
+-- `records::venues::venue_head` meets its contract: By definition. Assumes nothing.
 use mathlib.Core.Path.{refl}
 use Rattle.records.specs.Venues.{venue-head}
 use Rattle.records.proofs.venues.venue_head.Statement.{statement}

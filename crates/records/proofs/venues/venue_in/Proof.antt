@@ -1,4 +1,5 @@
--- The head is at least seven bytes and within the record, so its counts stand before the cells. Assumes nothing.
+-- `records::venues::venue_in` meets its contract: the head is at least seven bytes and within the record, so its counts stand before the cells.
+-- Assumes nothing.
 use native.Mathlib.Omega.{arith}
 use Prim.Native.Nat.{_<_}
 use lib.ListN.{length}

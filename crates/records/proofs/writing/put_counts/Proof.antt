@@ -1,4 +1,4 @@
--- Three numbers of two bytes, one stored behind the other. Assumes nothing.
+-- `records::writing::put_counts` meets its contract: three numbers of two bytes, one stored behind the other. Assumes nothing.
 use mathlib.Core.Path.{refl}
 use mathlib.Core.List.{_++_}
 use native.Mathlib.Omega.{arith}

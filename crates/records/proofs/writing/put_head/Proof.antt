@@ -1,4 +1,4 @@
--- The length, the version and the counts are stored one behind the other. Assumes nothing.
+-- `records::writing::put_head` meets its contract: the length, the version and the counts are stored one behind the other. Assumes nothing.
 use native.Mathlib.Omega.{arith}
 use Prim.Native.Nat.{_+_, _≤_}
 use mathlib.Core.Path.{_≡_, refl, ap, ap₂, _∙_}
@@ -63,7 +63,8 @@ returns c =
     ap₂ (λ h b. h + b) (first .before .venue-head .ensures) (shaped _ _ (start .pre .0) .bytes-are) in
     let long = four (venue-head written-version + size n) in
     then-over 0 (long ++ (written-version ∷ [])) (count-bytes n) out (omega arith)
-    (then-over 0 long (written-version ∷ []) out (omega arith) (first .put-four .ensures ∙ ap (λ v. over 0 (four v) out) length-is) refl (second .put-byte .ensures))
+    (then-over 0 long (written-version ∷ []) out (omega arith) (first .put-four .ensures ∙ ap (λ v. over 0 (four v) out) length-is) refl
+    (second .put-byte .ensures))
     refl (c .before .before .put-counts .ensures)
 
 pub put-head-spec : {M : Type 1} → statement M

@@ -1,4 +1,5 @@
--- The shape's verdict, and where it is fine the test of the room: the definition's order. Assumes nothing.
+-- `records::writing::write_check` meets its contract: the shape's verdict, and where it is fine the test of the room: the definition's order.
+-- Assumes nothing.
 use native.Mathlib.Omega.{arith}
 use mathlib.Core.Path.{_≡_, sym, _∙_}
 use borrow.Author.Tests.{lt-ltb, le-ltb}
@@ -44,14 +45,23 @@ unfolding write-check
 returns-2 c =
     let d = c .before .before in
     let e = c .before .venue-head .ensures in
-    rw (fine d, lt-ltb (d .before .before .before .args .room) (record-length (d .before .before .before .args .n)) (omega (arith, shaped _ _ (fine d) .bytes-are)))
+    rw (
+      fine d,
+      lt-ltb (d .before .before .before .args .room) (record-length (d .before .before .before .args .n))
+          (omega (arith, shaped _ _ (fine d) .bytes-are)),
+    )
 
 returns-3 : tie.Need-returns-3
 unfolding write-check
 returns-3 c =
     let d = c .before .before in
     let e = c .before .venue-head .ensures in
-    rw (fine d, le-ltb (d .before .before .before .args .room) (record-length (d .before .before .before .args .n)) (omega (arith, shaped _ _ (fine d) .bytes-are)), d .enum-told .given .1)
+    rw (
+      fine d,
+      le-ltb (d .before .before .before .args .room) (record-length (d .before .before .before .args .n))
+          (omega (arith, shaped _ _ (fine d) .bytes-are)),
+      d .enum-told .given .1,
+    )
 
 pub write-check-spec : {M : Type 1} → statement M
 write-check-spec =

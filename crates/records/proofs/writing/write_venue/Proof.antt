@@ -1,4 +1,5 @@
--- Where the check is fine, the head and then the cells are stored; else nothing is. Assumes nothing.
+-- `records::writing::write_venue` meets its contract: where the check is fine, the head and then the cells are stored; else nothing is. Assumes
+-- nothing.
 use Prim.Native.Nat.{_+_, _≤_}
 use native.Mathlib.Omega.{arith}
 use mathlib.Core.Path.{_≡_, sym, ap, _∙_}
@@ -64,7 +65,8 @@ returns c =
     let head-in = cells-in .before .before .before .before in
     let head = head-in .before .before in
     let a = head .before .before .before .before .before .before .args in
-    wrote (a .n) (now (a .cells)) (now (a .out)) (fine (head .before)) (ap (λ h. 4 + h) (head .venue-head .ensures)) (head-in .put-head .ensures) (cells-in .put .ensures)
+    wrote (a .n) (now (a .cells)) (now (a .out)) (fine (head .before)) (ap (λ h. 4 + h) (head .venue-head .ensures)) (head-in .put-head .ensures)
+    (cells-in .put .ensures)
 
 returns-2 : tie.Need-returns-2
 returns-2 c = not-written _ _ _ _ (sym (c .before .before .before .write-check .ensures) ∙ c .before .r .given .1)
