@@ -1,4 +1,4 @@
--- `buffers::put_byte` meets its contract: A store is a piece of one byte. Assumes nothing.
+-- `buffers::put_byte` meets its contract: a store is a piece of one byte. Assumes nothing.
 use borrow.Author.Needs.{needs}
 use Rattle.buffers.proofs.Over.{set-over}
 use Rattle.buffers.proofs.put_byte.Statement.{statement}

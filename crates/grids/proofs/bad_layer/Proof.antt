@@ -1,4 +1,4 @@
--- `grids::bad_layer` meets its contract: A z below 0 is bad; any other is compared with the count as a natural number. Assumes nothing.
+-- `grids::bad_layer` meets its contract: a z below 0 is bad; any other is compared with the count as a natural number. Assumes nothing.
 use mir.Syntax.{w32}
 use mir.ValLaws.{toZ-ofZ}
 use lib.Dec.{lit<}

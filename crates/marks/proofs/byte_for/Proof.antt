@@ -1,4 +1,4 @@
--- `marks::byte_for` meets its contract: A solid byte stays; any other is 1 beside a solid one, else 0. Assumes nothing.
+-- `marks::byte_for` meets its contract: a solid byte stays; any other is 1 beside a solid one, else 0. Assumes nothing.
 use borrow.Author.Tests.{lt-ltb, le-ltb}
 use native.Mathlib.Omega.{arith}
 use Rattle.marks.proofs.byte_for.Statement.{statement}

@@ -1,4 +1,4 @@
--- `marks::mark` meets its contract: A refused shape stores nothing; a fine one is marked row by row. Assumes nothing.
+-- `marks::mark` meets its contract: a refused shape stores nothing; a fine one is marked row by row. Assumes nothing.
 use native.Mathlib.Omega.{arith}
 use mathlib.Core.Path.{sym, _∙_}
 use borrow.Author.Needs.{needs}
