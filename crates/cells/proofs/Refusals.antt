@@ -1,4 +1,4 @@
--- What document 01 says of a refusal tells which refusal it is: `told` has a left inverse; and so has `told-verdict`. Assumes nothing.
+-- What SCOPE says of a refusal tells which refusal it is: `told` has a left inverse; and so has `told-verdict`. Assumes nothing.
 use Prim.Native.Nat.{ℕ}
 use mathlib.Core.Path.{_≡_, refl, sym, ap, _∙_}
 use mathlib.Core.Bool.{Bool, cond}

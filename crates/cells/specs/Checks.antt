@@ -1,4 +1,4 @@
--- Document 01, "Order": a call's tests stand in a row, and the first that fails is the answer. Assumes nothing.
+-- SCOPE, O: a call's tests stand in a row, and the first that fails is the answer. Assumes nothing.
 use mathlib.Core.Bool.{Bool, true, false}
 use Rattle.cells.specs.declared.Refusal.{Refusal}
 use Rattle.cells.specs.declared.Verdict.{Verdict}

@@ -1,4 +1,4 @@
--- Document 01, "Refusal numbers": each refusal's number, and what it says with it: which end, which axis, which of the four parts of a
+-- SCOPE, R: each refusal's number, and what it says with it: which end, which axis, which of the four parts of a
 -- placement; and each case of a verdict. Assumes nothing.
 use Prim.Native.Nat.{ℕ}
 use mathlib.Core.Logic.{_⊎_, inl, inr}
@@ -12,7 +12,7 @@ use Rattle.cells.specs.declared.Refusal.the-variants.{Limit, Count, Byte
 use Rattle.cells.specs.declared.Verdict.{Verdict}
 use Rattle.cells.specs.declared.Verdict.the-variants.{Fine, Refused}
 
--- a refusal as document 01 has it: the number, and the details that it says
+-- a refusal as SCOPE has it: the number, and the details that it says
 pub record Told : Type 0 where
   pub number : ℕ
   pub end : Option End

@@ -1,4 +1,4 @@
--- Document 01, "Order", for readers: a call's tests in a row, each with its condition in plain words and with what is said where it is the first
+-- SCOPE, O, for readers: a call's tests in a row, each with its condition in plain words and with what is said where it is the first
 -- that holds. Assumes nothing.
 use mathlib.Core.Path.{_≡_}
 use mathlib.Core.Logic.{_↔_, _⊎_, inl, inr}

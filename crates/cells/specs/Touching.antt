@@ -1,4 +1,4 @@
--- Cells by axis, and when two of them touch (document 01, "The grid"): "two cells touch by face, edge or corner when they differ, and by at
+-- Cells by axis, and when two of them touch (SCOPE, G and N): "two cells touch by face, edge or corner when they differ, and by at
 -- most 1 on every axis". How near is a number k: 1 by face, 2 by face or edge, 3 by face, edge or corner. Assumes nothing.
 use Prim.Native.Nat.{ℕ, _+_, _≤_, min}
 use mathlib.Core.Bool.{Bool, _&&_}

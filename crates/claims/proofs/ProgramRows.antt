@@ -1,4 +1,4 @@
--- Every row of the program's limits and ends holds: the output computes to what document 01 says. Assumes nothing.
+-- Every row of the program's limits and ends holds: the output computes to what SCOPE says. Assumes nothing.
 use mathlib.Core.Path.{refl}
 use Rattle.grids.specs.Grid.{shape}
 use Rattle.records.specs.Heads.{whole-check}

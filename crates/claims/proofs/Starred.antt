@@ -1,4 +1,4 @@
--- Every row of the table of starred cases holds: the definitions compute to what document 01 says. Assumes nothing.
+-- Every row of the table of starred cases holds: the definitions compute to what SCOPE says. Assumes nothing.
 use mathlib.Core.Path.{_≡_, refl}
 use lib.Ieee.{le, lt, ofInt, ofBits, div, sub}
 use Rattle.lines.specs.Lines.{six-line, line-26}

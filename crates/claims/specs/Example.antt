@@ -1,4 +1,4 @@
--- Document 01's worked example, by which claims name their inputs: the program's venue, without marks and with them. Assumes nothing.
+-- SCOPE's worked example, by which claims name their inputs: the program's venue, without marks and with them. Assumes nothing.
 use Prim.Native.Nat.{ℕ}
 use mathlib.Core.List.{List, [], _∷_}
 use lib.IntN.{pos}

@@ -1,4 +1,4 @@
--- What is claimed of the structs that the calls for C answer by: what C reads of an answer is what document 01 says of it, as numbers. Assumes nothing.
+-- What is claimed of the structs that the calls for C answer by: what C reads of an answer is what SCOPE says of it, as numbers. Assumes nothing.
 use Prim.Native.Nat.{ℕ, _≤_}
 use mathlib.Core.Path.{_≡_}
 use mathlib.Core.Logic.{_⊎_, inr, _↔_}
@@ -31,7 +31,7 @@ use Rattle.oatmarten.specs.SightCalls.{flat-found, flat-sight}
 use Rattle.oatmarten.specs.RecordCalls.{flat-venue, flat-pair, flat-written}
 use Rattle.claims.specs.Example.{at, example-counts, example-cells}
 
--- 1. What C reads, over what document 01 says of the answer.
+-- 1. What C reads, over what SCOPE says of the answer.
 pub record Flattened {A B F : Type 0} (says : A → Told ⊎ B) (flat : A → F) (said : F → OatSaid) : Type 0 where
   -- in `said` what is said of a refusal, or 0, 0, 0
   pub tells : (a : A) → said (flat a) ≡ said-of (says a)
@@ -53,7 +53,7 @@ pub record Flattenings : Type 0 where
   pub pair : Flattened told-pair flat-pair (λ f. f .said)
   pub written : Flattened told-written flat-written (λ f. f .said)
 
--- document 01's table has the numbers 1 to 11
+-- SCOPE's table has the numbers 1 to 11
 abbrev pub InTable : ℕ → Type 0
 InTable k = (1 ≤ k) × (k ≤ 11)
 

@@ -1,4 +1,4 @@
--- What is claimed of the grid: its layers, near marks and their completeness (document 01, "The grid"). Marks and completeness are claimed over
+-- What is claimed of the grid: its layers, near marks and their completeness (SCOPE, G and N). Marks and completeness are claimed over
 -- the number k of touching; 3 is by face, edge or corner. Assumes nothing.
 use Prim.Native.Nat.{ℕ, _+_, _≤_, _<_}
 use mathlib.Core.Path.{_≡_}

@@ -75,7 +75,7 @@ pub record Entered (r : Preference) (D : Steps) : Type 0 where
   pub by-last : (n : ℕ) → n < total D → LastMade (centres r D) (place (centres r D) (suc n)) (next (centres r D) (place (centres r D) n))
   pub alone : (t : Steps) (m n : Axis) → LastMade (centres r D) t m → LastMade (centres r D) t n → m ≡ n
 
--- 8. With a longest, at 26-line cell m < M, b moves exactly when e_ab + B ≥ 0, which is e_ba ≤ B: as document 01's values say it, pair by pair.
+-- 8. With a longest, at 26-line cell m < M, b moves exactly when e_ab + B ≥ 0, which is e_ba ≤ B: as SCOPE's values say it, pair by pair.
 pub record Moves (D : Steps) (m : ℕ) : Type 0 where
   pub x-y : D X ≡ longest D → (place-26 D (m + 1) Y ≡ place-26 D m Y + 1) ↔ (pos 0 ≤ℤ (e-xy D (place-26 D m) +ℤ pos (D Y)))
   pub x-z : D X ≡ longest D → (place-26 D (m + 1) Z ≡ place-26 D m Z + 1) ↔ (pos 0 ≤ℤ (e-xz D (place-26 D m) +ℤ pos (D Z)))

@@ -1,4 +1,4 @@
--- What is claimed of a surveyed point's cell (document 01, "From metres to cells"), for every counts, placement and point. Assumes nothing.
+-- What is claimed of a surveyed point's cell (SCOPE, S), for every counts, placement and point. Assumes nothing.
 use Prim.Native.Nat.{ℕ, _^_, _≤_, _<_}
 use mathlib.Core.Path.{_≡_}
 use mathlib.Core.Bool.{true, false}

@@ -75,7 +75,7 @@ pub record FiveOrLines (bytes cells : RefT (List ℕ)) (t : List ℕ) (v : Venue
 
 -- ---- named inputs and outputs
 
--- document 01's input
+-- SCOPE's input
 abbrev pub example-input : List ℕ
 example-input = example-venue ++ example-pair
 
@@ -97,7 +97,7 @@ marked-output = plain-line ++ (49 ∷ 32 ∷ 65 ∷ 32 ∷ 104 ∷ 105 ∷ 116 �
 
 -- ---- wrong answers
 
--- a program that is silent on document 01's input
+-- a program that is silent on SCOPE's input
 pub record Silent : Type 0 where
   pub run : Runs example-input []
 

@@ -1,4 +1,4 @@
--- Document 01, "Records and the program": the program's limits, its refusals, and what it does after them, as rows: its whole input and output.
+-- SCOPE, V and T: the program's limits, its refusals, and what it does after them, as rows: its whole input and output.
 -- Beside the starred cases. Assumes nothing.
 use Prim.Native.Nat.{ℕ}
 use mathlib.Core.List.{List, [], _∷_, _++_}

@@ -36,7 +36,7 @@ pub record OneAnswer : Type 0 where
       (r ≡ t) × (x ≡ y)
   pub untouched : (n : Counts) (cells entry : List ℕ) (r : Refusal) (x : List ℕ) → WritesVenue n cells entry (Written.Refused r) x → x ≡ entry
 
--- 2. What reading accepts, in document 01's numbers: a venue v of these bytes, and a pair e.
+-- 2. What reading accepts, in SCOPE's numbers: a venue v of these bytes, and a pair e.
 pub record Right (s : List ℕ) (v : Venue) : Type 0 where
   pub whole : 4 + announced s ≤ length s
   pub version : version-of s ≡ 1
@@ -96,11 +96,11 @@ pub record NotLookedAt (s rest : List ℕ) : Type 0 where
 
 -- ---- named inputs
 
--- document 01: `0000000F 01 0004 0002 0001 0000000000020000`
+-- SCOPE: `0000000F 01 0004 0002 0001 0000000000020000`
 abbrev pub example-venue : List ℕ
 example-venue = 0 ∷ 0 ∷ 0 ∷ 15 ∷ 1 ∷ 0 ∷ 4 ∷ 0 ∷ 2 ∷ 0 ∷ 1 ∷ example-cells
 
--- document 01: `0000000D 01 0000 0000 0000 0003 0001 0000`
+-- SCOPE: `0000000D 01 0000 0000 0000 0003 0001 0000`
 abbrev pub example-pair : List ℕ
 example-pair = 0 ∷ 0 ∷ 0 ∷ 13 ∷ 1 ∷ 0 ∷ 0 ∷ 0 ∷ 0 ∷ 0 ∷ 0 ∷ 0 ∷ 3 ∷ 0 ∷ 1 ∷ 0 ∷ 0 ∷ []
 

@@ -1,4 +1,4 @@
--- Document 01, "Refusal numbers" and "Order": for each public call its tests in order, each in plain inequalities on the call's inputs and with the
+-- SCOPE, R and O: for each public call its tests in order, each in plain inequalities on the call's inputs and with the
 -- number and details that it gives; and the claim that every answer that meets the call's contract is given by them. Assumes nothing.
 use Prim.Native.Nat.{ℕ, _+_, _*_, _<_}
 use mathlib.Core.Path.{_≡_}

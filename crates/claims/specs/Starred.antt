@@ -1,4 +1,4 @@
--- Document 01, "On both sides of each edge": the starred cases, as one table. Assumes nothing.
+-- SCOPE, E: the starred cases, as one table. Assumes nothing.
 use Prim.Native.Nat.{ℕ, _-_}
 use mathlib.Core.Path.{_≡_}
 use mathlib.Core.List.{List, [], _∷_}

@@ -40,7 +40,7 @@ pub record OneLine (line : List ℕ) (at : ℕ) (entry : List ℕ) : Type 0 wher
 abbrev pub left-of-grid : Cell
 left-of-grid = record { x = negsuc 0; y = pos 1; z = pos 0 }
 
--- document 01's output, `1 P hit 1 1 0 2 3` and `1 A clear 4`, a line that no grid gives, `1 P hit -1 1 0 2 3`, and a refusal of each kind,
+-- SCOPE's output, `1 P hit 1 1 0 2 3` and `1 A clear 4`, a line that no grid gives, `1 P hit -1 1 0 2 3`, and a refusal of each kind,
 -- `12 refused 5` and `G refused 10`
 pub record Examples : Type 0 where
   pub hit : hit-line 1 80 (at 1 1 0) 2 3 ≡ 49 ∷ 32 ∷ 80 ∷ 32 ∷ 104 ∷ 105 ∷ 116 ∷ 32 ∷ 49 ∷ 32 ∷ 49 ∷ 32 ∷ 48 ∷ 32 ∷ 50 ∷ 32 ∷ 51 ∷ 10 ∷ []

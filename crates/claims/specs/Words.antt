@@ -1,4 +1,4 @@
--- What is claimed of the words: what document 01 says of a refusal, its number and details, tells which refusal it is; and what it says of an
+-- What is claimed of the words: what SCOPE says of a refusal, its number and details, tells which refusal it is; and what it says of an
 -- answer, a refusal or the values, tells which answer it is. Assumes nothing.
 use Prim.Native.Nat.{ℕ}
 use mathlib.Core.Path.{_≡_}
@@ -48,7 +48,7 @@ pub record ToldApart : Type 0 where
 pub record OneNumber (r : Refusal) : Type 0 where
   pub one : (m n : ℕ) → NumberOf r m → NumberOf r n → m ≡ n
 
--- document 01's table, number by number: each refusal's number, and what it says with it
+-- SCOPE's table, number by number: each refusal's number, and what it says with it
 pub record TheTable : Type 0 where
   pub one : (e : End) (a : Axis) → told (Limit e a) ≡ record { number = 1; end = some e; axis = some a; part = none }
   pub two : (a : Axis) → told (Count a) ≡ record { number = 2; end = none; axis = some a; part = none }

@@ -1,4 +1,4 @@
--- Document 01, "The grid": counts, one byte a cell, x fastest, then y, then z; and a layer of it. Assumes nothing.
+-- SCOPE, G and N: counts, one byte a cell, x fastest, then y, then z; and a layer of it. Assumes nothing.
 use Prim.Native.Nat.{ℕ, _+_, _*_, _/_, _%_}
 use mathlib.Core.Path.{_≡_}
 use mathlib.Core.Bool.{Bool, not, _||_}

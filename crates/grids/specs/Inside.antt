@@ -1,4 +1,4 @@
--- Document 01: what lies inside a grid, and refusal 5, "an end outside the grid". Assumes nothing.
+-- SCOPE: what lies inside a grid, and refusal 5, "an end outside the grid". Assumes nothing.
 use Prim.Native.Nat.{ℕ, _*_, _≤_}
 use mathlib.Core.Path.{_≡_}
 use mathlib.Core.Bool.{Bool, false, _||_}

@@ -1,4 +1,4 @@
--- Document 01, "The grid": near marks and their completeness, by coordinates, for every two cells of the grid. Touching is over the number k:
+-- SCOPE, G and N: near marks and their completeness, by coordinates, for every two cells of the grid. Touching is over the number k:
 -- 3 by face, edge or corner. Assumes nothing.
 use Prim.Native.Nat.{ℕ, zero, suc}
 use mathlib.Core.Bool.{Bool, true, false, cond, not, _&&_, _||_}

@@ -1,4 +1,4 @@
--- How the code makes the answer of a walk, from the spot where it stopped. No promise rests on this file: 01's answer is `answer-of` of `walks`,
+-- How the code makes the answer of a walk, from the spot where it stopped. No promise rests on this file: SCOPE's answer is `answer-of` of `walks`,
 -- and this is equal to it (`proofs/Stops.antt`). Assumes nothing.
 use Prim.Native.Nat.{ℕ}
 use mathlib.Core.Bool.{cond}

@@ -1,4 +1,4 @@
--- The lines of document 01 in step space: crossings at (1 + 2i) / (2D), any order of preference; the 26-line by the floor formula. Assumes nothing.
+-- The lines of SCOPE in step space: crossings at (1 + 2i) / (2D), any order of preference; the 26-line by the floor formula. Assumes nothing.
 use mathlib.Core.Path.{_≡_, refl, sym, ap, _∙_, fun-ext}
 use mathlib.Core.Logic.{_⊎_, inl, inr, ⊎-elim, _↔_}
 use Prim.Native.Nat.{ℕ, zero, suc, _+_, _-_, _*_, _/_, _≤_, _<_, max}

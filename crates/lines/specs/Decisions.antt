@@ -1,4 +1,4 @@
--- Document 01: the three decision values of figure 6, "with i, j, k steps taken", the tests of their signs and the sums that move them.
+-- SCOPE: the three decision values of figure 6, "with i, j, k steps taken", the tests of their signs and the sums that move them.
 -- Assumes nothing.
 use Prim.Native.Nat.{ℕ, _+_, _*_}
 use mathlib.Core.Bool.{cond}

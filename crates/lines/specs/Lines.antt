@@ -1,4 +1,4 @@
--- Document 01, "The lines": the 6-line and the 26-line between the centres of two cells. Assumes nothing.
+-- SCOPE, L: the 6-line and the 26-line between the centres of two cells. Assumes nothing.
 use Prim.Native.Nat.{ℕ, zero, suc, _+_, _*_, _/_, max}
 use mathlib.Core.Path.{_≡_}
 use mathlib.Core.Bool.{Bool, true, _&&_}

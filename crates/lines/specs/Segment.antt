@@ -1,4 +1,4 @@
--- Document 01: "The segment joins the two cell centres; its points are those at n over d of the way, n and d whole, d above 0, 0 ≤ n ≤ d, so
+-- SCOPE: "The segment joins the two cell centres; its points are those at n over d of the way, n and d whole, d above 0, 0 ≤ n ≤ d, so
 -- every claim about it can be multiplied out to whole numbers." Coordinates are multiplied by 2d. A cell of the integer lattice reaches half a
 -- cell from its centre to each side. Assumes nothing.
 use Prim.Native.Nat.{ℕ, _*_, _≤_, _<_}

@@ -1,4 +1,4 @@
--- Document 01: the line lists. "A line list writes three numbers a cell, in line order, at the front of the lent slice, and answers the number of
+-- SCOPE: the line lists. "A line list writes three numbers a cell, in line order, at the front of the lent slice, and answers the number of
 -- cells; the rest stays." Refusals: 1 (P before Q; x, y, z), then 6. Assumes nothing.
 use Prim.Native.Nat.{ℕ, _*_}
 use mathlib.Core.Path.{_≡_}

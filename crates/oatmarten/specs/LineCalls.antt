@@ -1,4 +1,4 @@
--- How the answer of a list call is flattened for C: what document 01 says of it, as numbers. Assumes nothing.
+-- How the answer of a list call is flattened for C: what SCOPE says of it, as numbers. Assumes nothing.
 use mathlib.Core.List.{List}
 use lib.IntN.{ℤ}
 use Rattle.cells.specs.declared.Cell.{Cell}

@@ -44,14 +44,14 @@ which (some a) p = axis-number a
 abbrev pub accepted : OatSaid
 accepted = record { refusal = 0; end = 0; axis = 0 }
 
--- what document 01 says of a refusal, as numbers
+-- what SCOPE says of a refusal, as numbers
 abbrev pub flat-told : Told → OatSaid
 flat-told t = record { refusal = t .number; end = or-0 end-number (t .end); axis = which (t .axis) (t .part) }
 
 abbrev pub flat-refusal : Refusal → OatSaid
 flat-refusal r = flat-told (told r)
 
--- what an answer begins with, by what document 01 says of it: of a refusal, or of values
+-- what an answer begins with, by what SCOPE says of it: of a refusal, or of values
 abbrev pub said-of : {B : Type 0} → Told ⊎ B → OatSaid
 said-of (inl t) = flat-told t
 said-of (inr v) = accepted

@@ -1,4 +1,4 @@
--- How a point's cell and the sight answer are flattened for C: what document 01 says of them, as numbers. Assumes nothing.
+-- How a point's cell and the sight answer are flattened for C: what SCOPE says of them, as numbers. Assumes nothing.
 use Prim.Native.Nat.{ℕ}
 use mathlib.Core.List.{List}
 use lib.IntN.{pos}

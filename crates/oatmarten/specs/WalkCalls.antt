@@ -1,4 +1,4 @@
--- How the answer of a first-hit call is flattened for C: what document 01 says of it, as numbers. Assumes nothing.
+-- How the answer of a first-hit call is flattened for C: what SCOPE says of it, as numbers. Assumes nothing.
 use Prim.Native.Nat.{ℕ}
 use mathlib.Core.List.{List}
 use lib.IntN.{pos}

@@ -1,5 +1,5 @@
 -- How the code finds the place of a hit, from the steps made: of the crossings last made on each axis, the one that is last in the order. No
--- promise rests on this file: 01's place is `place-of` of `walks`, and this is equal to it (`proofs/Entering.antt`). Assumes nothing.
+-- promise rests on this file: SCOPE's place is `place-of` of `walks`, and this is equal to it (`proofs/Entering.antt`). Assumes nothing.
 use Prim.Native.Nat.{ℕ, _-_, _*_}
 use mathlib.Core.Bool.{Bool, cond, _&&_}
 use lib.Dec.{ltb, leb, eqb}

@@ -1,4 +1,4 @@
--- Document 01, "Records and the program": what the program writes, from all the bytes of its input. Assumes nothing.
+-- SCOPE, V and T: what the program writes, from all the bytes of its input. Assumes nothing.
 use Prim.Native.Nat.{ℕ, zero, suc, _+_, _*_}
 use mathlib.Core.Path.{_≡_}
 use mathlib.Core.Bool.{Bool, false, cond, _||_}

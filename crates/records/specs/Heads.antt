@@ -1,4 +1,4 @@
--- Document 01, "Records and the program": what a venue's and a pair's record begin with, four bytes, the length of what follows, and then the
+-- SCOPE, V and T: what a venue's and a pair's record begin with, four bytes, the length of what follows, and then the
 -- version; bytes after the record are not looked at. Lengths and places are functions of the version. Assumes nothing.
 use Prim.Native.Nat.{ℕ, _+_}
 use mathlib.Core.List.{List}

@@ -1,4 +1,4 @@
--- Document 01, "Records and the program": reading a venue. Assumes nothing.
+-- SCOPE, V and T: reading a venue. Assumes nothing.
 use Prim.Native.Nat.{ℕ, _+_, _-_}
 use mathlib.Core.Path.{_≡_}
 use mathlib.Core.Bool.{Bool, not}

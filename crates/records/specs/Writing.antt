@@ -1,4 +1,4 @@
--- Document 01, "Records and the program": writing a venue. Assumes nothing.
+-- SCOPE, V and T: writing a venue. Assumes nothing.
 use Prim.Native.Nat.{ℕ, _+_}
 use mathlib.Core.Path.{_≡_}
 use mathlib.Core.List.{List, [], _∷_, _++_}

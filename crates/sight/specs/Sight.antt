@@ -1,4 +1,4 @@
--- Document 01: the sight answer from camera to ball. Refusals 2, 3, 7, the camera's 8 and 9, then the ball's. Assumes nothing.
+-- SCOPE: the sight answer from camera to ball. Refusals 2, 3, 7, the camera's 8 and 9, then the ball's. Assumes nothing.
 use Prim.Native.Nat.{ℕ}
 use mathlib.Core.Path.{_≡_}
 use mathlib.Core.List.{List}

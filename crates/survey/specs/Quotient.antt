@@ -1,4 +1,4 @@
--- Document 01, "From metres to cells": one surveyed value as a quotient and its cell along one axis, over the
+-- SCOPE, S: one surveyed value as a quotient and its cell along one axis, over the
 -- toolchain's account of IEEE 754 (`lib.Ieee`). Assumes nothing.
 use Prim.Native.Nat.{ℕ, zero, suc, _+_}
 use mathlib.Core.Bool.{Bool, _&&_, _||_, cond}

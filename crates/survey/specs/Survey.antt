@@ -1,4 +1,4 @@
--- Document 01, "From metres to cells": placement and surveyed point, their refusals in order, and the cell of a point. Assumes nothing.
+-- SCOPE, S: placement and surveyed point, their refusals in order, and the cell of a point. Assumes nothing.
 use Prim.Native.Nat.{ℕ}
 use mathlib.Core.Path.{_≡_}
 use mathlib.Core.Bool.{Bool, not, _||_}

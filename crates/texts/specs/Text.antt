@@ -1,4 +1,4 @@
--- Document 01, "Records and the program": the program's lines as bytes. "Numbers are decimal without leading zeros, fields are parted by one space,
+-- SCOPE, V and T: the program's lines as bytes. "Numbers are decimal without leading zeros, fields are parted by one space,
 -- and each line ends with a line feed." Assumes nothing.
 use Prim.Native.Nat.{ℕ, zero, suc, _+_, _/_, _%_}
 use mathlib.Core.Bool.{cond}

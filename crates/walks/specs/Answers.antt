@@ -1,4 +1,4 @@
--- Document 01: the answer of a first-hit call, from its walk. "Place of a hit" and "Reads"; refusals 2, 3, then 5 (P before Q; x, y, z).
+-- SCOPE: the answer of a first-hit call, from its walk. "Place of a hit" and "Reads"; refusals 2, 3, then 5 (P before Q; x, y, z).
 -- Assumes nothing.
 use Prim.Native.Nat.{ℕ, zero, suc, _+_, _-_, _*_}
 use mathlib.Core.Path.{_≡_}

@@ -1,4 +1,4 @@
--- Document 01, "Adaptive walk" and "Reads": the plain and the adaptive walk from P to Q through a grid, as lists of cells. They differ in what
+-- SCOPE, W: the plain and the adaptive walk from P to Q through a grid, as lists of cells. They differ in what
 -- comes next alone. Assumes nothing.
 use Prim.Native.Nat.{ℕ, zero, suc, _+_}
 use mathlib.Core.Bool.{Bool, true, false, cond, _&&_, _||_}
