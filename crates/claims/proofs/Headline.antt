@@ -2,6 +2,8 @@
 use Rattle.claims.specs.Headline.{TakesAnything, AreThePapers, TellOneStory}
 use Rattle.lines.specs.Preference.{rule-1}
 use Rattle.claims.proofs.Ties.{asks-nothing, promised}
+use Rattle.claims.proofs.ExportTies.{exports-promised, exports-ask-nothing}
+use Rattle.claims.proofs.Refused.{lines-told, grids-told, points-told, records-told}
 use Rattle.claims.proofs.Exports.{exports-once, refused-untouched}
 use Rattle.claims.proofs.Lists.{listed-once}
 use Rattle.claims.proofs.Lines.{six-line-holds, each-cell-touched, no-cell-missing, line-26-holds}
@@ -22,7 +24,11 @@ takes-anything =
       cells = points.one-answer;
       sights = seen-once;
       record-calls = records.one-answer;
-      for-c = (exports-once, refused-untouched);
+      list-refusals = lines-told;
+      grid-refusals = grids-told;
+      point-refusals = points-told;
+      record-refusals = records-told;
+      for-c = (exports-ask-nothing, exports-promised, exports-once, refused-untouched);
     }
 
 pub are-the-papers : AreThePapers

@@ -12,6 +12,7 @@ use Rattle.lines.specs.Steps.{total}
 use Rattle.lines.specs.Preference.{rule-1}
 use Rattle.lines.specs.Lines.{differences, six-cell}
 use Rattle.lines.specs.Segment.{Share, InOpen, InClosed}
+use Rattle.lists.specs.declared.Listed.{Listed}
 use Rattle.grids.specs.declared.Completeness.the-variants.{Yes}
 use Rattle.grids.specs.Grid.{solid}
 use Rattle.grids.specs.Marks.{Completes}
@@ -29,6 +30,8 @@ use Rattle.records.specs.declared.writing.Written.the-variants.{Wrote}
 use Rattle.records.specs.Venues.{ReadsVenue, GivesCells}
 use Rattle.records.specs.Writing.{WritesVenue}
 use Rattle.claims.specs.Ties.{AsksNothing, Promised}
+use Rattle.claims.specs.ExportTies.{ExportsAskNothing, ExportsPromised}
+use Rattle.claims.specs.Refused.{LinesTold, GridsTold, PointsTold, RecordsTold}
 use Rattle.claims.specs.Exports.{ExportsOnce, RefusedUntouched}
 use Rattle.claims.specs.Lists.{ListedOnce}
 use Rattle.claims.specs.Lines.{SixLine, TwentySixLine}
@@ -38,7 +41,8 @@ use Rattle.claims.specs.Records as records
 use Rattle.claims.specs.Sights.{SeenOnce, OpenWay}
 use Rattle.claims.specs.Story.{SameStory, NoLater, FirstSolid, HitOnce}
 
--- 1. Every public call takes any numbers and any lent memory, and has one answer and one final memory for each input; a refusal writes nothing.
+-- 1. Every public call takes any numbers and any lent memory, has one answer and one final memory for each input, and refuses by number exactly
+-- where SCOPE's table says, in its order; a refusal writes nothing.
 -- (That it stops is part of every proof of a call.)
 pub record TakesAnything : Type 1 where
   pub asks-nothing : AsksNothing
@@ -49,7 +53,11 @@ pub record TakesAnything : Type 1 where
   pub cells : (n : Counts) (at : Placement) (p : Point) → points.OneAnswer n at p
   pub sights : (n : Counts) (l : List ℕ) (at : Placement) (camera ball : Point) → SeenOnce n l at camera ball
   pub record-calls : records.OneAnswer
-  pub for-c : ExportsOnce × RefusedUntouched
+  pub list-refusals : (p q : Cell) (entry exit : List ℤ) (r : Listed) → LinesTold p q entry exit r
+  pub grid-refusals : (n : Counts) (l : List ℕ) → GridsTold n l
+  pub point-refusals : (n : Counts) (at : Placement) → PointsTold n at
+  pub record-refusals : RecordsTold
+  pub for-c : ExportsAskNothing × ExportsPromised × ExportsOnce × RefusedUntouched
 
 -- 2. The lines and walks are the paper's, made exact: cells in the order of their crossings, from P to Q; each touched by the segment, and no cell
 -- missing whose inside the segment enters; the plain walk is the 6-line to its first solid cell. A venue written and read back is the same venue.
