@@ -6,11 +6,11 @@ use Rattle.cells.specs.declared.Cell.{Cell}
 use Rattle.cells.specs.declared.Counts.{Counts}
 
 -- counts
-abbrev pub counts : ℕ → ℕ → ℕ → Counts
+abbrev pub counts : (nx ny nz : ℕ) → Counts
 counts nx ny nz = record { nx = nx; ny = ny; nz = nz }
 
 -- the cell (x, y, z)
-abbrev pub at : ℕ → ℕ → ℕ → Cell
+abbrev pub at : (x y z : ℕ) → Cell
 at x y z = record { x = pos x; y = pos y; z = pos z }
 
 -- 4 by 2 by 1, solid at (1,1,0) alone

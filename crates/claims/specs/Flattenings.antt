@@ -58,7 +58,7 @@ abbrev pub InTable : ℕ → Type 0
 InTable k = (1 ≤ k) × (k ≤ 11)
 
 -- the three numbers of `said`
-abbrev pub three : ℕ → ℕ → ℕ → OatSaid
+abbrev pub three : (refusal end axis : ℕ) → OatSaid
 three refusal end axis = record { refusal = refusal; end = end; axis = axis }
 
 -- 2. The numbers that C reads, as include/oatmarten.h has them: of ends, axes and parts of a placement, of each refusal, and of a call on a named

@@ -33,7 +33,7 @@ pub record OneAnswer : Type 0 where
   pub by-mark : (n : Counts) (l : List ℕ) (r s : Verdict) (a b : List ℕ) → Marks n l r a → Marks n l s b → (r ≡ s) × (a ≡ b)
 
 -- the cell (x, y, z) lies inside the grid
-abbrev pub Inside : Counts → ℕ → ℕ → ℕ → Type 0
+abbrev pub Inside : Counts → (x y z : ℕ) → Type 0
 Inside n x y z = (x < n .nx) × (y < n .ny) × (z < n .nz)
 
 -- 2. Where the shape is fine, each count is 1 to 1,024 and there is a byte for each cell: the cell of an index is inside the grid and has that

@@ -101,11 +101,11 @@ cube k = record { nx = k; ny = k; nz = k }
 abbrev pub placement : Float → Float → Placement
 placement o edge = record { ox = o; oy = o; oz = o; edge = edge }
 
-abbrev pub point : Float → Float → Float → Point
+abbrev pub point : (x y z : Float) → Point
 point x y z = record { x = x; y = y; z = z }
 
 -- what an answer says: the cell (x, y, z), or a refusal
-abbrev pub cell-is : ℕ → ℕ → ℕ → Told ⊎ cell.Cell
+abbrev pub cell-is : (x y z : ℕ) → Told ⊎ cell.Cell
 cell-is x y z = inr (record { x = pos x; y = pos y; z = pos z })
 
 abbrev pub refused : Told → Told ⊎ cell.Cell

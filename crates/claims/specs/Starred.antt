@@ -35,11 +35,11 @@ use Rattle.claims.specs.Records.{example-venue, example-pair, minus-one-
 use Rattle.claims.specs.Program.{example-input, example-output, marked-input, marked-output}
 
 -- the cell (-x, y, z)
-abbrev pub at-minus : ℕ → ℕ → ℕ → Cell
+abbrev pub at-minus : (x y z : ℕ) → Cell
 at-minus x y z = record { x = negℤ (pos x); y = pos y; z = pos z }
 
 -- what a walk answers: a hit at a cell, with its code, place and reads; or clear, with its reads
-abbrev pub hit : Cell → ℕ → ℕ → ℕ → ℕ → Told ⊎ WalkSaid
+abbrev pub hit : Cell → (code num den reads : ℕ) → Told ⊎ WalkSaid
 hit c code num den reads = inr (said.hit (record { cell = c; code = code; place = record { num = num; den = den }; reads = reads }))
 
 abbrev pub clear : ℕ → Told ⊎ WalkSaid

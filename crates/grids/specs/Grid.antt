@@ -47,7 +47,7 @@ pub record Shapes (n : Counts) (bytes : ℕ) (r : Verdict) : Type 0 where
 -- ---- cells and bytes
 
 -- the place of the cell (x, y, z) among the bytes: x fastest, then y, then z
-abbrev pub index : Counts → ℕ → ℕ → ℕ → ℕ
+abbrev pub index : Counts → (x y z : ℕ) → ℕ
 index n x y z = x + n .nx * (y + n .ny * z)
 
 -- the cell of the byte at i

@@ -39,7 +39,7 @@ abbrev pub longest : Steps → ℕ
 longest D = max (max (D X) (D Y)) (D Z)
 
 -- cell number m has moved, on an axis with difference D, floor((2mD+M)/(2M)) cells; "for M = 0 it is P alone"
-unfoldable pub moved-26 : ℕ → ℕ → ℕ → ℕ
+unfoldable pub moved-26 : (M D m : ℕ) → ℕ
 moved-26 zero D m = 0
 moved-26 (suc n) D m =
     let M : ℕ = suc n in

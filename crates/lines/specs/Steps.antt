@@ -12,7 +12,7 @@ abbrev pub Steps : Type 0
 Steps = PerAxis
 
 -- i on x, j on y, k on z
-abbrev pub at : ℕ → ℕ → ℕ → Steps
+abbrev pub at : (i j k : ℕ) → Steps
 at i j k X = i
 at i j k Y = j
 at i j k Z = k

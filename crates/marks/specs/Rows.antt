@@ -11,7 +11,7 @@ use Rattle.grids.specs.Marks.{any, touches-solid}
 use Rattle.marks.specs.declared.Three.{Three}
 
 -- p holds of one of three numbers
-abbrev pub of-three : (ℕ → Bool) → ℕ → ℕ → ℕ → Bool
+abbrev pub of-three : (ℕ → Bool) → (a b c : ℕ) → Bool
 of-three p a b c = (p a || p b) || p c
 
 -- the first of the numbers at most 1 away from y
@@ -27,7 +27,7 @@ abbrev pub nearby : (ℕ → Bool) → ℕ → ℕ → Bool
 nearby p y n = of-three p (lowest y) y (highest y n)
 
 -- where the rows at most 1 away from row y of n start, per apart, row 0 at from
-abbrev pub starts : ℕ → ℕ → ℕ → ℕ → Three
+abbrev pub starts : (from per y n : ℕ) → Three
 starts from per y n = record { low = from + per * lowest y; mid = from + per * y; high = from + per * highest y n }
 
 -- three rows of nx bytes lie within so many bytes

@@ -11,7 +11,7 @@ abbrev pub numerator : ℕ → ℕ
 numerator i = 2 * i - 1
 
 -- a crossing was made, at i over 2a, and one at j over 2b lies at no greater fraction
-abbrev pub behind : ℕ → ℕ → ℕ → ℕ → Bool
+abbrev pub behind : (i a j b : ℕ) → Bool
 behind i a j b = ltb 0 i && leb (j * a) (i * b)
 
 -- the last crossing made is that of x: of equal fractions that of x is the last

@@ -81,7 +81,7 @@ spot-back Z D s = record { at = s .at; e = record { xy = s .wv; xz = pos (D X) -
 -- ---- the long step
 
 -- an axis moves where what is due on it is at least 0
-abbrev pub by-sign : ℤ → ℤ → ℤ → ℤ
+abbrev pub by-sign : (e go stay : ℤ) → ℤ
 by-sign e go stay = cond (leZ (pos 0) e) go stay
 
 -- what a shorter axis does to its three numbers

@@ -10,7 +10,7 @@ abbrev pub as-f64 : ℕ → Float
 as-f64 n = ofInt binary64 (pos n)
 
 -- "q = (point - origin) / edge, two operations, each rounded once"
-abbrev pub quotient : Float → Float → Float → Float
+abbrev pub quotient : (point origin edge : Float) → Float
 quotient point origin edge = div binary64 (sub binary64 point origin) edge
 
 -- "A q below 0, or at or above the count, is outside"

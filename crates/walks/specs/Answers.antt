@@ -43,7 +43,7 @@ abbrev pub place-by : Cell → Cell → Option ℕ → Place
 place-by p q none = entered-at p q 0
 place-by p q (some s) = entered-at p q s
 
-unfoldable pub place-of : Cell → Cell → Cell → Place
+unfoldable pub place-of : (p q w : Cell) → Place
 unfolding number-of six-cell next place
 place-of p q w = place-by p q (number-of (six-cell rule-1 p q) (six-count p q) w)
 

@@ -40,17 +40,17 @@ after f w none = w
 after f w (some s) = f (s + 1)
 
 -- "go to the next 6-line cell"
-unfoldable pub next-plain : Cell → Cell → Cell → Cell
+unfoldable pub next-plain : (p q w : Cell) → Cell
 unfolding number-of six-cell
 next-plain p q w = after (six-cell rule-1 p q) w (number-of (six-cell rule-1 p q) (six-count p q) w)
 
 -- "if w is 26-line cell m, go to 26-line cell m+1. Else go to the next 6-line cell"
-abbrev pub long-or-plain : Cell → Cell → Cell → Option ℕ → Cell
+abbrev pub long-or-plain : (p q w : Cell) → Option ℕ → Cell
 long-or-plain p q w none = next-plain p q w
 long-or-plain p q w (some m) = cell-26 p q (m + 1)
 
 -- "if the byte is 0 and w is 26-line cell m, go to 26-line cell m+1. Else go to the next 6-line cell"
-unfoldable pub next-adaptive : Counts → List ℕ → Cell → Cell → Cell → Cell
+unfoldable pub next-adaptive : Counts → List ℕ → (p q w : Cell) → Cell
 unfolding number-of cell-26 next-plain
 next-adaptive n l p q w = cond (clear (byte-of n l w)) (long-or-plain p q w (number-of (cell-26 p q) (count-26 p q) w)) (next-plain p q w)
 
@@ -64,7 +64,7 @@ walk hit next q zero w = []
 walk hit next q (suc fuel) w = w ∷ cond (hit w || is-cell w q) [] (walk hit next q fuel (next w))
 
 -- what comes next: "The plain walk is the 6-line to its first solid cell."
-abbrev pub next-cell : Walker → Counts → List ℕ → Cell → Cell → Cell → Cell
+abbrev pub next-cell : Walker → Counts → List ℕ → (p q w : Cell) → Cell
 next-cell Plain n l p q w = next-plain p q w
 next-cell Adaptive n l p q w = next-adaptive n l p q w
 
