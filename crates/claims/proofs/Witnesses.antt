@@ -1,6 +1,6 @@
 -- The witnesses, by computation. Assumes nothing.
 use Prim.Native.Nat.{ℕ, zero, suc, _+_, _<_}
-use mathlib.Core.Path.{_≡_, refl, sym, ap, _∙_}
+use mathlib.Core.Path.{_≡_, refl, sym, ap, _∙_, subst}
 use mathlib.Core.Bool.{Bool, true, false, _&&_}
 use mathlib.Core.List.{List, [], _∷_}
 use native.Mathlib.Omega.{arith}
@@ -22,10 +22,16 @@ use Rattle.records.specs.Venues.{venue-version, venue-head, venue-check, venue-
 use Rattle.records.specs.Pairs.{signed, pair-version, pair-length, pair-check, pair-read}
 use Rattle.records.specs.Writing.{write-check}
 use Rattle.claims.specs.Example.{example-counts}
-use Rattle.claims.specs.Witnesses.{steps-there, OfLines, OfGrids, OfPoints, OfRecords}
+use Rattle.claims.specs.Witnesses.{steps-there, OfLines, OfGrids, OfPoints, OfRecords, OfPrograms}
 use Rattle.claims.specs.Records.{example-venue}
 use Rattle.claims.proofs.Lines.{one-place, entered}
 use Rattle.claims.proofs.Lists.{longest-list}
+use Rattle.claims.proofs.Program.{writes}
+use Rattle.claims.proofs.Starred.{example-writes}
+use Rattle.claims.specs.Program.{Runs, example-input}
+use Rattle.buffers.specs.Over.{over}
+use Rattle.texts.specs.Text.{decimal}
+use Rattle.grids.specs.declared.Completeness.the-variants as Completeness
 
 pub of-lines : OfLines
 unfolding six-line
@@ -107,4 +113,13 @@ of-records =
         record { says = refl; there = record { block = refl; offset = refl } },
       );
       written = record { says = refl; holds = refl };
+    }
+
+pub of-programs : OfPrograms
+unfolding decimal over
+of-programs =
+    record {
+      for-c = record { answer = Completeness.Yes; meets = of-grids .says-yes; flat = refl };
+      put = record { says = refl; holds = refl };
+      run = subst (Runs example-input) example-writes (writes example-input .some);
     }

@@ -1,5 +1,5 @@
--- Nothing is claimed of nothing: each premise of the claims is met, on a named input. So a premise that nobody can meet is refused here.
--- Assumes nothing.
+-- Nothing is claimed of nothing: each record that stands as a premise in the claims is met, on a named input. So a premise that nobody can meet is
+-- refused here. Assumes nothing.
 use Prim.Native.Nat.{ℕ, _+_}
 use mathlib.Core.Path.{_≡_}
 use mathlib.Core.Bool.{true}
@@ -36,6 +36,9 @@ use Rattle.records.specs.Heads.{announced}
 use Rattle.records.specs.Venues.{ReadsVenue, GivesCells}
 use Rattle.records.specs.Pairs.{ReadsPair}
 use Rattle.records.specs.Writing.{WritesVenue}
+use Rattle.texts.specs.Text.{decimal, Puts}
+use Rattle.oatmarten.specs.GridCalls.{FlatCompletes}
+use Rattle.claims.specs.Program.{Runs, example-input, example-output}
 use Rattle.claims.specs.Example.{counts, at, example-counts, example-cells, marked-cells}
 use Rattle.claims.specs.Lists.{lowest, highest, room}
 use Rattle.claims.specs.Points.{Finite, InItsCell, cube, metres, tenths, placement, point}
@@ -95,3 +98,9 @@ pub record OfRecords : Type 0 where
   pub pair : ReadsPair example-pair (PairRead.Read (record { p = at 0 0 0; q = at 3 1 0 }))
   pub cells : (bytes : RefT (List ℕ)) → bytes .now ≡ example-venue → (part : RefT (List ℕ)) × GivesCells bytes part
   pub written : WritesVenue example-counts example-cells example-room (Wrote 19) (example-venue ++ 99 ∷ [])
+
+-- a call for C, a text line, and a run of the program
+pub record OfPrograms : Type 0 where
+  pub for-c : FlatCompletes example-counts marked-cells (record { said = record { refusal = 0; end = 0; axis = 0 }; yes = 1 })
+  pub put : Puts (decimal 7) 0 (99 ∷ []) 1 (55 ∷ [])
+  pub run : Runs example-input example-output
