@@ -1,12 +1,13 @@
 -- The three demands, from the claims. Assumes nothing.
 use Rattle.claims.specs.Headline.{TakesAnything, AreThePapers, TellOneStory}
 use Rattle.lines.specs.Preference.{rule-1}
+use Rattle.lines.specs.Lines.{differences}
 use Rattle.claims.proofs.Ties.{asks-nothing, promised}
 use Rattle.claims.proofs.ExportTies.{exports-promised, exports-ask-nothing}
 use Rattle.claims.proofs.Refused.{lines-told, grids-told, points-told, records-told}
 use Rattle.claims.proofs.Exports.{exports-once, refused-untouched}
 use Rattle.claims.proofs.Lists.{listed-once}
-use Rattle.claims.proofs.Lines.{six-line-holds, each-cell-touched, no-cell-missing, line-26-holds}
+use Rattle.claims.proofs.Lines.{one-place, six-line-holds, each-cell-touched, no-cell-missing, line-26-holds}
 use Rattle.claims.proofs.Grids as grids
 use Rattle.claims.proofs.Points as points
 use Rattle.claims.proofs.Records as records
@@ -34,6 +35,7 @@ takes-anything =
 pub are-the-papers : AreThePapers
 are-the-papers =
     record {
+      order = λ p q. one-place rule-1 (differences p q);
       six = six-line-holds rule-1;
       touched = λ p q. each-cell-touched rule-1 p q .touched;
       none-missing = λ p q. no-cell-missing rule-1 p q .found;

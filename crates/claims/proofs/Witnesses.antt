@@ -23,7 +23,8 @@ use Rattle.records.specs.Pairs.{signed, pair-version, pair-length, pair-check, 
 use Rattle.records.specs.Writing.{write-check}
 use Rattle.claims.specs.Example.{example-counts}
 use Rattle.claims.specs.Witnesses.{steps-there, OfLines, OfGrids, OfPoints, OfRecords, OfPrograms}
-use Rattle.claims.specs.Records.{example-venue}
+use Rattle.claims.specs.Records.{example-venue, example-pair}
+use Rattle.claims.proofs.Records.{accepted}
 use Rattle.claims.proofs.Lines.{one-place, entered}
 use Rattle.claims.proofs.Lists.{longest-list}
 use Rattle.claims.proofs.Program.{writes}
@@ -53,6 +54,8 @@ pub of-grids : OfGrids
 unfolding shape marked complete completeness layer-part layer first-hit
 of-grids =
     record {
+      corner = record { by-one = λ a. elim a [ X ↦ omega arith | Y ↦ omega arith | Z ↦ omega arith ]; differing = omega arith; within = omega arith };
+      number = record { says = refl };
       shaped = record { says = refl };
       one-short = record { says = refl };
       marked-there = record { says = refl; holds = refl };
@@ -107,6 +110,8 @@ of-records =
       bytes = record { byte = bytes-of example-venue refl };
       exact = refl;
       venue = record { says = refl };
+      right = accepted example-venue .venue _ .0 (record { says = refl });
+      right-pair = accepted example-pair .pair _ .0 (record { says = refl });
       pair = record { says = refl };
       cells = λ bytes e. (
         record { ptr = (bytes .ptr .0, bytes .ptr .1 + start-of (venue-read (bytes .now))); name = 0; now = venue-cells (bytes .now) },

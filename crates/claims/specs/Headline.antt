@@ -34,7 +34,7 @@ use Rattle.claims.specs.ExportTies.{ExportsAskNothing, ExportsPromised}
 use Rattle.claims.specs.Refused.{LinesTold, GridsTold, PointsTold, RecordsTold}
 use Rattle.claims.specs.Exports.{ExportsOnce, RefusedUntouched}
 use Rattle.claims.specs.Lists.{ListedOnce}
-use Rattle.claims.specs.Lines.{SixLine, TwentySixLine}
+use Rattle.claims.specs.Lines.{OnePlace, SixLine, TwentySixLine}
 use Rattle.claims.specs.Grids as grids
 use Rattle.claims.specs.Points as points
 use Rattle.claims.specs.Records as records
@@ -59,9 +59,12 @@ pub record TakesAnything : Type 1 where
   pub record-refusals : RecordsTold
   pub for-c : ExportsAskNothing × ExportsPromised × ExportsOnce × RefusedUntouched
 
--- 2. The lines and walks are the paper's, made exact: cells in the order of their crossings, from P to Q; each touched by the segment, and no cell
--- missing whose inside the segment enters; the plain walk is the 6-line to its first solid cell. A venue written and read back is the same venue.
+-- 2. The lines are the paper's, made exact: at each place of the 6-line every crossing made comes before every one not made, ties by rule 1, and no
+-- other place has that; its cells go from P to Q, each touched by the segment, and no cell is missing whose inside the segment enters. The plain
+-- walk is the 6-line to its first solid cell; the adaptive one is defined in `walks` (`next-adaptive`), and 3 says what it finds. A venue written
+-- and read back is the same venue.
 pub record AreThePapers : Type 0 where
+  pub order : (p q : Cell) → OnePlace rule-1 (differences p q)
   pub six : (p q : Cell) → SixLine rule-1 p q
   pub touched : (p q : Cell) (n : ℕ) → n ≤ total (differences p q) → (k : ℕ) × (d : ℕ) × Share k d × InClosed p q k d (six-cell rule-1 p q n)
   pub none-missing : (p q : Cell) (k d : ℕ) (c : Cell) → Share k d → InOpen p q k d c → (n : ℕ) × (n ≤ total (differences p q)) × (six-cell rule-1 p q n ≡ c)

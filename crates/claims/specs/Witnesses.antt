@@ -10,6 +10,8 @@ use denote.Ref.{RefT}
 use Rattle.buffers.specs.Numbers.{AllBytes}
 use Rattle.cells.specs.declared.Refusal.the-variants.{Bytes, Room}
 use Rattle.cells.specs.declared.Verdict.the-variants as Verdict
+use Rattle.cells.specs.Refusals.{NumberOf}
+use Rattle.cells.specs.Touching.{Touches}
 use Rattle.lines.specs.Steps.{Steps}
 use Rattle.lines.specs.Crossings.{InOrder, LastMade, next, place}
 use Rattle.lines.specs.Preference.{rule-1}
@@ -42,7 +44,7 @@ use Rattle.claims.specs.Program.{Runs, example-input, example-output}
 use Rattle.claims.specs.Example.{counts, at, example-counts, example-cells, marked-cells}
 use Rattle.claims.specs.Lists.{lowest, highest, room}
 use Rattle.claims.specs.Points.{Finite, InItsCell, cube, metres, tenths, placement, point}
-use Rattle.claims.specs.Records.{example-venue, example-pair, example-room}
+use Rattle.claims.specs.Records.{Right, RightPair, example-venue, example-pair, example-room}
 use Rattle.claims.specs.Starred.{halves}
 use Rattle.claims.specs.Story.{all-clear}
 
@@ -67,6 +69,9 @@ abbrev pub the-hit : Hit
 the-hit = record { cell = at 1 1 0; code = 2; place = record { num = 1; den = 2 }; reads = 3 }
 
 pub record OfGrids : Type 0 where
+  -- cells that touch by a corner, and the number of a refusal
+  pub corner : Touches 3 (at 0 0 0) (at 1 1 1)
+  pub number : NumberOf Bytes 3
   pub shaped : Shapes example-counts 8 Verdict.Fine
   pub one-short : Shapes example-counts 7 (Verdict.Refused Bytes)
   pub marked-there : Marks example-counts example-cells Verdict.Fine marked-cells
@@ -95,6 +100,8 @@ pub record OfRecords : Type 0 where
   pub bytes : AllBytes example-venue
   pub exact : length example-venue ≡ 4 + announced example-venue
   pub venue : ReadsVenue example-venue (Read (record { counts = example-counts; start = 11; long = 8 }))
+  pub right : Right example-venue (record { counts = example-counts; start = 11; long = 8 })
+  pub right-pair : RightPair example-pair (record { p = at 0 0 0; q = at 3 1 0 })
   pub pair : ReadsPair example-pair (PairRead.Read (record { p = at 0 0 0; q = at 3 1 0 }))
   pub cells : (bytes : RefT (List ℕ)) → bytes .now ≡ example-venue → (part : RefT (List ℕ)) × GivesCells bytes part
   pub written : WritesVenue example-counts example-cells example-room (Wrote 19) (example-venue ++ 99 ∷ [])
