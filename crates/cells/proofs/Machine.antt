@@ -24,7 +24,8 @@ held-is z f = toZ-ofZ w32 z f
 pub nat-held : (n : ℕ) → n < 2 ^ 31 → toZ w32 n ≡ pos n
 nat-held n h = toZ-pos w32 n h
 
-fits32 : (z : ℤ) → up z < 2 ^ 31 → dn z ≤ 2 ^ 31 → SFits w32 z
+-- a number's two parts say that it fits
+pub fits32 : (z : ℤ) → up z < 2 ^ 31 → dn z ≤ 2 ^ 31 → SFits w32 z
 fits32 (pos n) h k = record { sfits = h }
 fits32 (negsuc n) h k = record { sfits = k }
 

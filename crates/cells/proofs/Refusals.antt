@@ -3,6 +3,7 @@ use Prim.Native.Nat.{ℕ}
 use mathlib.Core.Path.{_≡_, refl, sym, ap, _∙_}
 use mathlib.Core.Bool.{Bool, cond}
 use mathlib.Core.Logic.{_⊎_, inl, inr}
+use mathlib.Core.List.{List, [], _∷_}
 use mathlib.Core.Option.{Option, none, some, Option·map, Option·some-injective}
 use lib.Dec.{eqb}
 use Rattle.cells.specs.declared.Axis.{Axis}
@@ -19,27 +20,30 @@ both f none a = none
 both f (some e) none = none
 both f (some e) (some a) = some (f e a)
 
+-- what has the number k in a list, if one has it
+unfoldable pub numbered-of : {A : Type 0} → ℕ → List (ℕ × Option A) → Option A
+numbered-of k [] = none
+numbered-of k (p ∷ l) = cond (eqb k (p .0)) (p .1) (numbered-of k l)
+
 -- the refusal that is meant, if one is
 pub untold : Told → Option Refusal
 untold t =
-    by 1 (both Limit (t .end) (t .axis))
-    (by 2 (Option·map Count (t .axis))
-    (by 3 (some Bytes)
-    (by 4 (some Layer)
-    (by 5 (both OffGrid (t .end) (t .axis))
-    (by 6 (some Room)
-    (by 7 (Option·map Placement (t .part))
-    (by 8 (both NotFinite (t .end) (t .axis))
-    (by 9 (both OffSurvey (t .end) (t .axis))
-    (by 10 (some Record)
-    (by 11 (some Version)
-    none))))))))))
-  where
-    by : ℕ → Option Refusal → Option Refusal → Option Refusal
-    by n this other = cond (eqb (t .number) n) this other
+    numbered-of (t .number)
+    ((1, both Limit (t .end) (t .axis))
+    ∷ (2, Option·map Count (t .axis))
+    ∷ (3, some Bytes)
+    ∷ (4, some Layer)
+    ∷ (5, both OffGrid (t .end) (t .axis))
+    ∷ (6, some Room)
+    ∷ (7, Option·map Placement (t .part))
+    ∷ (8, both NotFinite (t .end) (t .axis))
+    ∷ (9, both OffSurvey (t .end) (t .axis))
+    ∷ (10, some Record)
+    ∷ (11, some Version)
+    ∷ [])
 
 pub told-back : (r : Refusal) → untold (told r) ≡ some r
-unfolding untold
+unfolding untold numbered-of
 told-back (Limit e a) = refl
 told-back (Count a) = refl
 told-back Bytes = refl

@@ -20,7 +20,7 @@ use Rattle.cells.specs.declared.Refusal.the-variants.{Limit, Count, Bytes, Laye
 use Rattle.cells.specs.declared.Verdict.{Verdict}
 use Rattle.cells.specs.declared.Verdict.the-variants as Verdict
 use Rattle.cells.specs.Refusals.{Told, told, told-verdict}
-use Rattle.cells.proofs.Refusals.{untold, told-back, tells-apart}
+use Rattle.cells.proofs.Refusals.{numbered-of, untold, told-back, tells-apart}
 use Rattle.lists.specs.declared.Listed.{Listed}
 use Rattle.lists.specs.declared.Listed.the-variants as Listed
 use Rattle.lists.specs.Lists.{told-listed}
@@ -88,19 +88,14 @@ in-table (OffSurvey e a) = (omega arith, omega arith)
 in-table Record = (omega arith, omega arith)
 in-table Version = (omega arith, omega arith)
 
--- the one that has the number k, if one has it
-numbered-of : {A : Type 0} → ℕ → List (ℕ × A) → Option A
-numbered-of k [] = none
-numbered-of k (p ∷ l) = cond (eqb k (p .0)) (some (p .1)) (numbered-of k l)
-
 abbrev end-of : ℕ → Option End
-end-of k = numbered-of k ((1, P) ∷ (2, Q) ∷ [])
+end-of k = numbered-of k ((1, some P) ∷ (2, some Q) ∷ [])
 
 abbrev axis-of : ℕ → Option Axis
-axis-of k = numbered-of k ((1, X) ∷ (2, Y) ∷ (3, Z) ∷ [])
+axis-of k = numbered-of k ((1, some X) ∷ (2, some Y) ∷ (3, some Z) ∷ [])
 
 abbrev part-of : ℕ → Option Part
-part-of k = numbered-of k ((1, OriginX) ∷ (2, OriginY) ∷ (3, OriginZ) ∷ (4, Edge) ∷ [])
+part-of k = numbered-of k ((1, some OriginX) ∷ (2, some OriginY) ∷ (3, some OriginZ) ∷ (4, some Edge) ∷ [])
 
 end-back : (e : End) → end-of (end-number e) ≡ some e
 unfolding numbered-of

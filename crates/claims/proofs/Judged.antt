@@ -37,7 +37,8 @@ use Rattle.records.specs.Heads.{whole-check}
 use Rattle.records.specs.Venues.{venue-version, venue-head, venue-check}
 use Rattle.records.specs.Pairs.{pair-version, pair-length, pair-check}
 use Rattle.records.specs.Writing.{write-check}
-use Rattle.claims.specs.Refused.{limit-tests, line-tests, count-tests, shape-tests, layer-tests, grid-tests, walk-tests, placement-tests, value-tests, point-tests, whole-tests, version-test, counts-in, venue-tests, pair-tests, write-tests}
+use Rattle.claims.specs.Refused.{limit-tests, line-tests, count-tests, shape-tests, layer-tests, grid-tests, walk-tests, placement-tests}
+use Rattle.claims.specs.Refused.{value-tests, point-tests, whole-tests, version-test, counts-in, venue-tests, pair-tests, write-tests}
 
 -- ---- line lists
 

@@ -14,7 +14,8 @@ use Rattle.lines.proofs.Steps.{stepped-bump}
 use Rattle.lines.proofs.Fractions.{place-in-order, in-order-is-place, place-total, place-suc, entered-by-last, last-made-one, ahead}
 use Rattle.lines.proofs.Centres.{centres-good, upto-26}
 use Rattle.lines.proofs.Signs.{sign-tells, figure-6-is-next, step-moves, stays-small, first-longest, second-longest}
-use Rattle.lines.proofs.Cells.{six-length, six-numbered, six-start, six-end, six-different, six-by-face, six-touched, six-misses-none, six-at-26, length-26, numbered-26, start-26, end-26, moves-by-one-26, longest-moves-26, skipped-touches, limited-difference}
+use Rattle.lines.proofs.Cells.{six-length, six-numbered, six-start, six-end, six-different, six-by-face, six-touched, six-misses-none, six-at-26}
+use Rattle.lines.proofs.Cells.{length-26, numbered-26, start-26, end-26, moves-by-one-26, longest-moves-26, skipped-touches, limited-difference}
 use Rattle.claims.specs.Lines.{OnePlace, SixLine, Touched, NoneMissing, TwentySixLine, Skipped, Signs, SmallValues, Entered, Moves, LongStep}
 
 pub one-place : (r : Preference) (D : Steps) → OnePlace r D

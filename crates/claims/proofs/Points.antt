@@ -29,7 +29,8 @@ use Rattle.grids.specs.Inside.{Counted}
 use Rattle.grids.proofs.Shapes.{counted}
 use Rattle.survey.proofs.Survey.{placed, point-fine}
 use Rattle.survey.proofs.Lookups.{cell-given, cell-found, look-given}
-use Rattle.claims.specs.Points.{OneAnswer, Coordinate, OnlyOne, InItsCell, Finite, TheCell, Outside, Exact, Shares, Refuted, Every, table, cube, placement, metres, tenths, point, cell-is}
+use Rattle.claims.specs.Points.{OneAnswer, Coordinate, OnlyOne, InItsCell, Finite, TheCell, Outside, Exact, Shares}
+use Rattle.claims.specs.Points.{Refuted, Every, table, cube, placement, metres, tenths, point, cell-is}
 
 pub one-answer : (n : Counts) (at : Placement) (p : Point) → OneAnswer n at p
 one-answer n at p = record { alone = λ r s e f. e .says ∙ sym (f .says) }

@@ -46,9 +46,11 @@ use Rattle.records.specs.Pairs.{pair-check, pair-read, pair-length, pair-in}
 use Rattle.program.specs.declared.Next.{Next}
 use Rattle.program.specs.declared.Next.the-variants.{On, Over}
 use Rattle.program.specs.declared.Step.{Step}
-use Rattle.program.specs.Program.{Said, venue-most, pair-most, beyond, venue-said, pair-said, then-on, pairs, after-venue, output, frame, frame-length, after-frame, Says, text-room, venue-refused, said-of-venue, after-refusal, answers, walk-lines, said-of-walks, after-record}
+use Rattle.program.specs.Program.{Said, venue-most, pair-most, beyond, venue-said, pair-said, then-on, pairs, after-venue, output, frame, frame-length}
+use Rattle.program.specs.Program.{after-frame, Says, text-room, venue-refused, said-of-venue, after-refusal, answers, walk-lines, said-of-walks, after-record}
 use Rattle.program.proofs.Frames.{venue-framed, venue-on, venue-taken, read-framed, cells-framed, pair-framed, pair-on, after-same, less-left, beyond-is}
-use Rattle.claims.specs.Program.{Pairs, last, next, Runs, ends, begins, Writes, OneStep, example-input, Silent, GoesOn, Begins, Walked, AllWalked, going-on, FiveOrLines}
+use Rattle.claims.specs.Program.{Pairs, last, next, Runs, ends, begins, Writes, OneStep, example-input}
+use Rattle.claims.specs.Program.{Silent, GoesOn, Begins, Walked, AllWalked, going-on, FiveOrLines}
 use Rattle.texts.specs.Text.{pair-refused-line}
 use Rattle.claims.proofs.Starred.{example-writes}
 use denote.Ref.{RefT}

@@ -59,7 +59,8 @@ use Rattle.records.specs.Writing.{record-length, told-written}
 use Rattle.claims.specs.Refused.{line-tests, LinesTold, layer-tests, GridsTold, cell-tests, sight-tests, PointsTold, venue-tests, RecordsTold}
 use Rattle.claims.proofs.Lines.{six-line-holds, line-26-holds}
 use Rattle.claims.proofs.Records.{the-part}
-use Rattle.claims.proofs.Judged.{line-judged, counts-judged, shape-judged, layer-judged, walk-judged, placement-judged, point-judged, venue-judged, pair-judged, write-judged}
+use Rattle.claims.proofs.Judged.{line-judged, counts-judged, shape-judged, layer-judged, walk-judged, placement-judged}
+use Rattle.claims.proofs.Judged.{point-judged, venue-judged, pair-judged, write-judged}
 
 -- ---- line lists
 

@@ -4,10 +4,10 @@ use mathlib.Core.Bool.{Bool, true, false, _||_}
 use Prim.Native.Nat.{ℕ, _^_, _≤_, _<_}
 use native.Mathlib.Omega.{arith}
 use lib.Dec.{T}
-use lib.IntN.{ℤ, pos, natAbs}
+use lib.IntN.{ℤ, pos, negsuc, natAbs, _-ℤ_}
 use lib.Signed.{ltZ, leZ, nonNeg}
 use mir.Syntax.{w32}
-use mir.Val.{Fits}
+use mir.Val.{Fits, SFits}
 use Rattle.cells.specs.declared.Axis.{Axis}
 use Rattle.cells.specs.declared.Axis.the-variants.{X, Y, Z}
 use Rattle.cells.specs.declared.End.{End}
@@ -19,16 +19,34 @@ use Rattle.cells.specs.declared.Verdict.the-variants.{Fine}
 use Rattle.cells.specs.Checks.{refuse-when}
 use Rattle.cells.specs.Touching.{on}
 use Rattle.cells.proofs.Checks.{fine-first, fine-rest, passed}
-use Rattle.cells.proofs.Signed.{up, dn, same-number, one-sided, abs-is, ltZ-false, leZ-false, le-ltZ, lt-leZ}
-use Rattle.cells.proofs.Machine.{held}
+use Rattle.cells.proofs.Signed.{up, dn, same-number, one-sided, diff-is, abs-is, ltZ-false, leZ-true, leZ-false, le-ltZ, le-leZ, lt-leZ}
+use Rattle.cells.proofs.Machine.{held, fits32}
 use Rattle.cells.proofs.Held.{held-nat, cast-32}
 use Rattle.grids.specs.Grid.{shape, index, cell-at, byte-index}
-use Rattle.grids.specs.Inside.{count-on, off-axis, InGrid, grid-check, walk-check, Shaped}
+use Rattle.grids.specs.Inside.{count-on, off-axis, InGrid, grid-check, walk-check, Good, Shaped}
 use Rattle.grids.proofs.Places.{cell-at-index, index-below}
 
 or-false : (s t : Bool) → (s || t) ≡ false → (s ≡ false) × (t ≡ false)
 or-false true t h = (h, absurd (let z : _≡_ {A = ℕ} 0 1 = cc in omega arith))
 or-false false t h = (refl, h)
+
+-- ---- the test of a coordinate that is not below 0 by what is left of it without the count
+
+pub rest-fits : (v : ℤ) (count : ℕ) → SFits w32 v → T (nonNeg v) → Good count → SFits w32 (v -ℤ pos count)
+rest-fits (pos k) count f h g =
+    let d = diff-is (pos k) (pos count) in
+    let o = one-sided (pos k -ℤ pos count) in
+    fits32 (pos k -ℤ pos count) (omega (arith, f .sfits)) (omega (arith, g .most))
+rest-fits (negsuc k) count f h g = absurd h
+
+pub rest-test : (v : ℤ) (count : ℕ) → leZ (pos 0) (v -ℤ pos count) ≡ leZ (pos count) v
+rest-test v count = go (leZ (pos count) v) refl
+  where
+    go : (t : Bool) → leZ (pos count) v ≡ t → leZ (pos 0) (v -ℤ pos count) ≡ t
+    go true e = let d = diff-is v (pos count) in le-leZ (pos 0) (v -ℤ pos count) (omega (arith, leZ-true (pos count) v e))
+    go false e = let d = diff-is v (pos count) in lt-leZ (pos 0) (v -ℤ pos count) (omega (arith, leZ-false (pos count) v e))
+
+-- ---- inside
 
 -- a coordinate inside an axis, by parts
 pub inside-parts : (z : ℤ) (count : ℕ) → off-axis z count ≡ false → (dn z ≡ 0) × (up z < count)

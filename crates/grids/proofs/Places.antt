@@ -1,6 +1,7 @@
 -- The cell of an index and the index of a cell are inverse inside the grid. Assumes nothing.
 use Prim.Native.Nat.{ℕ, suc, _+_, _*_, _/_, _%_, _≤_, _<_}
-use native.Mathlib.Nat.{mul-comm, mul-le-mul-left, mod-lt, mod-eq-of-lt, div-eq-of-lt, add-mul-mod-self-left, add-mul-div-left, mod-add-div, div-div-eq-div-mul, div-lt-iff-lt-mul}
+use native.Mathlib.Nat.{mul-comm, mul-le-mul-left, mod-lt, mod-eq-of-lt, div-eq-of-lt, add-mul-mod-self-left}
+use native.Mathlib.Nat.{add-mul-div-left, mod-add-div, div-div-eq-div-mul, div-lt-iff-lt-mul}
 use native.Mathlib.Omega.{arith}
 use mathlib.Core.Path.{_≡_, sym, subst, ap, _∙_}
 use lib.IntN.{pos}

@@ -1,11 +1,12 @@
-// The grid: its shape, its layers, which ends lie in it (refusal 5), and the way between cell and byte. Its definitions (specs/) are those of near marks and their completeness too; their calls are in `marks`.
+// The grid: its shape, its layers, which ends lie in it (refusal 5), and the way between cell and byte. Its definitions (specs/) are those of near
+// marks and their completeness too; their calls are in `marks`.
 ghost use mathlib.Core.Path.{_≡_};
 ghost use Prim.Native.Nat.{_<_};
 ghost use lib.ListN.{length};
 ghost use Rattle.cells.specs.Checks.{_then_};
 ghost use Rattle.cells.specs.declared.End.the-variants.{P, Q};
 ghost use Rattle.grids.specs.Grid.{count-check, bad-count, Shapes, bad-layer, layer-check, GivesLayerPart, GivesLayer, byte-index, cell-at};
-ghost use Rattle.grids.specs.Inside.{off-axis, grid-check, walk-check, Good, Enclosed};
+ghost use Rattle.grids.specs.Inside.{off-axis, grid-check, walk-check, Good, Counted, Enclosed};
 use cells::Axis;
 use cells::Cell;
 use cells::Counts;
@@ -112,15 +113,17 @@ pub fn layer(n: Counts, cells: &[u8], z: i32) -> &[u8]
 
 // ---- ends in the grid
 
-// Whether a coordinate lies outside an axis.
+// Whether a coordinate lies outside an axis; in this form one comparison of the machine.
 fn off_axis(v: i32, count: u32) -> bool
+    requires { ⌜ Good count ⌝ }
     ensures { λ r. ⌜ r ≡ off-axis v count ⌝ }
 {
-    if v < 0 { true } else { count <= v as u32 }
+    if v < 0 { true } else { 0 <= v - count as i32 }
 }
 
 // An end inside the grid, or refusal 5 with the first axis on which it is not.
 fn check_end(e: End, n: Counts, c: Cell) -> Verdict
+    requires { ⌜ Counted n ⌝ }
     ensures { λ r. ⌜ r ≡ grid-check e n c ⌝ }
 {
     if off_axis(c.x, n.nx) {
@@ -137,6 +140,7 @@ fn check_end(e: End, n: Counts, c: Cell) -> Verdict
 
 // Both ends, P before Q.
 fn check_ends(n: Counts, p: Cell, q: Cell) -> Verdict
+    requires { ⌜ Counted n ⌝ }
     ensures { λ r. ⌜ r ≡ (grid-check P n p then grid-check Q n q) ⌝ }
 {
     match check_end(End::P, n, p) {

@@ -24,7 +24,8 @@ use Rattle.lines.specs.Lines.{differences, cell-of, centres, six-cell, s
 use Rattle.lines.specs.Segment.{Share, InClosed, InOpen}
 use Rattle.lines.proofs.Steps.{bump, total-bump, same-self, Cmp, here, other, cmp}
 use Rattle.lines.proofs.Merge.{Next, Rule}
-use Rattle.lines.proofs.Fractions.{Before, Good, InClosedSteps, InOpenSteps, laws, next-rule, place-start, place-total, place-suc, place-on, place-end, start-touched, entered-touched, none-left-out}
+use Rattle.lines.proofs.Fractions.{Before, Good, InClosedSteps, InOpenSteps, laws, next-rule, place-start, place-total}
+use Rattle.lines.proofs.Fractions.{place-suc, place-on, place-end, start-touched, entered-touched, none-left-out}
 use Rattle.lines.proofs.Centres.{centres-good, longest-most, is-place-26, skipped-26, moved-start, moved-end, moved-longest, moved-grows, moved-by-one}
 use Rattle.lines.proofs.Towards.{towards-start, towards-end, towards-apart, Passed, open-passed, passed-closed}
 

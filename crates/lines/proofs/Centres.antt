@@ -11,7 +11,8 @@ use Rattle.lines.specs.Preference.{Preference, rule-1}
 use Rattle.lines.specs.Lines.{centres, longest, moved-26, place-26}
 use Rattle.lines.proofs.Steps.{lt-or-ge, walk-start, walk-total, total-lt}
 use Rattle.lines.proofs.Merge.{Within, OnLine, fewer-is-below}
-use Rattle.lines.proofs.Fractions.{Before, Good, after, laws, place-on, place-start, place-total, on-is-place, after-iff, after-within, after-upto, upto-on}
+use Rattle.lines.proofs.Fractions.{Before, Good, after, laws, place-on, place-start, place-total}
+use Rattle.lines.proofs.Fractions.{on-is-place, after-iff, after-within, after-upto, upto-on}
 
 pub centres-good : (r : Preference) (D : Steps) → Good (centres r D)
 centres-good r D =

@@ -12,7 +12,8 @@ use borrow.Author.Tests.{ltb-true, ltb-false, lt-ltb, le-ltb, eqb-true, eq-eqb, 
 use Rattle.lines.specs.Steps.{Axis, X, Y, Z, Steps, total, same, after-steps}
 use Rattle.lines.specs.Crossings.{Course, upper, before, has-more, sooner, next, place, InOrder, LastMade, MadeUpto}
 use Rattle.lines.proofs.Steps.{Cmp, here, other, cmp, same-self, lt-or-ge, bump, walk-start, walk-suc, walk-total}
-use Rattle.lines.proofs.Merge.{Laws, Within, OnLine, Next, Rule, Leads, done, itself, wins, reached, walk-on, walk-end, step-on, choice-rule, Last, enters-by-last, last-unique}
+use Rattle.lines.proofs.Merge.{Laws, Within, OnLine, Next, Rule, Leads, done, itself, wins, reached, walk-on}
+use Rattle.lines.proofs.Merge.{walk-end, step-on, choice-rule, Last, enters-by-last, last-unique}
 
 -- 1 where rank r goes ahead of rank s in a tie, else 0
 abbrev pub ahead : ℕ → ℕ → ℕ

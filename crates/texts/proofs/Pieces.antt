@@ -7,7 +7,8 @@ use native.Mathlib.Omega.{arith}
 use lib.ListN.{length, drop, length-append}
 use Rattle.buffers.proofs.Over.{over-front, then-over}
 use Rattle.cells.specs.declared.Cell.{Cell}
-use Rattle.texts.specs.Text.{decimal, hit-word, clear-word, refused-word, venue-word, parted, ended, cell-fields, hit-line, clear-line, pair-refused-line, venue-refused-line, Puts}
+use Rattle.texts.specs.Text.{decimal, hit-word, clear-word, refused-word, venue-word, parted, ended, cell-fields}
+use Rattle.texts.specs.Text.{hit-line, clear-line, pair-refused-line, venue-refused-line, Puts}
 
 pub then-puts : {p q s : List ℕ} {at b c : ℕ} {m l : List ℕ} → b ≤ length s → Puts p at s b m → Puts q b m c l → Puts (p ++ q) at s c l
 then-puts {p} {q} {s} {at} fits first second =

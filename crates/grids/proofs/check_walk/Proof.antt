@@ -4,6 +4,7 @@ use borrow.Author.Needs.{needs}
 use Rattle.cells.specs.declared.End.the-variants.{P, Q}
 use Rattle.cells.specs.Checks.{_then_}
 use Rattle.grids.specs.Inside.{grid-check, walk-check}
+use Rattle.grids.proofs.Shapes.{counted, shape-counts}
 use Rattle.grids.proofs.check_walk.Statement.{statement}
 use Rattle.grids.proofs.check_walk.Tie as tie
 
@@ -17,7 +18,9 @@ enum-told : tie.Need-enum-told
 enum-told c = search needs
 
 check-ends-requires : tie.Need-check-ends-requires
-check-ends-requires c κs = search needs
+check-ends-requires c κs =
+    let a = c .before .before .before .args in
+    counted (a .n) (shape-counts (a .n) (a .bytes) (sym (c .before .before .shape .ensures .says) ∙ c .enum-told .given .1))
 
 returns : tie.Need-returns
 unfolding walk-check

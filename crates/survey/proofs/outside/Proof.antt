@@ -1,4 +1,5 @@
--- `survey::outside` meets its contract. The literal 0.0 is the whole number 0 and the conversion of the count is exact, so the two comparisons are the definition's.
+-- `survey::outside` meets its contract. The literal 0.0 is the whole number 0 and the conversion of the count is exact, so the two comparisons are
+-- the definition's.
 -- Assumes nothing.
 use lib.Ieee.{ofBits, ofInt}
 use borrow.Author.Needs.{needs}
