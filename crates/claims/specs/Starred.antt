@@ -50,9 +50,9 @@ abbrev pub halves : ℕ → Float
 halves k = div binary64 (as-f64 k) (as-f64 2)
 
 -- a row: the ends P and Q and the cells of the line between them; the ends, room for so many numbers, and what the 6-line's call answers; counts,
--- bytes, and the bytes marked; a walk, its grid
--- and ends, and what it finds; a venue's record, its counts and its cells; a pair's record, P and Q; the program's whole
--- input and output; or a grid, its placement, camera and ball, and the 64 bits of the share, the cell, code and reads of what is in the way
+-- bytes, and the bytes marked; a walk, its grid and ends, and what it finds; a venue's record, its counts and its cells; a pair's record, P and Q;
+-- the program's whole input and output; or a grid, its placement, camera and ball, and the 64 bits of the share, the cell, code and reads of what is
+-- in the way
 pub data Row : Type 0 where
   six : Cell → Cell → List Cell → Row
   twenty-six : Cell → Cell → List Cell → Row
