@@ -41,11 +41,6 @@ then-four Fine Fine w x = refl
 -- ---- an answer by a verdict
 
 module _ {A : Type 0} (refused : Refusal → A) where
-  -- two verdicts, one after the other, are one
-  pub by-both : (v w : Verdict) (a : A) → by-verdict refused (by-verdict refused a w) v ≡ by-verdict refused a (v then w)
-  by-both Fine w a = refl
-  by-both (Refused r) w a = refl
-
   -- where the answer is no refusal the verdict is fine
   pub by-fine : (v : Verdict) (a : A) {b : A} → ((r : Refusal) → ¬ (refused r ≡ b)) → by-verdict refused a v ≡ b → (v ≡ Fine) × (a ≡ b)
   by-fine Fine a other e = (refl, e)

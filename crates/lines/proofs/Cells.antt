@@ -27,7 +27,7 @@ use Rattle.lines.proofs.Merge.{Next, Rule}
 use Rattle.lines.proofs.Fractions.{Before, Good, InClosedSteps, InOpenSteps, laws, next-rule, place-start, place-total}
 use Rattle.lines.proofs.Fractions.{place-suc, place-on, place-end, start-touched, entered-touched, none-left-out}
 use Rattle.lines.proofs.Centres.{centres-good, longest-most, is-place-26, skipped-26, moved-start, moved-end, moved-longest, moved-grows, moved-by-one}
-use Rattle.lines.proofs.Towards.{towards-start, towards-end, towards-apart, Passed, open-passed, passed-closed}
+use Rattle.lines.proofs.Towards.{towards-start, towards-end, towards-apart, Passed, open-passed, passed-closed, centre-open}
 
 -- ---- cells by axis
 
@@ -143,7 +143,11 @@ module _ (r : Preference) (p q : Cell) where
         rw (six-is (suc n), place-suc C n) (closed-cell (upper C a (t a)) (2 * D a) (bump t a) (entered-touched C G t a wi on-line nx)),
       )
 
-  -- ---- law 3
+  -- ---- law 3, whose premise is met: the centre of P lies inside P
+
+  pub centre-inside : (d : ℕ) → 0 < d → InOpen p q 0 d p
+  centre-inside d some =
+      record { from = λ a. centre-open (on p a) (on q a) d some .0; upto = λ a. centre-open (on p a) (on q a) d some .1 }
 
   pub six-misses-none : (k d : ℕ) (c : Cell) → Share k d → InOpen p q k d c → (n : ℕ) × (n ≤ total D) × (six-cell r p q n ≡ c)
   six-misses-none k d c s h =

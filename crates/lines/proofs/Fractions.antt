@@ -235,10 +235,6 @@ module _ (c : Course) (good : Good c) where
         rest = λ a i real p. by-contra (suc (n * c .lower a)) (upper c a i * d) (λ k. omega (arith, after-iff n d a i some .1 (omega arith)));
       }
 
-  -- the crossings up to n over d lead to a place of the line
-  pub after-is-place : (n d : ℕ) → 0 < d → n ≤ d → (a : Axis) → after c n d a ≡ place c (total (after c n d)) a
-  after-is-place n d some le = upto-is-place n d (after c n d) some (after-within n d some le) (after-upto n d some le)
-
   -- no cell beyond Q has the point in its inside
   inside-within : (n d : ℕ) (t : Steps) → n ≤ d → InOpenSteps c n d t → Within (c .count) t
   inside-within n d t le h a =

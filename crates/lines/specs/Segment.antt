@@ -33,3 +33,4 @@ pub record InClosed (p q : Cell) (n d : ℕ) (c : Cell) : Type 0 where
 pub record InOpen (p q : Cell) (n d : ℕ) (c : Cell) : Type 0 where
   pub from : (a : Axis) → lower-face d (on c a) <ℤ point (on p a) (on q a) n d
   pub upto : (a : Axis) → point (on p a) (on q a) n d <ℤ upper-face d (on c a)
+  -- no more is asked

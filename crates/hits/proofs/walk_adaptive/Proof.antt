@@ -1,4 +1,4 @@
--- `hits::walk_adaptive` meets its contract. The invariant: the walk is at the cell of the 26-line from which t.left long steps are left; a turn leads
+-- `hits::walk_adaptive` meets its contract: the invariant: the walk is at the cell of the 26-line from which t.left long steps are left; a turn leads
 -- it to a later one, or stops it. The measure is how many are left. Assumes nothing.
 use mathlib.Core.Path.{_≡_, sym, ap, _∙_, subst}
 use Prim.Native.Nat.{_≤_}

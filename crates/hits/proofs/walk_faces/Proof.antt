@@ -1,4 +1,4 @@
--- `hits::walk_faces` meets its contract. The invariant: s is j faces further on, and no cell before it was solid; a turn crosses the next face.
+-- `hits::walk_faces` meets its contract: the invariant: s is j faces further on, and no cell before it was solid; a turn crosses the next face.
 -- The measure is how many faces are left. Assumes nothing.
 use mathlib.Core.Path.{_≡_, sym, ap, _∙_, subst}
 use Prim.Native.Nat.{_+_, _-_, _≤_}

@@ -1,4 +1,4 @@
--- `runs::clear_run` meets its contract. The invariant: the run is at the cell from which `left` long steps are left, over clear cells alone; at its
+-- `runs::clear_run` meets its contract: the invariant: the run is at the cell from which `left` long steps are left, over clear cells alone; at its
 -- start the byte is 0, so it makes a step. The measure is how many are left. Assumes nothing.
 use mathlib.Core.Path.{sym, _∙_, subst}
 use Prim.Native.Nat.{_-_}

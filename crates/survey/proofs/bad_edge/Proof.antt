@@ -1,4 +1,4 @@
--- `survey::bad_edge` meets its contract. The literal 0.0 is the whole number 0, so the two tests are the definition's.
+-- `survey::bad_edge` meets its contract: the literal 0.0 is the whole number 0, so the two tests are the definition's.
 -- Assumes nothing.
 use mathlib.Core.Path.{sym, _∙_}
 use lib.Ieee.{ofBits, ofInt}

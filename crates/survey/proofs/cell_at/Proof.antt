@@ -1,4 +1,4 @@
--- `survey::cell_at` meets its contract. Each number is below its count, at most 1,024, so that it fits an i32 and reads back as itself.
+-- `survey::cell_at` meets its contract: each number is below its count, at most 1,024, so that it fits an i32 and reads back as itself.
 -- Assumes nothing.
 use Prim.Native.Nat.{ℕ}
 use mathlib.Core.Path.{_≡_, ap, _∙_}

@@ -1,4 +1,4 @@
--- `survey::cell_of` meets its contract. Where counts and placement pass their tests, what is left is the lookup with P as the end.
+-- `survey::cell_of` meets its contract: where counts and placement pass their tests, what is left is the lookup with P as the end.
 -- Assumes nothing.
 use mathlib.Core.Path.{sym}
 use borrow.Author.Needs.{needs}

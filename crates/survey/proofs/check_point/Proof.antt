@@ -1,4 +1,4 @@
--- `survey::check_point` meets its contract. Each call is a step of the definition, in its order.
+-- `survey::check_point` meets its contract: each call is a step of the definition, in its order.
 -- Assumes nothing.
 use borrow.Author.Needs.{needs}
 use Rattle.survey.specs.Survey.{point-check}

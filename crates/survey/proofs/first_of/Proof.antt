@@ -1,4 +1,4 @@
--- `survey::first_of` meets its contract. The match is the definition's: what stands first is the answer unless it is fine.
+-- `survey::first_of` meets its contract: the match is the definition's: what stands first is the answer unless it is fine.
 -- Assumes nothing.
 use borrow.Author.Needs.{needs}
 use Rattle.survey.proofs.first_of.Statement.{statement}

@@ -1,4 +1,4 @@
--- `survey::halved` meets its contract. The middle lies strictly between the ends, and a q that is not below it is at least it, since q is a number.
+-- `survey::halved` meets its contract: the middle lies strictly between the ends, and a q that is not below it is at least it, since q is a number.
 -- Assumes nothing.
 use native.Mathlib.Omega.{arith}
 use borrow.Author.Needs.{needs}

@@ -1,4 +1,4 @@
--- `survey::is_finite` meets its contract. 1 / 0 is the upper infinity. A finite value lies strictly between the two infinities, and neither an
+-- `survey::is_finite` meets its contract: 1 / 0 is the upper infinity. A finite value lies strictly between the two infinities, and neither an
 -- infinity nor NaN does.
 -- Assumes nothing.
 use lib.Ieee.{ofBits, div, neg}

@@ -1,4 +1,4 @@
--- `survey::look_up` meets its contract. Where the tests pass, the quotients lie from 0 up to the counts, which is what the search asks for.
+-- `survey::look_up` meets its contract: where the tests pass, the quotients lie from 0 up to the counts, which is what the search asks for.
 -- Assumes nothing.
 use mathlib.Core.Path.{sym}
 use borrow.Author.Needs.{needs}

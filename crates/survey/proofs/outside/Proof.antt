@@ -1,4 +1,4 @@
--- `survey::outside` meets its contract. The literal 0.0 is the whole number 0 and the conversion of the count is exact, so the two comparisons are
+-- `survey::outside` meets its contract: the literal 0.0 is the whole number 0 and the conversion of the count is exact, so the two comparisons are
 -- the definition's.
 -- Assumes nothing.
 use lib.Ieee.{ofBits, ofInt}

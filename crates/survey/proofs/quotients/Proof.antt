@@ -1,4 +1,4 @@
--- `survey::quotients` meets its contract. Each field is the quotient of its axis.
+-- `survey::quotients` meets its contract: each field is the quotient of its axis.
 -- Assumes nothing.
 use borrow.Author.Needs.{needs}
 use Rattle.survey.proofs.quotients.Statement.{statement}

@@ -1,4 +1,4 @@
--- `survey::refuse_when` meets its contract. The branch is the definition's.
+-- `survey::refuse_when` meets its contract: the branch is the definition's.
 -- Assumes nothing.
 use borrow.Author.Needs.{needs}
 use Rattle.survey.proofs.refuse_when.Statement.{statement}

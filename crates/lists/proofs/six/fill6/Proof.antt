@@ -1,4 +1,4 @@
--- `lists::six::fill6` meets its contract. The invariant: m cells are stored, and s is the spot of place m; a turn stores one more and crosses the face that
+-- `lists::six::fill6` meets its contract: the invariant: m cells are stored, and s is the spot of place m; a turn stores one more and crosses the face that
 -- comes next. The measure is how many crossings are left. Assumes nothing.
 use mathlib.Core.Path.{refl, sym, ap, _∙_, subst}
 use Prim.Native.Nat.{_+_, _-_, _*_, _≤_}

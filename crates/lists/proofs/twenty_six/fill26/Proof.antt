@@ -1,4 +1,4 @@
--- `lists::twenty_six::fill26` meets its contract. The invariant: m cells are stored, and c are the coordinates of cell m; a turn stores one more and moves each
+-- `lists::twenty_six::fill26` meets its contract: the invariant: m cells are stored, and c are the coordinates of cell m; a turn stores one more and moves each
 -- coordinate where that is due. The measure is how many cells are left. Assumes nothing.
 use mathlib.Core.Path.{_≡_, sym, ap, _∙_, subst}
 use Prim.Native.Nat.{_+_, _-_}

@@ -1,4 +1,4 @@
--- `oatmarten::grid_calls::flat_part` meets its contract, case by case. Assumes nothing.
+-- `oatmarten::grid_calls::flat_part` meets its contract: in each case its fields are the definition's. Assumes nothing.
 use borrow.Author.Needs.{needs}
 use Rattle.oatmarten.proofs.grid_calls.flat_part.Statement.{statement}
 use Rattle.oatmarten.proofs.grid_calls.flat_part.Tie as tie

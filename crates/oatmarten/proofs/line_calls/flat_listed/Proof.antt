@@ -1,4 +1,4 @@
--- `oatmarten::line_calls::flat_listed` meets its contract, case by case. Assumes nothing.
+-- `oatmarten::line_calls::flat_listed` meets its contract: in each case its fields are the definition's. Assumes nothing.
 use borrow.Author.Needs.{needs}
 use Rattle.oatmarten.proofs.line_calls.flat_listed.Statement.{statement}
 use Rattle.oatmarten.proofs.line_calls.flat_listed.Tie as tie

@@ -1,4 +1,4 @@
--- `oatmarten::record_calls::flat_pair` meets its contract, case by case. Assumes nothing.
+-- `oatmarten::record_calls::flat_pair` meets its contract: in each case its fields are the definition's. Assumes nothing.
 use Rattle.cells.proofs.Machine.{held-is}
 use Rattle.oatmarten.specs.Refusals.{accepted}
 use borrow.Author.Needs.{needs}

@@ -1,4 +1,4 @@
--- `oatmarten::sight_calls::flat_sight` meets its contract, case by case. Assumes nothing.
+-- `oatmarten::sight_calls::flat_sight` meets its contract: in each case its fields are the definition's. Assumes nothing.
 use borrow.Author.Needs.{needs}
 use Rattle.oatmarten.proofs.sight_calls.flat_sight.Statement.{statement}
 use Rattle.oatmarten.proofs.sight_calls.flat_sight.Tie as tie

@@ -1,4 +1,4 @@
--- `oatmarten::walk_calls::flat_hit` meets its contract, case by case. Assumes nothing.
+-- `oatmarten::walk_calls::flat_hit` meets its contract: in each case its fields are the definition's. Assumes nothing.
 use borrow.Author.Needs.{needs}
 use Rattle.oatmarten.proofs.walk_calls.flat_hit.Statement.{statement}
 use Rattle.oatmarten.proofs.walk_calls.flat_hit.Tie as tie
