@@ -1,4 +1,4 @@
--- SCOPE, V and T: "Big-endian." Numbers among bytes, the largest byte first. Assumes nothing.
+-- SCOPE V1: numbers among bytes, the most significant byte first. Assumes nothing.
 use Prim.Native.Nat.{ℕ, _+_, _*_, _/_, _%_, _<_}
 use mathlib.Core.List.{List, [], _∷_, _++_}
 use lib.ListN.{getD}

@@ -23,15 +23,15 @@ pub record Told : Type 0 where
 abbrev pub alone : ℕ → Told
 alone n = record { number = n; end = none; axis = none; part = none }
 
--- "says which axis"
+-- with an axis, as SCOPE R2
 abbrev pub at-axis : ℕ → Axis → Told
 at-axis n a = record { number = n; end = none; axis = some a; part = none }
 
--- "says which of the four"
+-- with a part of a placement, as SCOPE R7
 abbrev pub at-part : ℕ → Part → Told
 at-part n p = record { number = n; end = none; axis = none; part = some p }
 
--- "says which end and which axis"
+-- with an end and an axis, as SCOPE R1, R5, R8, R9
 abbrev pub at-end : ℕ → End → Axis → Told
 at-end n e a = record { number = n; end = some e; axis = some a; part = none }
 

@@ -18,12 +18,12 @@ abbrev pub None : Tests → Type 0
 None (C gives u) = ¬ C
 None (a else b) = None a × None b
 
--- the first test that holds gives t: "and none of the tests before it"
+-- SCOPE O3: the first test that holds gives t
 abbrev pub First : Tests → Told → Type 0
 First (C gives u) t = C × (u ≡ t)
 First (a else b) t = First a t ⊎ (None a × First b t)
 
--- "x, y, z"
+-- SCOPE O3: a test of each axis, in their order
 abbrev pub each-axis : (Axis → Tests) → Tests
 each-axis test = test X else test Y else test Z
 

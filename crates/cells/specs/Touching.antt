@@ -1,5 +1,5 @@
--- Cells by axis, and when two of them touch (SCOPE, G and N): "two cells touch by face, edge or corner when they differ, and by at
--- most 1 on every axis". How near is a number k: 1 by face, 2 by face or edge, 3 by face, edge or corner. Assumes nothing.
+-- Cells by axis, and when two of them touch. How near is a number k: 1 by face, 2 by face or edge, 3 by face, edge or corner, as SCOPE G5 has it.
+-- Assumes nothing.
 use Prim.Native.Nat.{ℕ, _+_, _≤_, min}
 use mathlib.Core.Bool.{Bool, _&&_}
 use lib.Dec.{leb}

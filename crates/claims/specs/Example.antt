@@ -20,6 +20,6 @@ example-counts = counts 4 2 1
 abbrev pub example-cells : List ℕ
 example-cells = 0 ∷ 0 ∷ 0 ∷ 0 ∷ 0 ∷ 2 ∷ 0 ∷ 0 ∷ []
 
--- marked: "its bytes are 1 1 1 0 and 1 2 1 0"
+-- SCOPE T14: the same cells, marked
 abbrev pub marked-cells : List ℕ
 marked-cells = 1 ∷ 1 ∷ 1 ∷ 0 ∷ 1 ∷ 2 ∷ 1 ∷ 0 ∷ []

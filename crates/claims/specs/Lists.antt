@@ -32,8 +32,7 @@ pub record Longest (line : Cell → Cell → List Cell) (cells room : ℕ) : Typ
   pub reached : length (line lowest highest) ≡ cells
   pub takes : length (numbers (line lowest highest)) ≡ room
 
--- "The longest 6-line has 49,150 cells and takes 147,450 numbers"; the longest 26-line has 16,384 and takes 49,152. The header's OAT_LINE6_ROOM and
--- OAT_LINE26_ROOM.
+-- SCOPE A4, A5: the cells of a longest 6-line and 26-line, and the room for them: the header's OAT_LINE6_ROOM and OAT_LINE26_ROOM.
 pub record LongestLists : Type 0 where
   pub accepted : InLimit lowest × InLimit highest
   pub six : Longest (six-line rule-1) 49150 147450

@@ -87,11 +87,11 @@ plain-line = 49 ∷ 32 ∷ 80 ∷ 32 ∷ 104 ∷ 105 ∷ 116 ∷ 32 ∷ 49 ∷ 3
 abbrev pub example-output : List ℕ
 example-output = plain-line ++ (49 ∷ 32 ∷ 65 ∷ 32 ∷ 99 ∷ 108 ∷ 101 ∷ 97 ∷ 114 ∷ 32 ∷ 52 ∷ 10 ∷ [])
 
--- the same venue, marked: "its bytes are 1 1 1 0 and 1 2 1 0"
+-- SCOPE T14: the same venue, marked, and the same pair
 abbrev pub marked-input : List ℕ
 marked-input = (0 ∷ 0 ∷ 0 ∷ 15 ∷ 1 ∷ 0 ∷ 4 ∷ 0 ∷ 2 ∷ 0 ∷ 1 ∷ marked-cells) ++ example-pair
 
--- "and the A line is `1 A hit 1 1 0 2 3`"
+-- SCOPE T14: its whole output, with `1 A hit 1 1 0 2 3`
 abbrev pub marked-output : List ℕ
 marked-output = plain-line ++ (49 ∷ 32 ∷ 65 ∷ 32 ∷ 104 ∷ 105 ∷ 116 ∷ 32 ∷ 49 ∷ 32 ∷ 49 ∷ 32 ∷ 48 ∷ 32 ∷ 50 ∷ 32 ∷ 51 ∷ 10 ∷ [])
 

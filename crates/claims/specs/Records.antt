@@ -57,7 +57,7 @@ pub record Accepted (s : List ℕ) : Type 0 where
   pub venue : (v : Venue) → ReadsVenue s (VenueRead.Read v) ↔ Right s v
   pub pair : (e : Pair) → ReadsPair s (PairRead.Read e) ↔ RightPair s e
 
--- "3 if the length is not 7 + nx·ny·nz": of a whole record of version 1, long enough for its head, with counts that pass.
+-- SCOPE V6: 3 for a length that does not fit the counts, of a whole record of version 1, long enough for its head, with counts that pass.
 pub record LengthTested (s : List ℕ) : Type 0 where
   pub three : 4 + announced s ≤ length s → version-of s ≡ 1 → 7 ≤ announced s → count-check (counts-at s 5) ≡ Fine →
       (announced s ≡ 7 + size (counts-at s 5) → ⊥) → ReadsVenue s (VenueRead.Refused Bytes)

@@ -51,7 +51,7 @@ use Rattle.records.specs.Writing.{WritesVenue, told-written}
 
 -- ---- line lists
 
--- 1: "a line end outside -8,192 to 8,191"
+-- 1 (x, y, z), SCOPE R1: an end beyond the coordinate limit
 abbrev pub limit-tests : End → Cell → Tests
 limit-tests e c = each-axis λ a. ((on c a <ℤ negℤ (pos 8192)) ⊎ (pos 8191 <ℤ on c a)) gives at-end 1 e a
 
@@ -65,19 +65,19 @@ line-tests p q cells room = ends-tests p q else (room < 3 * cells) gives alone 6
 
 -- ---- grids
 
--- 2 (x, y, z): "a count outside 1 to 1,024"
+-- 2 (x, y, z), SCOPE R2: a count that no grid has
 abbrev pub count-tests : Counts → Tests
 count-tests n = each-axis λ a. ((count-on n a < 1) ⊎ (1024 < count-on n a)) gives at-axis 2 a
 
--- 2, then 3: "cell bytes not nx·ny·nz"
+-- 2, then 3, SCOPE R3: not as many bytes as cells
 abbrev pub shape-tests : Counts → ℕ → Tests
 shape-tests n bytes = count-tests n else (¬ (bytes ≡ n .nx * n .ny * n .nz)) gives alone 3
 
--- 2, 3, then 4: "layer z below 0 or not below nz"
+-- 2, 3, then 4, SCOPE R4: a z that no layer has
 abbrev pub layer-tests : (n : Counts) (bytes : ℕ) (z : ℤ) → Tests
 layer-tests n bytes z = shape-tests n bytes else ((z <ℤ pos 0) ⊎ (pos (n .nz) ≤ℤ z)) gives alone 4
 
--- 5 (x, y, z): "an end outside the grid"
+-- 5 (x, y, z), SCOPE R5: an end that is no cell of the grid
 abbrev pub grid-tests : End → Counts → Cell → Tests
 grid-tests e n c = each-axis λ a. ((on c a <ℤ pos 0) ⊎ (pos (count-on n a) ≤ℤ on c a)) gives at-end 5 e a
 
@@ -87,7 +87,7 @@ walk-tests n bytes p q = shape-tests n bytes else grid-tests P n p else grid-tes
 
 -- ---- metres
 
--- 7 (origin x, y, z, edge): "an origin value or edge not finite, or edge not above 0"
+-- 7 (origin x, y, z, edge), SCOPE R7: a placement that is none
 abbrev pub placement-tests : Placement → Tests
 placement-tests at =
     (finite (at .ox) ≡ false) gives at-part 7 OriginX else
@@ -95,7 +95,7 @@ placement-tests at =
     (finite (at .oz) ≡ false) gives at-part 7 OriginZ else
     ((finite (at .edge) ≡ false) ⊎ (lt (as-f64 0) (at .edge) ≡ false)) gives at-part 7 Edge
 
--- one surveyed value: 8, "not finite"; then 9, "a q below 0, or at or above the count"
+-- one surveyed value: 8, SCOPE R8; then 9, SCOPE R9 and S5
 abbrev pub value-tests : (e : End) (a : Axis) (count : ℕ) (value origin edge : Float) → Tests
 value-tests e a count value origin edge =
     let q : Float = div binary64 (sub binary64 value origin) edge in
@@ -119,14 +119,14 @@ sight-tests n bytes at camera ball = shape-tests n bytes else placement-tests at
 
 -- ---- records
 
--- 10: "fewer than four bytes, length 0, or fewer bytes than announced"
+-- 10, SCOPE V4: a record that is cut short, or has the length 0
 abbrev pub whole-tests : List ℕ → Tests
 whole-tests s =
     (length s < 4) gives alone 10 else
     (four-at s 0 ≡ 0) gives alone 10 else
     (length s < 4 + four-at s 0) gives alone 10
 
--- 11: "version byte not 1"
+-- 11, SCOPE V5: another version
 abbrev pub version-test : List ℕ → Tests
 version-test s = (¬ (getD s 4 0 ≡ 1)) gives alone 11
 
@@ -147,7 +147,7 @@ venue-tests s =
 abbrev pub pair-tests : List ℕ → Tests
 pair-tests s = whole-tests s else version-test s else (¬ (four-at s 0 ≡ 13)) gives alone 10
 
--- 2, 3, then 6: "fewer than 11 + nx·ny·nz bytes are lent"
+-- 2, 3, then 6, SCOPE V9: room too short for the record
 abbrev pub write-tests : (n : Counts) (bytes room : ℕ) → Tests
 write-tests n bytes room = shape-tests n bytes else (room < 11 + n .nx * n .ny * n .nz) gives alone 6
 

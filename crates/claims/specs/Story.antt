@@ -61,7 +61,7 @@ pub record Reads (n : Counts) (l : List ℕ) (p q : Cell) : Type 0 where
   pub plain : (reads : ℕ) → Finds Plain n l p q (FirstHit.Clear reads) → reads ≡ total (differences p q) + 1
   pub adaptive : (reads : ℕ) → Finds Adaptive n l p q (FirstHit.Clear reads) → (longest (differences p q) + 1 ≤ reads) × (reads ≤ total (differences p q) + 1)
 
--- 5. "The plain walk is the 6-line to its first solid cell": cell number s of the 6-line is solid and none before it; or none is at all.
+-- 5. What the plain walk finds (SCOPE W2): cell number s of the 6-line is solid and none before it; or none is at all.
 pub record FirstOf (n : Counts) (l : List ℕ) (p q : Cell) (h : Hit) (s : ℕ) : Type 0 where
   pub most : s ≤ total (differences p q)
   pub cell : h .cell ≡ six-cell rule-1 p q s

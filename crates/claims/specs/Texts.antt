@@ -15,7 +15,7 @@ abbrev pub value-after : ℕ → List ℕ → ℕ
 value-after n [] = n
 value-after n (b ∷ l) = value-after (10 * n + (b - 48)) l
 
--- "Numbers are decimal without leading zeros": the text says the number, in digits, and where there is more than one the first is not 0
+-- SCOPE T9: the text says the number, in digits, and where there is more than one the first is not 0
 pub record Decimal (n : ℕ) : Type 0 where
   pub says : value-after 0 (decimal n) ≡ n
   pub digits : (i : ℕ) → i < length (decimal n) → (48 ≤ getD (decimal n) i 0) × (getD (decimal n) i 0 ≤ 57)

@@ -1,5 +1,5 @@
--- "Two cells touch by face, edge or corner when they differ, and by at most 1 on every axis", over natural coordinates: a cell that is not
--- solid touches a solid one exactly when some cell of the grid at most 1 away on every axis is solid. Assumes nothing.
+-- SCOPE G5 over natural coordinates: a cell that is not solid touches a solid one exactly when some cell of the grid at most 1 away on every
+-- axis is solid. Assumes nothing.
 use Prim.Native.Nat.{ℕ, _+_, _*_, _-_, _/_, _%_, _≤_, _<_}
 use native.Mathlib.Omega.{arith}
 use mathlib.Core.Path.{_≡_, sym, subst, ap, _∙_}

@@ -20,7 +20,7 @@ use Rattle.cells.specs.Refusals.{Told, told}
 use Rattle.grids.specs.declared.LayerPart.{LayerPart}
 use Rattle.grids.specs.declared.LayerPart.the-variants as LayerPart
 
--- "Counts nx, ny, nz, each 1 to 1,024"
+-- SCOPE G1, R2: a count that no grid has
 abbrev pub bad-count : ℕ → Bool
 bad-count n = eqb n 0 || ltb 1024 n
 
@@ -62,7 +62,7 @@ byte-index n c = index n (natAbs (c .x)) (natAbs (c .y)) (natAbs (c .z))
 abbrev pub byte-of : Counts → List ℕ → Cell → ℕ
 byte-of n l c = getD l (byte-index n c) 0
 
--- "Byte 0 is clear, 1 is near, 2 to 255 solid"
+-- SCOPE G4: what a byte makes of its cell
 abbrev pub clear : ℕ → Bool
 clear b = eqb b 0
 
@@ -71,7 +71,7 @@ solid b = ltb 1 b
 
 -- ---- a layer
 
--- "layer z below 0 or not below nz"
+-- SCOPE R4: a z that no layer of the grid has
 abbrev pub bad-layer : Counts → ℤ → Bool
 bad-layer n z = ltZ z (pos 0) || leZ (pos (n .nz)) z
 

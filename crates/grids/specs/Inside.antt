@@ -1,4 +1,4 @@
--- SCOPE: what lies inside a grid, and refusal 5, "an end outside the grid". Assumes nothing.
+-- SCOPE G1, R5, O4: what lies inside a grid, and refusal 5, of an end that does not. Assumes nothing.
 use Prim.Native.Nat.{ℕ, _*_, _≤_}
 use mathlib.Core.Path.{_≡_}
 use mathlib.Core.Bool.{Bool, false, _||_}

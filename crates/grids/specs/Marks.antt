@@ -27,7 +27,7 @@ unfoldable pub touches-solid : ℕ → Counts → List ℕ → Cell → Bool
 unfolding any
 touches-solid k n l c = any (λ j. solid (getD l j 0) && touching k c (cell-at n j)) (length l)
 
--- "Marking leaves each solid byte as found. Any other byte becomes 1 if its cell touches a solid one inside the grid, else 0."
+-- SCOPE N1, N2: what marking makes of byte number i
 unfoldable pub marked-byte : ℕ → Counts → List ℕ → ℕ → ℕ
 unfolding touches-solid
 marked-byte k n l i = cond (solid (getD l i 0)) (getD l i 0) (cond (touches-solid k n l (cell-at n i)) 1 0)
@@ -36,7 +36,7 @@ unfoldable pub marked : ℕ → Counts → List ℕ → List ℕ
 unfolding marked-byte
 marked k n l = tabulate (marked-byte k n l) (length l)
 
--- "The marks are complete exactly when no clear cell touches a solid one"
+-- SCOPE N3: whether the marks are complete
 unfoldable pub complete : ℕ → Counts → List ℕ → Bool
 unfolding any touches-solid
 complete k n l = not (any (λ i. clear (getD l i 0) && touches-solid k n l (cell-at n i)) (length l))

@@ -44,7 +44,7 @@ pub struct Reach {
     pub left: u32,
 }
 
-// The one test of a cell: "byte 2 or more, hit".
+// The one test of a cell, SCOPE W3: whether its byte is solid.
 fn is_solid(byte: u8) -> bool
     ensures { λ r. ⌜ r ≡ solid byte ⌝ }
 {

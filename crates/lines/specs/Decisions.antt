@@ -1,4 +1,4 @@
--- SCOPE: the three decision values of figure 6, "with i, j, k steps taken", the tests of their signs and the sums that move them.
+-- SCOPE L6, L7: the three decision values of figure 6 at a place of the line, the tests of their signs and the sums that move them.
 -- Assumes nothing.
 use Prim.Native.Nat.{ℕ, _+_, _*_}
 use mathlib.Core.Bool.{cond}
@@ -31,7 +31,7 @@ by-signs v =
     (cond (ltZ (v .xz) (pos 0)) X Z)
     (cond (ltZ (v .zy) (pos 0)) Z Y)
 
--- figure 6: "A2 = 2A; B2 = 2B; C2 = 2C"
+-- figure 6: `A2 = 2A; B2 = 2B; C2 = 2C`
 abbrev pub doubled : Steps → Doubled
 doubled D = record { a2 = pos (2 * D X); b2 = pos (2 * D Y); c2 = pos (2 * D Z) }
 

@@ -13,19 +13,19 @@ use Rattle.lines.specs.Crossings.{Course, place}
 use Rattle.lines.specs.Preference.{Preference}
 use Rattle.lines.specs.Towards.{towards}
 
--- "A, B, C are the absolute differences in x, y, z"
+-- SCOPE L1: A, B and C, by axis
 abbrev pub differences : Cell → Cell → Steps
 differences p q a = apart (on p a) (on q a)
 
--- "on each axis the line moves towards Q": the cell of a place
+-- SCOPE L1: the cell of a place, on each axis so many cells from P on the way to Q
 abbrev pub cell-of : Cell → Cell → Steps → Cell
 cell-of p q t = record { x = towards (p .x) (q .x) (t X); y = towards (p .y) (q .y) (t Y); z = towards (p .z) (q .z) (t Z) }
 
--- "Face i of x (i from 1 to A) is crossed at the fraction (2i-1)/(2A); likewise y with B, z with C." Crossing i counts from 0: it is face i + 1.
+-- SCOPE L3: how many faces are crossed on each axis, and at which fractions. Crossing i counts from 0: it is face i + 1.
 abbrev pub centres : Preference → Steps → Course
 centres r D = record { count = D; first = λ a. 1; step = 2; lower = λ a. 2 * D a; rank = r .rank }
 
--- "Start at P; cross the A+B+C faces in order of their fractions, one cell each": cell number n
+-- SCOPE L4: cell number n of the 6-line, after the first n crossings
 unfoldable pub six-cell : Preference → Cell → Cell → ℕ → Cell
 unfolding place
 six-cell r p q n = cell-of p q (place (centres r (differences p q)) n)
@@ -34,11 +34,11 @@ unfoldable pub six-line : Preference → Cell → Cell → List Cell
 unfolding six-cell
 six-line r p q = tabulate (six-cell r p q) (total (differences p q) + 1)
 
--- "M is the largest of A, B, C"
+-- SCOPE L12: M, the longest of the differences
 abbrev pub longest : Steps → ℕ
 longest D = max (max (D X) (D Y)) (D Z)
 
--- cell number m has moved, on an axis with difference D, floor((2mD+M)/(2M)) cells; "for M = 0 it is P alone"
+-- SCOPE L12: cell number m has moved, on an axis with difference D, floor((2mD+M)/(2M)) cells; none where M is 0
 unfoldable pub moved-26 : (M D m : ℕ) → ℕ
 moved-26 zero D m = 0
 moved-26 (suc n) D m =

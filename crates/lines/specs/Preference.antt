@@ -9,7 +9,7 @@ pub record Preference : Type 0 where
   pub axis : ℕ → Axis
   pub ranked : (a : Axis) → axis (rank a) ≡ a
 
--- "Equal fractions: y first, then z, then x"
+-- SCOPE L5: the rank of each axis in a tie
 abbrev pub rule-1-rank : PerAxis
 rule-1-rank Y = 0
 rule-1-rank Z = 1

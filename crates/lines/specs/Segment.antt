@@ -1,6 +1,5 @@
--- SCOPE: "The segment joins the two cell centres; its points are those at n over d of the way, n and d whole, d above 0, 0 ≤ n ≤ d, so
--- every claim about it can be multiplied out to whole numbers." Coordinates are multiplied by 2d. A cell of the integer lattice reaches half a
--- cell from its centre to each side. Assumes nothing.
+-- SCOPE L2: the segment between the centres of two cells, by its points at whole shares n over d of the way. Coordinates are multiplied by 2d.
+-- A cell of the integer lattice reaches half a cell from its centre to each side. Assumes nothing.
 use Prim.Native.Nat.{ℕ, _*_, _≤_, _<_}
 use lib.IntN.{ℤ, pos, _+ℤ_, _-ℤ_, _*ℤ_}
 use lib.Signed.{_≤ℤ_, _<ℤ_}

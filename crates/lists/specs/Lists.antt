@@ -1,5 +1,5 @@
--- SCOPE: the line lists. "A line list writes three numbers a cell, in line order, at the front of the lent slice, and answers the number of
--- cells; the rest stays." Refusals: 1 (P before Q; x, y, z), then 6. Assumes nothing.
+-- SCOPE A2, A3, O3: the line lists, what they write into the lent slice and what they answer. Refusals: 1 (P before Q; x, y, z), then 6.
+-- Assumes nothing.
 use Prim.Native.Nat.{ℕ, _*_}
 use mathlib.Core.Path.{_≡_}
 use mathlib.Core.Bool.{not}
@@ -21,7 +21,7 @@ use Rattle.lines.specs.Lines.{six-line, line-26, in-limit}
 use Rattle.lists.specs.declared.Listed.{Listed}
 use Rattle.lists.specs.declared.Listed.the-variants as Listed
 
--- "a line end outside -8,192 to 8,191; says which end and which axis"
+-- SCOPE R1: an end beyond the coordinate limit (x, y, z)
 abbrev pub end-check : End → Cell → Verdict
 end-check e c =
     refuse-when (not (in-limit (c .x))) (Limit e X) then
@@ -31,7 +31,7 @@ end-check e c =
 abbrev pub ends-check : Cell → Cell → Verdict
 ends-check p q = end-check P p then end-check Q q
 
--- "Room is too small exactly when the slice holds fewer than three times the cells"
+-- SCOPE A3: after the ends, 6 where the slice is too short for the list
 abbrev pub list-check : Cell → Cell → ℕ → ℕ → Verdict
 list-check p q cells room = ends-check p q then refuse-when (ltb room (3 * cells)) Room
 

@@ -6,7 +6,7 @@ use lib.Dec.{ltb, leb, eqb}
 use Rattle.lines.specs.Steps.{Axis, X, Y, Z, Steps, total}
 use Rattle.walks.specs.declared.Place.{Place}
 
--- the upper number of the crossing last made, "2i-1"; 0 where there is none
+-- SCOPE L3: 2i-1, the upper number of the crossing last made, over face i; 0 where there is none
 abbrev pub numerator : ℕ → ℕ
 numerator i = 2 * i - 1
 
@@ -23,10 +23,10 @@ x-is-last D t =
 abbrev pub last-axis : Steps → Steps → Axis
 last-axis D t = cond (x-is-last D t) X (cond (behind (numerator (t Z)) (D Z) (numerator (t Y)) (D Y)) Z Y)
 
--- "2i-1 over 2D"
+-- SCOPE W5: the fraction of the crossing last made along an axis
 abbrev pub place-along : Steps → Steps → Axis → Place
 place-along D t a = record { num = numerator (t a); den = 2 * D a }
 
--- "0 over 1 if the cell is P, else 2i-1 over 2D of the crossing by which the 6-line enters that cell", from the steps t made
+-- SCOPE W5: the place of a hit, from the steps t made: 0 over 1 where there are none, else the fraction of the last crossing
 unfoldable pub entered : Steps → Steps → Place
 entered D t = cond (eqb (total t) 0) (record { num = 0; den = 1 }) (place-along D t (last-axis D t))

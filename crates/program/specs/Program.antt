@@ -36,43 +36,43 @@ pub record Said : Type 0 where
   pub text : List ℕ
   pub next : Next
 
--- "A venue length above 65,532", "a pair length above 255"
+-- SCOPE T2, T3: the greatest lengths of a venue and of a pair that the program reads
 abbrev pub venue-most : ℕ
 venue-most = 65532
 
 abbrev pub pair-most : ℕ
 pair-most = 255
 
--- "straight after the four bytes": they are there, and announce more than that
+-- SCOPE T2, T3: the four bytes of the length are there, and announce more than the most
 unfoldable pub beyond : ℕ → List ℕ → Bool
 beyond most s = cond (ltb (length s) length-field) false (ltb most (announced s))
 
 -- ---- the venue
 
--- "A refused venue prints `G refused N` and ends."
+-- SCOPE T4: a refused venue has one line, and nothing comes next
 abbrev pub venue-refused : Refusal → Said
 venue-refused r = record { text = venue-refused-line (told r .number); next = Over }
 
--- "K counting pairs from 1"
+-- SCOPE T5: after a venue that is read comes pair 1
 abbrev pub said-of-venue : VenueRead → Said
 said-of-venue (VenueRead.Read v) = record { text = []; next = On 1 }
 said-of-venue (VenueRead.Refused r) = venue-refused r
 
--- "A venue length above 65,532 is refused 6"
+-- SCOPE T2: 6 for a venue that is too long, before it is read
 unfoldable pub venue-said : List ℕ → Said
 venue-said s = cond (beyond venue-most s) (venue-refused Room) (said-of-venue (venue-read s))
 
 -- ---- a pair
 
--- "after 10 or 11 the program ends, after 5 it goes on"
+-- SCOPE T6: what comes after a refused pair, by the refusal's number
 abbrev pub after-refusal : (k number : ℕ) → Next
 after-refusal k number = cond (eqb number 10 || eqb number 11) Over (On (k + 1))
 
--- "A pair refused prints `K refused N`"
+-- SCOPE T5: the one line of a refused pair, and what comes next
 abbrev pub pair-refused : (k : ℕ) → Refusal → Said
 pair-refused k r = record { text = pair-refused-line k (told r .number); next = after-refusal k (told r .number) }
 
--- the line of one walk: "`hit x y z code reads` or `clear reads`"; none where it is refused, and no walk of a pair is (claim `FiveOrLines`)
+-- SCOPE T8: the line of one walk, a hit or clear; none where it is refused, and no walk of a pair is (claim `FiveOrLines`)
 unfoldable pub walk-line : (k letter : ℕ) → FirstHit → List ℕ
 walk-line k letter (FirstHit.Clear reads) = clear-line k letter reads
 walk-line k letter (FirstHit.Hit h) = hit-line k letter (h .cell) (h .code) (h .reads)
@@ -85,7 +85,7 @@ plain-letter = 80
 abbrev pub adaptive-letter : ℕ
 adaptive-letter = 65
 
--- "P (plain) or A (adaptive)": the letter of each walk and what it answers, in the order of the lines
+-- SCOPE T8: the letter of each walk and what it answers, in the order of the lines
 abbrev pub answers : Counts → List ℕ → Cell → Cell → List (ℕ × FirstHit)
 answers n cells p q = (plain-letter, first-hit Plain n cells p q) ∷ (adaptive-letter, first-hit Adaptive n cells p q) ∷ []
 
@@ -94,7 +94,7 @@ abbrev pub walk-lines : (k : ℕ) → List (ℕ × FirstHit) → List ℕ
 walk-lines k [] = []
 walk-lines k (a ∷ more) = walk-line k (a .0) (a .1) ++ walk-lines k more
 
--- refused, or "two lines a pair"
+-- SCOPE T5, T8: refused, or a line for each walk
 abbrev pub said-of-walks : (k : ℕ) → Verdict → List (ℕ × FirstHit) → Said
 said-of-walks k (Refused r) found = pair-refused k r
 said-of-walks k Fine found = record { text = walk-lines k found; next = On (k + 1) }
@@ -104,7 +104,7 @@ module _ (n : Counts) (cells : List ℕ) (k : ℕ) where
   said-of-pair (PairRead.Refused r) = pair-refused k r
   said-of-pair (PairRead.Read e) = said-of-walks k (walk-check n (length cells) (e .p) (e .q)) (answers n cells (e .p) (e .q))
 
-  -- "Input that ends where a pair would begin ends it silently"; "a pair length above 255 is refused 10"
+  -- SCOPE T7, T3: nothing where no byte is left; 10 for a pair that is too long, before it is read
   unfoldable pub pair-said : List ℕ → Said
   unfolding walk-line
   pair-said s =
@@ -135,7 +135,7 @@ abbrev pub after-venue : VenueRead → List ℕ → ℕ → List ℕ
 after-venue (VenueRead.Read v) s k = pairs (length s) (v .counts) (venue-cells s) k (after-record s)
 after-venue (VenueRead.Refused r) s k = []
 
--- "The program reads one venue record and then pairs from standard input."
+-- SCOPE T1: the output of the whole input, for the venue and then pair by pair
 unfoldable pub output : List ℕ → List ℕ
 unfolding venue-said pairs
 output s = venue-said s .text ++ then-on (venue-said s .next) (after-venue (venue-read s) s)

@@ -9,7 +9,7 @@ use Rattle.cells.specs.declared.Refusal.the-variants.{Record}
 use Rattle.cells.specs.declared.Verdict.{Verdict}
 use Rattle.cells.specs.Checks.{refuse-when, _then_}
 
--- "four bytes: the length of what follows"
+-- SCOPE V2, V3: how many bytes the length itself has
 abbrev pub length-field : ℕ
 length-field = 4
 
@@ -21,7 +21,7 @@ announced s = four-at s 0
 abbrev pub version-of : List ℕ → ℕ
 version-of s = getD s length-field 0
 
--- "10 if fewer than four bytes, length 0, or fewer bytes than announced"
+-- SCOPE V4: 10 where the record is cut short, and where its length is 0
 unfoldable pub whole-check : List ℕ → Verdict
 whole-check s =
     refuse-when (ltb (length s) length-field) Record then

@@ -21,7 +21,7 @@ use Rattle.records.specs.Heads.{length-field, announced, version-of, who
 unfoldable pub pair-version : ℕ → Bool
 pair-version version = eqb version 1
 
--- "length 13": the version, then P and Q as six two-byte numbers
+-- SCOPE V3: the length of a pair's record: the version, then P and Q as six two-byte numbers
 unfoldable pub pair-length : ℕ → ℕ
 pair-length version = 13
 
@@ -29,7 +29,7 @@ pair-length version = 13
 abbrev pub ends-from : ℕ
 ends-from = length-field + 1
 
--- "signed in two's complement": from 2^15 on, a number of two bytes stands for itself less 2^16
+-- SCOPE V1: the signed number that a number of two bytes stands for: from 2^15 on, itself less 2^16
 unfoldable pub signed : ℕ → ℤ
 signed v = cond (ltb v 32768) (pos v) (pos v -ℤ pos 65536)
 
@@ -41,14 +41,14 @@ cell-in s i = record { x = signed (two-at s i); y = signed (two-at s (i + 2)); z
 abbrev pub pair-in : List ℕ → Pair
 pair-in s = record { p = cell-in s ends-from; q = cell-in s (ends-from + 6) }
 
--- 10; 11; "10 if .. a pair's is not 13"
+-- SCOPE V4, V5, V7: 10; 11; then 10 for any length but a pair's
 unfoldable pub pair-check : List ℕ → Verdict
 pair-check s =
     whole-check s then
     refuse-when (not (pair-version (version-of s))) Version then
     refuse-when (not (eqb (announced s) (pair-length (version-of s)))) Record
 
--- "reading a pair answers P and Q"
+-- SCOPE V8: the answer, both ends or a refusal
 unfoldable pub pair-read : List ℕ → PairRead
 pair-read s = by-verdict PairRead.Refused (PairRead.Read (pair-in s)) (pair-check s)
 

@@ -49,7 +49,7 @@ venue-in s =
       long = announced s - venue-head (version-of s);
     }
 
--- 10; 11; "10 if a venue's length is below 7"; "then 2, and 3 if the length is not 7 + nx·ny·nz"
+-- SCOPE V4, V5, V6: 10; 11; 10 where the length is too short for the head; then 2, and 3 where it does not fit the counts
 unfoldable pub venue-check : List ℕ → Verdict
 venue-check s =
     whole-check s then
@@ -57,7 +57,7 @@ venue-check s =
     refuse-when (ltb (announced s) (venue-head (version-of s))) Record then
     shape (venue-in s .counts) (venue-in s .long)
 
--- "Reading a venue answers the counts and the part that holds the cells"
+-- SCOPE V8: the answer, the counts and where the cells stand, or a refusal
 unfoldable pub venue-read : List ℕ → VenueRead
 venue-read s = by-verdict VenueRead.Refused (VenueRead.Read (venue-in s)) (venue-check s)
 

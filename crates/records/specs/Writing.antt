@@ -20,27 +20,27 @@ use Rattle.records.specs.Venues.{venue-head, cells-from}
 abbrev pub written-version : ℕ
 written-version = 1
 
--- "nx, ny, nz in two bytes each"
+-- SCOPE V2: the three counts as six bytes
 abbrev pub count-bytes : Counts → List ℕ
 count-bytes n = (two (n .nx) ++ two (n .ny)) ++ two (n .nz)
 
--- what stands before the cells: "the length of what follows; version 1", and the counts
+-- SCOPE V2: what stands before the cells: the length, the version and the counts
 abbrev pub head-bytes : ℕ → Counts → List ℕ
 head-bytes version n = (four (venue-head version + size n) ++ (version ∷ [])) ++ count-bytes n
 
--- "11 + nx·ny·nz"
+-- SCOPE V2: how many bytes the whole record has
 abbrev pub record-length : Counts → ℕ
 record-length n = cells-from written-version + size n
 
--- "2, 3, then 6, exactly when fewer than 11 + nx·ny·nz bytes are lent"
+-- SCOPE V9: 2, 3, then 6 where the room is too short for the record
 unfoldable pub write-check : Counts → ℕ → ℕ → Verdict
 write-check n bytes room = shape n bytes then refuse-when (ltb room (record-length n)) Room
 
--- "it fills the front, the rest stays"
+-- SCOPE V10: the record, and behind it the room as it was
 abbrev pub after-writing : Counts → List ℕ → List ℕ → List ℕ
 after-writing n cells entry = head-bytes written-version n ++ (cells ++ drop (record-length n) entry)
 
--- the contract of the writing call: one answer, "the number written", and one final memory; refused, the memory as it was
+-- SCOPE V10, O1: the contract of the writing call: one answer, how many bytes it wrote, and one final memory; refused, the memory as it was
 pub record WritesVenue (n : Counts) (cells entry : List ℕ) (r : Written) (exit : List ℕ) : Type 0 where
   pub says : r ≡ by-verdict Written.Refused (Written.Wrote (record-length n)) (write-check n (length cells) (length entry))
   pub holds : exit ≡ by-verdict (λ r. entry) (after-writing n cells entry) (write-check n (length cells) (length entry))

@@ -25,17 +25,17 @@ use Rattle.sight.specs.declared.Block.{Block}
 use Rattle.sight.specs.declared.Sight.{Sight}
 use Rattle.sight.specs.declared.Sight.the-variants.{Clear, Blocked, Refused}
 
--- the share of the way: "the place's two whole numbers, made f64 exactly, divided once"
+-- SCOPE S9: the share of the way, from the two numbers of a place
 abbrev pub share-of : ℕ → ℕ → Float
 share-of num den = div binary64 (as-f64 num) (as-f64 den)
 
--- what the adaptive walk says: "clear, or blocked with the share of the way as one f64, the cell, code and reads"
+-- SCOPE S8, S10: the sight answer, from what the adaptive walk says
 abbrev pub sight-of : FirstHit → Sight
 sight-of (FirstHit.Clear reads) = Clear
 sight-of (FirstHit.Hit h) = Blocked (record { share = share-of (h .place .num) (h .place .den); cell = h .cell; code = h .code; reads = h .reads })
 sight-of (FirstHit.Refused r) = Refused r
 
--- from the two lookups: "where the camera's point has no cell, its refusal is the answer and the ball is not looked at"
+-- SCOPE S10, S11: from the two lookups: a refusal, the camera's before the ball's, or what the adaptive walk finds
 abbrev pub seen : Counts → List ℕ → Lookup → Lookup → Sight
 seen n l (Lookup.Refused r) ball = Refused r
 seen n l (Lookup.Cell c) (Lookup.Refused r) = Refused r
@@ -46,7 +46,7 @@ unfoldable pub looked : Counts → List ℕ → Placement → Point → Point �
 unfolding look-up first-hit
 looked n l at camera ball = seen n l (look-up P n at camera) (look-up Q n at ball)
 
--- "2, 3, 7 (origin x, y, z, edge), camera x (8, then 9), y, z, then the ball"
+-- SCOPE O6: counts, bytes and placement are tested before any point
 unfoldable pub sight : Counts → List ℕ → Placement → Point → Point → Sight
 unfolding looked shape placement-check
 sight n l at camera ball = by-verdict Refused (looked n l at camera ball) (shape n (length l) then placement-check at)

@@ -78,7 +78,7 @@ over-edge-no-nan (fin s m e) (inf t) p q h = clash q refl
 over-edge-no-nan (fin s m e) (fin t zero d) p q h = absurd (zero-not-above t d h)
 over-edge-no-nan (fin s m e) (fin t (suc n) d) p q h = rw (eqb·suc-zero n) (round-no-nan binary64 (unlike s t) (m * up e * down d) (suc n * up d * down e))
 
--- "With finite inputs and an edge above 0, q is never NaN"
+-- SCOPE S6: a quotient of values that passed their tests is not NaN
 pub quotient-no-nan : (point origin edge : Float) → finite point ≡ true → finite origin ≡ true → finite edge ≡ true → lt (as-f64 0) edge ≡ true
     → isNan (quotient point origin edge) ≡ false
 quotient-no-nan point origin edge p o f h = over-edge-no-nan (sub binary64 point origin) edge (difference-no-nan point origin p o) f h

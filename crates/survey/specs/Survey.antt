@@ -25,7 +25,7 @@ use Rattle.survey.specs.declared.Lookup.{Lookup}
 use Rattle.survey.specs.declared.Lookup.the-variants.{Cell, Refused}
 use Rattle.survey.specs.Quotient.{as-f64, quotient, outside, cell-number}
 
--- "edge not finite, or edge not above 0"
+-- SCOPE R7: an edge that no cell has
 abbrev pub bad-edge : Float → Bool
 bad-edge e = not (finite e) || not (lt (as-f64 0) e)
 
@@ -55,7 +55,7 @@ quotients at p =
 abbrev pub value-check : End → Axis → ℕ → Float → Float → Verdict
 value-check e a count value q = refuse-when (not (finite value)) (Refusal.NotFinite e a) then refuse-when (outside count q) (Refusal.OffSurvey e a)
 
--- a surveyed point with its quotients: "x (8, then 9), y, z"
+-- SCOPE O5: a surveyed point with its quotients, axis by axis
 unfoldable pub point-check : End → Counts → Point → Point → Verdict
 point-check e n p q =
     value-check e X (n .nx) (p .x) (q .x) then
@@ -71,7 +71,7 @@ unfoldable pub look-up : End → Counts → Placement → Point → Lookup
 unfolding point-check cell-number
 look-up e n at p = by-verdict Refused (Cell (cell-at n (quotients at p))) (point-check e n p (quotients at p))
 
--- "turned into its cell alone, from counts, placement and point: 2, 7, then x (8, then 9), y, z, with P named as the end"
+-- SCOPE S7, O5: the cell of a point alone; counts and placement are tested first, and the point as P
 unfoldable pub cell-of : Counts → Placement → Point → Lookup
 unfolding count-check placement-check look-up
 cell-of n at p = by-verdict Refused (look-up P n at p) (count-check n then placement-check at)

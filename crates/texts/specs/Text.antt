@@ -1,5 +1,4 @@
--- SCOPE, V and T: the program's lines as bytes. "Numbers are decimal without leading zeros, fields are parted by one space,
--- and each line ends with a line feed." Assumes nothing.
+-- SCOPE T4, T5, T8, T9: the program's lines as bytes. Assumes nothing.
 use Prim.Native.Nat.{ℕ, zero, suc, _+_, _/_, _%_}
 use mathlib.Core.Bool.{cond}
 use mathlib.Core.Path.{_≡_}
@@ -53,11 +52,11 @@ venue-word = 71 ∷ []
 
 -- ---- lines
 
--- "parted by one space"
+-- SCOPE T9: what stands between two fields
 abbrev pub space : ℕ
 space = 32
 
--- "each line ends with a line feed"
+-- SCOPE T9: what stands at the end of a line
 abbrev pub line-feed : ℕ
 line-feed = 10
 

@@ -87,7 +87,7 @@ doubled-small D short = record { a2 = small X; b2 = small Y; c2 = small Z }
     small : (a : Axis) → Small (pos (2 * D a))
     small a = record { small = omega (arith, short a) }
 
--- at P the values are the differences of two short differences, "e_xy = B - A"
+-- SCOPE L6: at P the values are the differences of two short differences, `e_xy = B - A`
 module _ (b a : ℕ) (hb : b ≤ 16383) (ha : a ≤ 16383) where
   first-is : toZ w32 b -ℤ toZ w32 a ≡ pos (b * (2 * 0 + 1)) -ℤ pos (a * (2 * 0 + 1))
   first-is =

@@ -1,4 +1,4 @@
--- SCOPE: the answer of a first-hit call, from its walk. "Place of a hit" and "Reads"; refusals 2, 3, then 5 (P before Q; x, y, z).
+-- SCOPE W4, W5, W6: the answer of a first-hit call, from its walk, with a hit's place and the reads; refusals 2, 3, then 5 (P before Q; x, y, z).
 -- Assumes nothing.
 use Prim.Native.Nat.{ℕ, zero, suc, _+_, _-_, _*_}
 use mathlib.Core.Path.{_≡_}
@@ -29,8 +29,8 @@ use Rattle.grids.specs.Inside.{walk-check}
 
 -- ---- the place of a hit
 
--- "0 over 1 if the cell is P, else 2i-1 over 2D of the crossing by which the 6-line enters that cell": face i of the axis along which cell s
--- steps on
+-- SCOPE W5: the place of a cell, by its number in the 6-line. P has 0 over 1; cell s + 1 has the fraction of the crossing that leads there, on
+-- the axis along which cell s steps on
 abbrev pub entered-at : Cell → Cell → ℕ → Place
 entered-at p q zero = record { num = 0; den = 1 }
 entered-at p q (suc s) =
@@ -54,7 +54,7 @@ abbrev pub last-of : Cell → List Cell → Cell
 last-of c [] = c
 last-of c (d ∷ l) = last-of d l
 
--- a hit where its last cell is solid, else clear; "the number of cells of the walk so defined, its last included"
+-- SCOPE W4, W6: a hit where its last cell is solid, else clear; its length is the reads
 unfoldable pub answer-of : Counts → List ℕ → Cell → Cell → List Cell → FirstHit
 unfolding place-of
 answer-of n l p q cells =

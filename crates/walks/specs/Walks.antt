@@ -39,31 +39,31 @@ abbrev pub after : (ℕ → Cell) → Cell → Option ℕ → Cell
 after f w none = w
 after f w (some s) = f (s + 1)
 
--- "go to the next 6-line cell"
+-- SCOPE W3: one cell on along the 6-line
 unfoldable pub next-plain : (p q w : Cell) → Cell
 unfolding number-of six-cell
 next-plain p q w = after (six-cell rule-1 p q) w (number-of (six-cell rule-1 p q) (six-count p q) w)
 
--- "if w is 26-line cell m, go to 26-line cell m+1. Else go to the next 6-line cell"
+-- SCOPE W3: from cell m of the 26-line a long step, from any other cell one on along the 6-line
 abbrev pub long-or-plain : (p q w : Cell) → Option ℕ → Cell
 long-or-plain p q w none = next-plain p q w
 long-or-plain p q w (some m) = cell-26 p q (m + 1)
 
--- "if the byte is 0 and w is 26-line cell m, go to 26-line cell m+1. Else go to the next 6-line cell"
+-- SCOPE W3: the adaptive walk's next cell, by a long step only where the byte is clear
 unfoldable pub next-adaptive : Counts → List ℕ → (p q w : Cell) → Cell
 unfolding number-of cell-26 next-plain
 next-adaptive n l p q w = cond (clear (byte-of n l w)) (long-or-plain p q w (number-of (cell-26 p q) (count-26 p q) w)) (next-plain p q w)
 
--- the one test of a cell: "byte 2 or more, hit"
+-- SCOPE W3: the one test of a cell, by its byte
 abbrev pub hit-at : Counts → List ℕ → Cell → Bool
 hit-at n l w = solid (byte-of n l w)
 
--- "byte 2 or more, hit. Else if w is Q, clear. Else" what comes next. The number of cells is bounded by that of the 6-line.
+-- SCOPE W3: from w on, to the first hit or to Q, by what comes next. The number of cells is bounded by that of the 6-line.
 unfoldable pub walk : (Cell → Bool) → (Cell → Cell) → Cell → ℕ → Cell → List Cell
 walk hit next q zero w = []
 walk hit next q (suc fuel) w = w ∷ cond (hit w || is-cell w q) [] (walk hit next q fuel (next w))
 
--- what comes next: "The plain walk is the 6-line to its first solid cell."
+-- what comes next: SCOPE W2 for the plain walk, W3 for the adaptive one
 abbrev pub next-cell : Walker → Counts → List ℕ → (p q w : Cell) → Cell
 next-cell Plain n l p q w = next-plain p q w
 next-cell Adaptive n l p q w = next-adaptive n l p q w
