@@ -115,7 +115,7 @@ conversion-exact k = record { value = whole-exact k }
 
 pub shares : Shares
 unfolding toBits div ofInt
-shares = record { half = refl; third = refl; start = refl }
+shares = record { half = refl; third = refl; three-tenths = refl; start = refl }
 
 -- ---- the table, and wrong answers
 

@@ -50,7 +50,7 @@ use Rattle.program.specs.Program.{Said, venue-most, pair-most, beyond, venue-sa
 use Rattle.program.specs.Program.{after-frame, Says, text-room, venue-refused, said-of-venue, after-refusal, answers, walk-lines, said-of-walks, after-record}
 use Rattle.program.proofs.Frames.{venue-framed, venue-on, venue-taken, read-framed, cells-framed, pair-framed, pair-on, after-same, less-left, beyond-is}
 use Rattle.claims.specs.Program.{Pairs, last, next, Runs, ends, begins, Writes, OneStep, example-input}
-use Rattle.claims.specs.Program.{Silent, GoesOn, Begins, Walked, AllWalked, going-on, FiveOrLines}
+use Rattle.claims.specs.Program.{WrongPrograms, Walked, AllWalked, going-on, FiveOrLines}
 use Rattle.texts.specs.Text.{pair-refused-line}
 use Rattle.claims.proofs.Starred.{example-writes}
 use denote.Ref.{RefT}
@@ -299,13 +299,15 @@ one a b =
 pub one-step : (entry : List ℕ) → OneStep entry
 one-step entry = record { venue = λ frame r t x y. one; pair = λ n cells k frame r t x y. one }
 
-pub not-silent : Silent → ⊥
-not-silent w = let e : _≡_ {A = ℕ} 0 30 = ap length (only-run example-input (w .run) ∙ example-writes) in omega arith
+-- the end is no number
+over-not-on : (k : ℕ) {next : Next} → next ≡ Over → next ≡ On k → ⊥
+over-not-on k e f = let g : On k ≡ Over = sym f ∙ e in let z : _≡_ {A = ℕ} 0 1 = cc in omega arith
 
-pub not-on : (n : Counts) (cells entry : List ℕ) → GoesOn n cells entry → ⊥
-unfolding pair-said beyond pair-read pair-check whole-check
-not-on n cells entry w = let e : On (w .number) ≡ Over = sym (w .on) ∙ w .says .next in let z : _≡_ {A = ℕ} 0 1 = cc in omega arith
-
-pub not-begun : (entry : List ℕ) → Begins entry → ⊥
-unfolding venue-said beyond venue-read venue-check whole-check
-not-begun entry w = let e : On (w .number) ≡ Over = sym (w .on) ∙ w .says .next in let z : _≡_ {A = ℕ} 0 1 = cc in omega arith
+pub wrong-programs : WrongPrograms
+unfolding pair-said beyond pair-read pair-check venue-said venue-read venue-check whole-check
+wrong-programs =
+    record {
+      silent = λ run. let e : _≡_ {A = ℕ} 0 30 = ap length (only-run example-input run ∙ example-writes) in omega arith;
+      goes-on = λ n cells entry exit answer k w. over-not-on k (w .next);
+      begins = λ entry exit answer k w. over-not-on k (w .next);
+    }

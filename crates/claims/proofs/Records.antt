@@ -5,7 +5,7 @@ use native.Mathlib.Omega.{arith}
 use mathlib.Core.Path.{_≡_, sym, ap, _∙_, subst}
 use mathlib.Core.List.{List, _++_, append-assoc}
 use lib.ListN.{length, getD, take, drop, take-append-drop}
-use borrow.Author.Tests.{eqb-true, le-ltb, ne-eqb, not-false}
+use borrow.Author.Tests.{eqb-true, lt-ltb, le-ltb, ne-eqb, not-false}
 use denote.Ref.{RefT}
 use Rattle.cells.specs.Parts.{StartsAt}
 use Rattle.cells.specs.declared.Counts.{Counts}
@@ -30,7 +30,7 @@ use Rattle.records.specs.Writing.{written-version, head-bytes, record-length, w
 use Rattle.records.proofs.RoundTrip.{read-back, cells-back, front-written, record-fits, same-bytes}
 use Rattle.claims.specs.Example.{example-counts, example-cells}
 use Rattle.claims.specs.Records.{OneAnswer, Right, RightPair, Accepted, LengthTested, ThePart, SameVenue, ReadBack, WrittenBack, NotLookedAt}
-use Rattle.claims.specs.Records.{example-venue, example-room, minus-one-pair, Refuses, WritesNothing, ReadsUnsigned, WrongRecords}
+use Rattle.claims.specs.Records.{example-venue, example-room, minus-one-pair, NumbersRead, WrongRecords}
 use Rattle.claims.proofs.Grids.{one, one-place}
 
 -- 1 where a venue was written
@@ -190,28 +190,25 @@ written-back-same bytes part =
           same-bytes (bytes .now) v entry exit w all (sym (c .says)) room (subst (λ (l : List ℕ). WritesVenue (v .counts) l entry w exit) (gives .says) writes);
     }
 
+-- ---- numbers
+
+pub numbers-read : NumbersRead
+unfolding signed
+numbers-read =
+    record {
+      four = λ a b c d s. omega arith;
+      upwards = λ v h. rw (lt-ltb v 32768 h);
+      downwards = λ v h. rw (le-ltb v 32768 h);
+    }
+
 -- ---- wrong answers
 
-pub no-refuser : Refuses example-venue → ⊥
-unfolding shape whole-check venue-version venue-head venue-check venue-read
-no-refuser h = let e = h .answers .says in let z : _≡_ {A = ℕ} 0 1 = cc in omega arith
-
-pub no-idle-writer : WritesNothing example-counts example-cells example-room → ⊥
-unfolding shape venue-head write-check
-no-idle-writer h = let e : _≡_ {A = ℕ} 99 0 = ap (λ (l : List ℕ). getD l 0 0) (h .leaves .holds) in omega arith
-
-pub no-unsigned-reader : ReadsUnsigned → ⊥
-unfolding whole-check pair-version pair-length signed pair-check pair-read
-no-unsigned-reader h =
-    let e = h .answers .says in
-    let same : h .ends ≡ pair-in minus-one-pair = cc in
-    let z : _≡_ {A = ℕ} 65535 0 = ap up (sym (h .unsigned) ∙ ap (λ (p : Pair). p .q .x) same) in
-    omega arith
-
 pub wrong-records : WrongRecords
-unfolding accepts shape whole-check venue-version venue-head venue-check venue-read venue-cells pair-version pair-length pair-check pair-read write-check
+unfolding accepts shape whole-check venue-version venue-head venue-check venue-read venue-cells signed pair-version pair-length pair-check pair-read
+    write-check
 wrong-records =
     record {
+      refuser = λ r c. let e = c .says in let z : _≡_ {A = ℕ} 0 1 = cc in omega arith;
       other-version = λ v c. let e = c .says in let z : _≡_ {A = ℕ} 0 1 = cc in omega arith;
       whole-part = λ bytes part is g w. let z : _≡_ {A = ℕ} 19 8 = ap length (sym w ∙ g .says ∙ ap venue-cells is) in omega arith;
       empty-part = λ bytes part is g none. let z : _≡_ {A = ℕ} 0 8 = ap length (sym none ∙ g .says ∙ ap venue-cells is) in omega arith;
@@ -219,5 +216,11 @@ wrong-records =
           let f : start-of (venue-read (bytes .now)) ≡ 11 = ap (λ (l : List ℕ). start-of (venue-read l)) is in
           omega (arith, g .there .offset, ap (λ (p : ℕ × ℕ). p .1) same);
       pair-refuser = λ r c. let e = c .says in let z : _≡_ {A = ℕ} 0 1 = cc in omega arith;
+      unsigned = λ e c u.
+          let f = c .says in
+          let same : e ≡ pair-in minus-one-pair = cc in
+          let z : _≡_ {A = ℕ} 65535 0 = ap up (sym u ∙ ap (λ (p : Pair). p .q .x) same) in
+          omega arith;
+      idle-writer = λ r w. let e : _≡_ {A = ℕ} 99 0 = ap (λ (l : List ℕ). getD l 0 0) (w .holds) in omega arith;
       short-writer = λ exit w. let z : _≡_ {A = ℕ} 1 0 = ap accepts (w .says) in omega arith;
     }

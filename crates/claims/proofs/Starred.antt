@@ -30,11 +30,11 @@ records-hold = refl and refl and refl and refl and programs-hold
 
 sights-hold : Every sight-rows
 unfolding sight le lt ofInt ofBits div sub
-sights-hold = refl and records-hold
+sights-hold = refl and refl and records-hold
 
 pub starred : Every table
 unfolding six-line line-26 marked first-hit
 starred =
-    refl and refl and refl and refl and refl and refl and refl and refl and refl and refl and refl and
+    refl and refl and refl and refl and refl and refl and refl and refl and refl and refl and refl and refl and refl and refl and refl and refl and
     refl and refl and refl and refl and refl and refl and refl and refl and refl and refl and refl and
     refl and refl and refl and refl and refl and refl and refl and refl and refl and refl and refl and sights-hold

@@ -74,10 +74,12 @@ pub record Outside (n : Counts) (at : Placement) (p : Point) : Type 0 where
 pub record Exact (k : ℕ) : Type 0 where
   pub value : k ≤ 2 ^ 53 → HasValue (as-f64 k) false k 1
 
--- 5. Examples of the share of the way, the quotient rounded once: 1 over 2 is 0.5, 1 over 3 the f64 nearest to a third, 0 over 1 is 0.
+-- 5. Examples of the share of the way, the quotient rounded once: 1 over 2 is 0.5, 1 over 3 and 3 over 10 the f64 nearest to them (3 times the f64
+-- nearest to a tenth is another one), 0 over 1 is 0.
 pub record Shares : Type 0 where
   pub half : toBits binary64 (share-of 1 2) ≡ 0x3fe0_0000_0000_0000
   pub third : toBits binary64 (share-of 1 3) ≡ 0x3fd5_5555_5555_5555
+  pub three-tenths : toBits binary64 (share-of 3 10) ≡ 0x3fd3_3333_3333_3333
   pub start : share-of 0 1 ≡ as-f64 0
 
 -- ---- worked examples, as one table

@@ -97,22 +97,9 @@ marked-output = plain-line ++ (49 ∷ 32 ∷ 65 ∷ 32 ∷ 104 ∷ 105 ∷ 116 �
 
 -- ---- wrong answers
 
--- a program that is silent on SCOPE's input
-pub record Silent : Type 0 where
-  pub run : Runs example-input []
-
--- a step that goes on after a pair that is cut short: three bytes of a length
-pub record GoesOn (n : Counts) (cells entry : List ℕ) : Type 0 where
-  pub answer : Step
-  pub exit : List ℕ
-  pub says : Says (pair-said n cells 1 (0 ∷ 0 ∷ 0 ∷ [])) entry answer exit
-  pub number : ℕ
-  pub on : answer .next ≡ On number
-
--- a step that goes on after a venue that is cut short
-pub record Begins (entry : List ℕ) : Type 0 where
-  pub answer : Step
-  pub exit : List ℕ
-  pub says : Says (venue-said (0 ∷ 0 ∷ 0 ∷ [])) entry answer exit
-  pub number : ℕ
-  pub on : answer .next ≡ On number
+-- a program that is silent on SCOPE's input; a step that goes on after a pair, or a venue, that is cut short: three bytes of a length
+pub record WrongPrograms : Type 0 where
+  pub silent : Runs example-input [] → ⊥
+  pub goes-on : (n : Counts) (cells entry exit : List ℕ) (answer : Step) (k : ℕ) → Says (pair-said n cells 1 (0 ∷ 0 ∷ 0 ∷ [])) entry answer exit →
+      answer .next ≡ On k → ⊥
+  pub begins : (entry exit : List ℕ) (answer : Step) (k : ℕ) → Says (venue-said (0 ∷ 0 ∷ 0 ∷ [])) entry answer exit → answer .next ≡ On k → ⊥

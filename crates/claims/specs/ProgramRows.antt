@@ -3,10 +3,17 @@
 use Prim.Native.Nat.{ℕ}
 use mathlib.Core.List.{List, [], _∷_, _++_}
 use lib.ListN.{replicate}
-use Rattle.claims.specs.Records.{example-venue, example-pair}
+use Rattle.claims.specs.Records.{example-venue, example-pair, version-2}
 use Rattle.claims.specs.Starred.{Row, writes}
 
 -- ---- records
+
+-- a venue of 0 by 1 by 1, and one of 1 by 1 by 1 without its byte
+abbrev pub no-count : List ℕ
+no-count = 0 ∷ 0 ∷ 0 ∷ 7 ∷ 1 ∷ 0 ∷ 0 ∷ 0 ∷ 1 ∷ 0 ∷ 1 ∷ []
+
+abbrev pub no-cells : List ℕ
+no-cells = 0 ∷ 0 ∷ 0 ∷ 7 ∷ 1 ∷ 0 ∷ 1 ∷ 0 ∷ 1 ∷ 0 ∷ 1 ∷ []
 
 -- from (0,0,0) to (4,1,0), outside the example's venue
 abbrev pub off-pair : List ℕ
@@ -33,7 +40,13 @@ long-256 = 0 ∷ 0 ∷ 1 ∷ 0 ∷ replicate 256 9
 abbrev pub refused : List ℕ
 refused = 32 ∷ 114 ∷ 101 ∷ 102 ∷ 117 ∷ 115 ∷ 101 ∷ 100 ∷ 32 ∷ []
 
--- `5`, `6`, `10` and `11`, each with its line feed
+-- `2`, `3`, `5`, `6`, `10` and `11`, each with its line feed
+abbrev pub two : List ℕ
+two = 50 ∷ 10 ∷ []
+
+abbrev pub three : List ℕ
+three = 51 ∷ 10 ∷ []
+
 abbrev pub five : List ℕ
 five = 53 ∷ 10 ∷ []
 
@@ -59,8 +72,14 @@ more-program-rows =
     -- a venue length of 65,533 is refused 6 straight after the four bytes; one of 65,532 is not, and is cut short here
     writes (0 ∷ 0 ∷ 255 ∷ 253 ∷ []) (71 ∷ refused ++ six)
     ∷ writes (0 ∷ 0 ∷ 255 ∷ 252 ∷ 1 ∷ []) (71 ∷ refused ++ ten)
-    -- no pair: silent
+    -- nothing at all is a venue cut short; a venue of version 2, one with a count of 0, one of no cells
+    ∷ writes [] (71 ∷ refused ++ ten)
+    ∷ writes version-2 (71 ∷ refused ++ eleven)
+    ∷ writes no-count (71 ∷ refused ++ two)
+    ∷ writes no-cells (71 ∷ refused ++ three)
+    -- no pair: silent; one byte of a pair: refused 10
     ∷ writes example-venue []
+    ∷ writes (example-venue ++ (0 ∷ [])) (49 ∷ refused ++ ten)
     -- after 5 it goes on and counts on; after 11 it ends, though a pair follows
     ∷ writes (example-venue ++ off-pair ++ example-pair ++ other-version ++ example-pair) ((49 ∷ refused ++ five) ++ second-lines ++ (51 ∷ refused ++ eleven))
     -- after 10 it ends too; a pair cut short in its length is refused 10

@@ -1,12 +1,12 @@
 -- What is claimed of venue and pair records: for all answers that meet the calls' contracts. Assumes nothing.
-use Prim.Native.Nat.{ℕ, _+_, _≤_}
+use Prim.Native.Nat.{ℕ, _+_, _*_, _≤_, _<_}
 use mathlib.Core.Path.{_≡_}
 use mathlib.Core.Logic.{_↔_}
 use mathlib.Core.List.{List, [], _∷_, _++_}
-use lib.IntN.{pos}
+use lib.IntN.{pos, _-ℤ_}
 use lib.ListN.{length, take, replicate}
 use denote.Ref.{RefT}
-use Rattle.buffers.specs.Numbers.{two-at, AllBytes}
+use Rattle.buffers.specs.Numbers.{two-at, four-at, AllBytes}
 use Rattle.cells.specs.declared.Counts.{Counts}
 use Rattle.cells.specs.declared.Refusal.{Refusal}
 use Rattle.cells.specs.declared.Refusal.the-variants.{Bytes}
@@ -94,6 +94,12 @@ pub record NotLookedAt (s rest : List ℕ) : Type 0 where
       (a .now ≡ b .now) × ((start : ℕ) × StartsAt start short a × StartsAt start long b)
   pub pair : length s ≡ 4 + announced s → (r t : PairRead) → ReadsPair s r → ReadsPair (s ++ rest) t → r ≡ t
 
+-- SCOPE V1: four bytes make a number, the most significant first; of two bytes' numbers the upper half stands for those below 0.
+pub record NumbersRead : Type 0 where
+  pub four : (a b c d : ℕ) (s : List ℕ) → four-at (a ∷ b ∷ c ∷ d ∷ s) 0 ≡ 16777216 * a + 65536 * b + 256 * c + d
+  pub upwards : (v : ℕ) → v < 32768 → signed v ≡ pos v
+  pub downwards : (v : ℕ) → 32768 ≤ v → signed v ≡ pos v -ℤ pos 65536
+
 -- ---- named inputs
 
 -- SCOPE: `0000000F 01 0004 0002 0001 0000000000020000`
@@ -110,33 +116,23 @@ example-room = replicate 20 99
 
 -- ---- wrong answers
 
--- a reader that refuses
-pub record Refuses (s : List ℕ) : Type 0 where
-  pub reason : Refusal
-  pub answers : ReadsVenue s (VenueRead.Refused reason)
-
--- a writer that leaves the memory as it was
-pub record WritesNothing (n : Counts) (cells entry : List ℕ) : Type 0 where
-  pub answer : Written
-  pub leaves : WritesVenue n cells entry answer entry
-
--- a reader of pairs that takes coordinates as unsigned: Q's x of `FFFF` is 65,535 and not -1
+-- Q's x is `FFFF`, -1
 abbrev pub minus-one-pair : List ℕ
 minus-one-pair = 0 ∷ 0 ∷ 0 ∷ 13 ∷ 1 ∷ 0 ∷ 0 ∷ 0 ∷ 0 ∷ 0 ∷ 0 ∷ 255 ∷ 255 ∷ 0 ∷ 1 ∷ 0 ∷ 0 ∷ []
 
-pub record ReadsUnsigned : Type 0 where
-  pub ends : Pair
-  pub answers : ReadsPair minus-one-pair (PairRead.Read ends)
-  pub unsigned : ends .q .x ≡ pos 65535
-
--- another version read; the whole record, or nothing, given for the cells; a pair refused; a venue written into room of one byte short
+-- the example, called version 2
 abbrev pub version-2 : List ℕ
 version-2 = 0 ∷ 0 ∷ 0 ∷ 15 ∷ 2 ∷ 0 ∷ 4 ∷ 0 ∷ 2 ∷ 0 ∷ 1 ∷ example-cells
 
+-- a reader that refuses the example, one that reads another version; the whole record, or nothing, given for the cells, or another part; a pair
+-- refused, or its coordinates taken as unsigned; a writer that leaves the memory as it was, one that writes into room of one byte short
 pub record WrongRecords : Type 0 where
+  pub refuser : (r : Refusal) → ReadsVenue example-venue (VenueRead.Refused r) → ⊥
   pub other-version : (v : Venue) → ReadsVenue version-2 (VenueRead.Read v) → ⊥
   pub whole-part : (bytes part : RefT (List ℕ)) → bytes .now ≡ example-venue → GivesCells bytes part → part .now ≡ example-venue → ⊥
   pub empty-part : (bytes part : RefT (List ℕ)) → bytes .now ≡ example-venue → GivesCells bytes part → part .now ≡ [] → ⊥
   pub part-elsewhere : (bytes part : RefT (List ℕ)) → bytes .now ≡ example-venue → GivesCells bytes part → part .ptr ≡ bytes .ptr → ⊥
   pub pair-refuser : (r : Refusal) → ReadsPair example-pair (PairRead.Refused r) → ⊥
+  pub unsigned : (e : Pair) → ReadsPair minus-one-pair (PairRead.Read e) → e .q .x ≡ pos 65535 → ⊥
+  pub idle-writer : (r : Written) → WritesVenue example-counts example-cells example-room r example-room → ⊥
   pub short-writer : (exit : List ℕ) → WritesVenue example-counts example-cells (replicate 18 99) (Written.Wrote 19) exit → ⊥

@@ -31,6 +31,7 @@ use Rattle.survey.specs.Quotient.{as-f64}
 use Rattle.sight.specs.Sight.{sight, told-sight, blocked}
 use Rattle.claims.specs.Points.{metres, placement, point}
 use Rattle.claims.specs.Example.{counts, at, example-counts, example-cells, marked-cells}
+use Rattle.claims.specs.Story.{long-bytes}
 use Rattle.claims.specs.Records.{example-venue, example-pair, minus-one-pair}
 use Rattle.claims.specs.Program.{example-input, example-output, marked-input, marked-output}
 
@@ -105,6 +106,9 @@ abbrev pub sight-rows : List Row
 sight-rows =
     sees example-counts marked-cells (placement (metres 0) (metres 1)) (point (halves 1) (halves 1) (halves 1))
     (point (halves 7) (halves 3) (halves 1)) 0x3fe0_0000_0000_0000 (at 1 1 0) 2 3
+    -- a place of 3 over 10, from the camera on
+    ∷ sees (counts 6 3 1) long-bytes (placement (metres 0) (metres 1)) (point (halves 1) (halves 1) (halves 1))
+    (point (halves 11) (halves 5) (halves 1)) 0x3fd3_3333_3333_3333 (at 2 1 0) 2 3
     ∷ record-rows
 
 abbrev pub table : List Row
@@ -130,6 +134,9 @@ table =
     ∷ marks example-counts example-cells marked-cells
     -- a near byte far from anything solid is cleared
     ∷ marks (counts 4 1 1) (1 ∷ 1 ∷ 0 ∷ 2 ∷ []) (0 ∷ 0 ∷ 1 ∷ 2 ∷ [])
+    -- along y and along z too, a cell touches no further than the next
+    ∷ marks (counts 1 3 1) (2 ∷ 0 ∷ 0 ∷ []) (2 ∷ 1 ∷ 0 ∷ [])
+    ∷ marks (counts 1 1 3) (2 ∷ 0 ∷ 0 ∷ []) (2 ∷ 1 ∷ 0 ∷ [])
     -- a corner touches
     ∷ marks (counts 2 2 2) (0 ∷ 0 ∷ 0 ∷ 0 ∷ 0 ∷ 0 ∷ 0 ∷ 9 ∷ []) (1 ∷ 1 ∷ 1 ∷ 1 ∷ 1 ∷ 1 ∷ 1 ∷ 9 ∷ [])
     ∷ finds Plain example-counts example-cells (at 0 0 0) (at 3 1 0) (hit (at 1 1 0) 2 1 2 3)
@@ -142,12 +149,17 @@ table =
     -- a hit at P: 0 over 1
     ∷ finds Plain example-counts marked-cells (at 1 1 0) (at 3 1 0) (hit (at 1 1 0) 2 0 1 1)
     ∷ finds Adaptive example-counts marked-cells (at 1 1 0) (at 3 1 0) (hit (at 1 1 0) 2 0 1 1)
+    -- the bytes lie x fastest, then y, then z: byte 4 of 2 by 3 by 2 is (0,2,0)
+    ∷ finds Plain (counts 2 3 2) (0 ∷ 0 ∷ 0 ∷ 0 ∷ 2 ∷ 0 ∷ 0 ∷ 0 ∷ 0 ∷ 0 ∷ 0 ∷ 0 ∷ []) (at 0 0 0) (at 0 2 0) (hit (at 0 2 0) 2 3 4 3)
+    -- 255 is solid; a place is not reduced, 3 over 6
+    ∷ finds Plain (counts 2 1 1) (0 ∷ 255 ∷ []) (at 0 0 0) (at 1 0 0) (hit (at 1 0 0) 255 1 2 2)
+    ∷ finds Plain (counts 4 1 1) (0 ∷ 0 ∷ 2 ∷ 0 ∷ []) (at 0 0 0) (at 3 0 0) (hit (at 2 0 0) 2 3 6 3)
     -- complete marks, both clear, the adaptive walk reads fewer
     ∷ finds Plain (counts 3 2 1) (0 ∷ 0 ∷ 0 ∷ 0 ∷ 0 ∷ 0 ∷ []) (at 0 0 0) (at 2 1 0) (clear 4)
     ∷ finds Adaptive (counts 3 2 1) (0 ∷ 0 ∷ 0 ∷ 0 ∷ 0 ∷ 0 ∷ []) (at 0 0 0) (at 2 1 0) (clear 3)
     -- missing marks: a long step lands on the hit
-    ∷ finds Plain (counts 6 3 1) (0 ∷ 0 ∷ 0 ∷ 0 ∷ 0 ∷ 0 ∷ 0 ∷ 0 ∷ 2 ∷ 0 ∷ 0 ∷ 0 ∷ 0 ∷ 0 ∷ 0 ∷ 0 ∷ 0 ∷ 0 ∷ []) (at 0 0 0) (at 5 2 0) (hit (at 2 1 0) 2 3 10 4)
-    ∷ finds Adaptive (counts 6 3 1) (0 ∷ 0 ∷ 0 ∷ 0 ∷ 0 ∷ 0 ∷ 0 ∷ 0 ∷ 2 ∷ 0 ∷ 0 ∷ 0 ∷ 0 ∷ 0 ∷ 0 ∷ 0 ∷ 0 ∷ 0 ∷ []) (at 0 0 0) (at 5 2 0) (hit (at 2 1 0) 2 3 10 3)
+    ∷ finds Plain (counts 6 3 1) long-bytes (at 0 0 0) (at 5 2 0) (hit (at 2 1 0) 2 3 10 4)
+    ∷ finds Adaptive (counts 6 3 1) long-bytes (at 0 0 0) (at 5 2 0) (hit (at 2 1 0) 2 3 10 3)
     -- missing marks: the adaptive walk is clear and reads more than the plain one
     ∷ finds Plain (counts 3 2 1) (0 ∷ 0 ∷ 0 ∷ 0 ∷ 2 ∷ 0 ∷ []) (at 0 1 0) (at 2 0 0) (hit (at 1 1 0) 2 1 4 2)
     ∷ finds Adaptive (counts 3 2 1) (0 ∷ 0 ∷ 0 ∷ 0 ∷ 2 ∷ 0 ∷ []) (at 0 1 0) (at 2 0 0) (clear 3)
