@@ -26,7 +26,7 @@ use Rattle.oatmarten.specs.WalkCalls.{flat-hit}
 use Rattle.oatmarten.specs.SightCalls.{flat-found, flat-sight}
 use Rattle.oatmarten.specs.RecordCalls.{flat-venue, flat-pair, flat-written}
 use Rattle.claims.proofs.Grids.{one}
-use Rattle.claims.specs.Exports.{One, ExportsOnce, RefusedUntouched, WrongExports}
+use Rattle.claims.specs.Exports.{One, ExportsOnce, RefusedUntouched, WrongExports, ExportsAre}
 
 -- ---- one answer, one final memory
 
@@ -97,4 +97,22 @@ wrong-exports =
           let z : r .yes ≡ 0 = ap (λ f. f .yes) (h .flat ∙ ap flat-complete (h .meets .says)) in omega (arith, k);
       first-layer = λ r h k.
           let z : r .offset ≡ 2 = ap (λ f. f .offset) (h .flat ∙ ap flat-part (h .meets .says)) in omega (arith, k);
+    }
+
+-- ---- what the calls of the engine give
+
+pub exports-are : ExportsAre
+exports-are =
+    record {
+      line6 = λ p q entry exit r h. (h .answer, h .meets, h .flat);
+      line26 = λ p q entry exit r h. (h .answer, h .meets, h .flat);
+      mark = λ n entry exit r h. (h .answer, h .meets, h .flat);
+      complete = λ n cells r h. (h .answer, h .meets, h .flat);
+      layer = λ n bytes z r h. (h .answer, h .meets, h .flat);
+      walks = λ w n cells p q r h. (h .answer, h .meets, h .flat);
+      found = λ n at p r h. (h .answer, h .meets, h .flat);
+      seen = λ n cells at camera ball r h. (h .answer, h .meets, h .flat);
+      venue = λ bytes r h. (h .answer, h .meets, h .flat);
+      pair = λ bytes r h. (h .answer, h .meets, h .flat);
+      written = λ n cells entry exit r h. (h .answer, h .meets, h .flat);
     }

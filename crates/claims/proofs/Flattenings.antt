@@ -71,7 +71,7 @@ use Rattle.oatmarten.specs.WalkCalls.{flat-hit}
 use Rattle.oatmarten.specs.SightCalls.{flat-found, flat-sight}
 use Rattle.oatmarten.specs.RecordCalls.{flat-venue, flat-pair, flat-written}
 use Rattle.claims.proofs.Grids.{one}
-use Rattle.claims.specs.Flattenings.{Flattened, Flattenings, InTable, SaidNumbers}
+use Rattle.claims.specs.Flattenings.{Flattened, Flattenings, InTable, SaidNumbers, FlatRows, InputRows}
 
 -- ---- the numbers of a refusal: they have a left inverse
 
@@ -306,4 +306,43 @@ flattenings =
       venue = flattened venue-case;
       pair = flattened pair-case;
       written = flattened written-case;
+    }
+
+-- ---- what each struct holds, and what those that go in mean: by computing
+
+pub flat-rows : FlatRows
+flat-rows =
+    record {
+      listed = λ n. refl;
+      listed-refused = λ r. refl;
+      verdict = refl;
+      verdict-refused = λ r. refl;
+      yes = refl;
+      no = refl;
+      complete-refused = λ r. refl;
+      part = λ start many. refl;
+      part-refused = λ r. refl;
+      hit = λ x y z code num den reads. refl;
+      walk-clear = λ reads. refl;
+      walk-refused = λ r. refl;
+      found = λ x y z. refl;
+      found-refused = λ r. refl;
+      blocked = λ share x y z code reads. refl;
+      sight-clear = refl;
+      sight-refused = λ r. refl;
+      venue = λ nx ny nz start long. refl;
+      venue-refused = λ r. refl;
+      pair = λ px py pz qx qy qz. refl;
+      pair-refused = λ r. refl;
+      written = λ many. refl;
+      written-refused = λ r. refl;
+    }
+
+pub input-rows : InputRows
+input-rows =
+    record {
+      cell = λ x y z. refl;
+      counts = λ nx ny nz. refl;
+      placement = λ ox oy oz edge. refl;
+      point = λ x y z. refl;
     }

@@ -5,20 +5,44 @@ use mathlib.Core.List.{List}
 use lib.IntN.{ℤ, pos}
 use Rattle.cells.specs.declared.Cell.{Cell}
 use Rattle.cells.specs.declared.Counts.{Counts}
+use Rattle.cells.specs.declared.Verdict.{Verdict}
+use Rattle.lists.specs.declared.Listed.{Listed}
+use Rattle.lists.specs.Lists.{Line6, Line26}
+use Rattle.grids.specs.declared.LayerPart.{LayerPart}
+use Rattle.grids.specs.declared.Completeness.{Completeness}
+use Rattle.grids.specs.Grid.{GivesLayerPart}
+use Rattle.grids.specs.Marks.{Marks, Completes}
 use Rattle.walks.specs.declared.Walker.{Walker}
+use Rattle.walks.specs.declared.FirstHit.{FirstHit}
+use Rattle.walks.specs.Answers.{Finds}
 use Rattle.survey.specs.declared.Placement.{Placement}
 use Rattle.survey.specs.declared.Point.{Point}
+use Rattle.survey.specs.declared.Lookup.{Lookup}
+use Rattle.survey.specs.Survey.{LooksUp}
+use Rattle.sight.specs.declared.Sight.{Sight}
+use Rattle.sight.specs.Sight.{Sees}
+use Rattle.records.specs.declared.venues.VenueRead.{VenueRead}
+use Rattle.records.specs.declared.pairs.PairRead.{PairRead}
+use Rattle.records.specs.declared.writing.Written.{Written}
+use Rattle.records.specs.Venues.{ReadsVenue}
+use Rattle.records.specs.Pairs.{ReadsPair}
+use Rattle.records.specs.Writing.{WritesVenue}
 use Rattle.oatmarten.specs.declared.refusals.OatSaid.{OatSaid}
 use Rattle.oatmarten.specs.declared.line_calls.OatListed.{OatListed}
 use Rattle.oatmarten.specs.declared.grid_calls.OatVerdict.{OatVerdict}
 use Rattle.oatmarten.specs.declared.grid_calls.OatComplete.{OatComplete}
 use Rattle.oatmarten.specs.declared.grid_calls.OatPart.{OatPart}
+use Rattle.oatmarten.specs.declared.walk_calls.OatHit.{OatHit}
+use Rattle.oatmarten.specs.declared.sight_calls.OatFound.{OatFound}
+use Rattle.oatmarten.specs.declared.sight_calls.OatSight.{OatSight}
+use Rattle.oatmarten.specs.declared.record_calls.OatVenue.{OatVenue}
+use Rattle.oatmarten.specs.declared.record_calls.OatPair.{OatPair}
 use Rattle.oatmarten.specs.declared.record_calls.OatWritten.{OatWritten}
-use Rattle.oatmarten.specs.LineCalls.{FlatLists, FlatLine6}
-use Rattle.oatmarten.specs.GridCalls.{FlatMarks, FlatCompletes, FlatGivesLayerPart}
-use Rattle.oatmarten.specs.WalkCalls.{FlatFinds}
-use Rattle.oatmarten.specs.SightCalls.{FlatLooksUp, FlatSees}
-use Rattle.oatmarten.specs.RecordCalls.{FlatReadsVenue, FlatReadsPair, FlatWritesVenue}
+use Rattle.oatmarten.specs.LineCalls.{flat-listed, FlatLists, FlatLine6, FlatLine26}
+use Rattle.oatmarten.specs.GridCalls.{flat-verdict, flat-complete, flat-part, FlatMarks, FlatCompletes, FlatGivesLayerPart}
+use Rattle.oatmarten.specs.WalkCalls.{flat-hit, FlatFinds}
+use Rattle.oatmarten.specs.SightCalls.{flat-found, flat-sight, FlatLooksUp, FlatSees}
+use Rattle.oatmarten.specs.RecordCalls.{flat-venue, flat-pair, flat-written, FlatReadsVenue, FlatReadsPair, FlatWritesVenue}
 use Rattle.claims.specs.Example.{at, example-counts, example-cells}
 use Rattle.claims.specs.Lists.{room}
 use Rattle.claims.specs.Grids.{two-layers}
@@ -64,3 +88,25 @@ pub record WrongExports : Type 0 where
   pub refusing-marker : (r : OatVerdict) (exit : List ℕ) → FlatMarks example-counts example-cells r exit → 1 ≤ r .said .refusal → ⊥
   pub complete-always : (r : OatComplete) → FlatCompletes example-counts example-cells r → r .yes ≡ 1 → ⊥
   pub first-layer : (r : OatPart) → FlatGivesLayerPart two-layers 4 (pos 1) r → r .offset ≡ 0 → ⊥
+
+-- 4. Each call for C gives what the call of the engine gives: its struct is the flattening of an answer that meets that call's own contract (Ties: it
+-- is the source's), on the same inputs and with the same final memory. `walks` is of oat_plain and oat_adaptive. (What the flattenings hold:
+-- Flattenings.)
+pub record ExportsAre : Type 0 where
+  pub line6 : (p q : Cell) (entry exit : List ℤ) (r : OatListed) → FlatLine6 p q entry r exit →
+      (a : Listed) × Line6 p q entry a exit × (r ≡ flat-listed a)
+  pub line26 : (p q : Cell) (entry exit : List ℤ) (r : OatListed) → FlatLine26 p q entry r exit →
+      (a : Listed) × Line26 p q entry a exit × (r ≡ flat-listed a)
+  pub mark : (n : Counts) (entry exit : List ℕ) (r : OatVerdict) → FlatMarks n entry r exit → (a : Verdict) × Marks n entry a exit × (r ≡ flat-verdict a)
+  pub complete : (n : Counts) (cells : List ℕ) (r : OatComplete) → FlatCompletes n cells r → (a : Completeness) × Completes n cells a × (r ≡ flat-complete a)
+  pub layer : (n : Counts) (bytes : ℕ) (z : ℤ) (r : OatPart) → FlatGivesLayerPart n bytes z r →
+      (a : LayerPart) × GivesLayerPart n bytes z a × (r ≡ flat-part a)
+  pub walks : (w : Walker) (n : Counts) (cells : List ℕ) (p q : Cell) (r : OatHit) → FlatFinds w n cells p q r →
+      (a : FirstHit) × Finds w n cells p q a × (r ≡ flat-hit a)
+  pub found : (n : Counts) (at : Placement) (p : Point) (r : OatFound) → FlatLooksUp n at p r → (a : Lookup) × LooksUp n at p a × (r ≡ flat-found a)
+  pub seen : (n : Counts) (cells : List ℕ) (at : Placement) (camera ball : Point) (r : OatSight) → FlatSees n cells at camera ball r →
+      (a : Sight) × Sees n cells at camera ball a × (r ≡ flat-sight a)
+  pub venue : (bytes : List ℕ) (r : OatVenue) → FlatReadsVenue bytes r → (a : VenueRead) × ReadsVenue bytes a × (r ≡ flat-venue a)
+  pub pair : (bytes : List ℕ) (r : OatPair) → FlatReadsPair bytes r → (a : PairRead) × ReadsPair bytes a × (r ≡ flat-pair a)
+  pub written : (n : Counts) (cells entry exit : List ℕ) (r : OatWritten) → FlatWritesVenue n cells entry r exit →
+      (a : Written) × WritesVenue n cells entry a exit × (r ≡ flat-written a)

@@ -1,7 +1,10 @@
--- What is claimed of the structs that the calls for C answer by: what C reads of an answer is what SCOPE says of it, as numbers. Assumes nothing.
+-- What is claimed of the structs that the calls for C answer by: what C reads of an answer is what SCOPE says of it, as numbers; and of those that
+-- the calls take: what they mean. Assumes nothing.
 use Prim.Native.Nat.{ℕ, _≤_}
 use mathlib.Core.Path.{_≡_}
 use mathlib.Core.Logic.{_⊎_, inr, _↔_}
+use lib.IntN.{ℤ, pos}
+use lib.Ieee.{Float}
 use Rattle.cells.specs.declared.Axis.{Axis}
 use Rattle.cells.specs.declared.Axis.the-variants.{X, Y, Z}
 use Rattle.cells.specs.declared.End.{End}
@@ -10,20 +13,32 @@ use Rattle.cells.specs.declared.Part.{Part}
 use Rattle.cells.specs.declared.Part.the-variants.{OriginX, OriginY, OriginZ, Edge}
 use Rattle.cells.specs.declared.Refusal.{Refusal}
 use Rattle.cells.specs.declared.Refusal.the-variants as Refusal
+use Rattle.cells.specs.declared.Verdict.the-variants as Verdict
 use Rattle.cells.specs.Refusals.{Told, told-verdict}
+use Rattle.lists.specs.declared.Listed.the-variants as Listed
 use Rattle.lists.specs.Lists.{told-listed}
+use Rattle.grids.specs.declared.LayerPart.the-variants as LayerPart
+use Rattle.grids.specs.declared.Completeness.the-variants as Completeness
 use Rattle.grids.specs.Grid.{told-part}
 use Rattle.grids.specs.Marks.{told-completeness}
 use Rattle.walks.specs.declared.Walker.the-variants.{Plain}
+use Rattle.walks.specs.declared.FirstHit.the-variants as FirstHit
 use Rattle.walks.specs.Answers.{told-hit}
+use Rattle.survey.specs.declared.Lookup.the-variants as Lookup
+use Rattle.survey.specs.Quotient.{as-f64}
 use Rattle.survey.specs.Survey.{told-lookup}
+use Rattle.sight.specs.declared.Sight.the-variants as Sight
 use Rattle.sight.specs.Sight.{told-sight}
+use Rattle.records.specs.declared.venues.VenueRead.the-variants as VenueRead
+use Rattle.records.specs.declared.pairs.PairRead.the-variants as PairRead
+use Rattle.records.specs.declared.writing.Written.the-variants as Written
 use Rattle.records.specs.Venues.{told-venue}
 use Rattle.records.specs.Pairs.{told-pair}
 use Rattle.records.specs.Writing.{told-written}
 use Rattle.oatmarten.specs.declared.refusals.OatSaid.{OatSaid}
 use Rattle.oatmarten.specs.declared.walk_calls.OatHit.{OatHit}
 use Rattle.oatmarten.specs.Refusals.{end-number, axis-number, part-number, accepted, flat-refusal, said-of}
+use Rattle.oatmarten.specs.Inputs.{as-cell, as-counts, as-placement, as-point}
 use Rattle.oatmarten.specs.LineCalls.{flat-listed}
 use Rattle.oatmarten.specs.GridCalls.{flat-verdict, flat-complete, flat-part}
 use Rattle.oatmarten.specs.WalkCalls.{flat-hit, FlatFinds}
@@ -82,3 +97,62 @@ pub record SaidNumbers : Type 0 where
   pub in-table : (r : Refusal) → InTable (flat-refusal r .refusal)
   pub apart : (r s : Refusal) → flat-refusal r ≡ flat-refusal s → r ≡ s
   pub q-off-y : (r : OatHit) → FlatFinds Plain example-counts example-cells (at 0 0 0) (at 0 2 0) r → r .said ≡ three 5 2 2
+
+-- 3. What each struct holds, for all values. Of an accepted answer: 0, 0, 0 in `said`, each value in its own field, and 0 in the fields that the
+-- answer does not speak of. Of a refused one: the refusal's three numbers in `said`, and 0 in every other field.
+pub record FlatRows : Type 0 where
+  -- a line list: `count` is the number of cells
+  pub listed : (n : ℕ) → flat-listed (Listed.Cells n) ≡ record { said = three 0 0 0; count = n }
+  pub listed-refused : (r : Refusal) → flat-listed (Listed.Refused r) ≡ record { said = flat-refusal r; count = 0 }
+  -- a marking: `said` alone
+  pub verdict : flat-verdict Verdict.Fine ≡ record { said = three 0 0 0 }
+  pub verdict-refused : (r : Refusal) → flat-verdict (Verdict.Refused r) ≡ record { said = flat-refusal r }
+  -- completeness: `yes` is 1 for yes, 0 for no
+  pub yes : flat-complete Completeness.Yes ≡ record { said = three 0 0 0; yes = 1 }
+  pub no : flat-complete Completeness.No ≡ record { said = three 0 0 0; yes = 0 }
+  pub complete-refused : (r : Refusal) → flat-complete (Completeness.Refused r) ≡ record { said = flat-refusal r; yes = 0 }
+  -- a layer's part: `offset` is where it starts, `length` how long it is
+  pub part : (start many : ℕ) → flat-part (LayerPart.Part start many) ≡ record { said = three 0 0 0; offset = start; length = many }
+  pub part-refused : (r : Refusal) → flat-part (LayerPart.Refused r) ≡ record { said = flat-refusal r; offset = 0; length = 0 }
+  -- a walk: `hit` is 1 where it hit, with the cell, its code, the place num over den, and the reads; 0 where it is clear, with the reads
+  pub hit : (x y z : ℤ) (code num den reads : ℕ) →
+      flat-hit (FirstHit.Hit (record { cell = record { x = x; y = y; z = z }; code = code; place = record { num = num; den = den }; reads = reads })) ≡
+      record { said = three 0 0 0; hit = 1; x = x; y = y; z = z; code = code; num = num; den = den; reads = reads }
+  pub walk-clear : (reads : ℕ) → flat-hit (FirstHit.Clear reads) ≡
+      record { said = three 0 0 0; hit = 0; x = pos 0; y = pos 0; z = pos 0; code = 0; num = 0; den = 0; reads = reads }
+  pub walk-refused : (r : Refusal) → flat-hit (FirstHit.Refused r) ≡
+      record { said = flat-refusal r; hit = 0; x = pos 0; y = pos 0; z = pos 0; code = 0; num = 0; den = 0; reads = 0 }
+  -- a point's cell: its x, y and z
+  pub found : (x y z : ℤ) → flat-found (Lookup.Cell (record { x = x; y = y; z = z })) ≡ record { said = three 0 0 0; x = x; y = y; z = z }
+  pub found-refused : (r : Refusal) → flat-found (Lookup.Refused r) ≡ record { said = flat-refusal r; x = pos 0; y = pos 0; z = pos 0 }
+  -- a sight: `blocked` is 1 where a cell is in the way, with the share of the way, the cell, its code, and the reads; 0 where it is clear
+  pub blocked : (share : Float) (x y z : ℤ) (code reads : ℕ) →
+      flat-sight (Sight.Blocked (record { share = share; cell = record { x = x; y = y; z = z }; code = code; reads = reads })) ≡
+      record { said = three 0 0 0; blocked = 1; share = share; x = x; y = y; z = z; code = code; reads = reads }
+  pub sight-clear : flat-sight Sight.Clear ≡
+      record { said = three 0 0 0; blocked = 0; share = as-f64 0; x = pos 0; y = pos 0; z = pos 0; code = 0; reads = 0 }
+  pub sight-refused : (r : Refusal) → flat-sight (Sight.Refused r) ≡
+      record { said = flat-refusal r; blocked = 0; share = as-f64 0; x = pos 0; y = pos 0; z = pos 0; code = 0; reads = 0 }
+  -- a venue's record: the three counts; `offset` is where its cells start, `length` how many they are
+  pub venue : (nx ny nz start long : ℕ) →
+      flat-venue (VenueRead.Read (record { counts = record { nx = nx; ny = ny; nz = nz }; start = start; long = long })) ≡
+      record { said = three 0 0 0; nx = nx; ny = ny; nz = nz; offset = start; length = long }
+  pub venue-refused : (r : Refusal) → flat-venue (VenueRead.Refused r) ≡
+      record { said = flat-refusal r; nx = 0; ny = 0; nz = 0; offset = 0; length = 0 }
+  -- a pair's record: px, py, pz are those of P, qx, qy, qz those of Q
+  pub pair : (px py pz qx qy qz : ℤ) →
+      flat-pair (PairRead.Read (record { p = record { x = px; y = py; z = pz }; q = record { x = qx; y = qy; z = qz } })) ≡
+      record { said = three 0 0 0; px = px; py = py; pz = pz; qx = qx; qy = qy; qz = qz }
+  pub pair-refused : (r : Refusal) → flat-pair (PairRead.Refused r) ≡
+      record { said = flat-refusal r; px = pos 0; py = pos 0; pz = pos 0; qx = pos 0; qy = pos 0; qz = pos 0 }
+  -- a venue's record that was written: `written` is the number of bytes
+  pub written : (many : ℕ) → flat-written (Written.Wrote many) ≡ record { said = three 0 0 0; written = many }
+  pub written-refused : (r : Refusal) → flat-written (Written.Refused r) ≡ record { said = flat-refusal r; written = 0 }
+
+-- 4. What the structs that the calls take mean, for all values: the cell, counts, placement and point with the same value under each name.
+pub record InputRows : Type 0 where
+  pub cell : (x y z : ℤ) → as-cell (record { x = x; y = y; z = z }) ≡ record { x = x; y = y; z = z }
+  pub counts : (nx ny nz : ℕ) → as-counts (record { nx = nx; ny = ny; nz = nz }) ≡ record { nx = nx; ny = ny; nz = nz }
+  pub placement : (ox oy oz edge : Float) →
+      as-placement (record { ox = ox; oy = oy; oz = oz; edge = edge }) ≡ record { ox = ox; oy = oy; oz = oz; edge = edge }
+  pub point : (x y z : Float) → as-point (record { x = x; y = y; z = z }) ≡ record { x = x; y = y; z = z }
