@@ -5,7 +5,9 @@ use Rattle.lines.specs.Lines.{differences}
 use Rattle.claims.proofs.Ties.{asks-nothing, promised}
 use Rattle.claims.proofs.ExportTies.{exports-promised, exports-ask-nothing}
 use Rattle.claims.proofs.Refused.{lines-told, grids-told, points-told, records-told}
-use Rattle.claims.proofs.Exports.{exports-once, refused-untouched}
+use Rattle.claims.proofs.Exports.{exports-are, exports-once, refused-untouched}
+use Rattle.claims.proofs.Flattenings.{flattenings}
+use Rattle.claims.proofs.Words.{one-number}
 use Rattle.claims.proofs.Lists.{listed-once}
 use Rattle.claims.proofs.Lines.{one-place, six-line-holds, each-cell-touched, no-cell-missing, line-26-holds}
 use Rattle.claims.proofs.Grids as grids
@@ -19,8 +21,10 @@ takes-anything =
     record {
       asks-nothing = asks-nothing;
       promised = promised;
+      numbers = one-number;
       lists = listed-once;
       grid-calls = grids.one-answer;
+      marking = grids.marked-call;
       walks = hit-once;
       cells = points.one-answer;
       sights = seen-once;
@@ -29,7 +33,7 @@ takes-anything =
       grid-refusals = grids-told;
       point-refusals = points-told;
       record-refusals = records-told;
-      for-c = (exports-ask-nothing, exports-promised, exports-once, refused-untouched);
+      for-c = (exports-ask-nothing, exports-promised, exports-are, flattenings, exports-once, refused-untouched);
     }
 
 pub are-the-papers : AreThePapers

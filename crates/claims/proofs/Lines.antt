@@ -16,7 +16,7 @@ use Rattle.lines.proofs.Centres.{centres-good, upto-26}
 use Rattle.lines.proofs.Signs.{sign-tells, figure-6-is-next, step-moves, stays-small, first-longest, second-longest}
 use Rattle.lines.proofs.Cells.{six-length, six-numbered, six-start, six-end, six-different, six-by-face, six-touched, six-misses-none, six-at-26}
 use Rattle.lines.proofs.Cells.{length-26, numbered-26, start-26, end-26, moves-by-one-26, longest-moves-26, skipped-touches, limited-difference}
-use Rattle.claims.specs.Lines.{OnePlace, SixLine, Touched, NoneMissing, TwentySixLine, Skipped, Signs, SmallValues, Entered, Moves, LongStep}
+use Rattle.claims.specs.Lines.{OnePlace, SixLine, Touched, NoneMissing, TwentySixLine, Skipped, Signs, SmallValues, Entered, Moves, LongStep, HalfACell}
 
 pub one-place : (r : Preference) (D : Steps) → OnePlace r D
 one-place r D =
@@ -101,3 +101,14 @@ moves D m lt =
 
 pub long-step : (D : Steps) → LongStep D
 long-step D = record { moves = moves D }
+
+-- ---- the faces of a cell
+
+pub half-a-cell : HalfACell
+half-a-cell =
+    record {
+      short-of = record { from = λ a. elim a [ X ↦ record { lt = tt } | Y ↦ record { lt = tt } | Z ↦ record { lt = tt } ]; upto = λ a. elim a [ X ↦ record { lt = tt } | Y ↦ record { lt = tt } | Z ↦ record { lt = tt } ] };
+      on-the-face = (record { from = λ a. elim a [ X ↦ record { le = tt } | Y ↦ record { le = tt } | Z ↦ record { le = tt } ]; upto = λ a. elim a [ X ↦ record { le = tt } | Y ↦ record { le = tt } | Z ↦ record { le = tt } ] }, record { from = λ a. elim a [ X ↦ record { le = tt } | Y ↦ record { le = tt } | Z ↦ record { le = tt } ]; upto = λ a. elim a [ X ↦ record { le = tt } | Y ↦ record { le = tt } | Z ↦ record { le = tt } ] });
+      not-inside = (λ h. h .upto X .lt, λ h. h .from X .lt);
+      past = λ h. h .upto X .le;
+    }

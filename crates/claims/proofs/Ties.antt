@@ -1,5 +1,5 @@
 -- Each call's `ensures` is its record as it stands, and each call's `requires` asks for nothing. Assumes nothing.
-use Rattle.claims.specs.Ties.{Promised, AsksNothing}
+use Rattle.claims.specs.Ties.{Promised, StepsPromised, AsksNothing}
 
 pub promised : Promised
 promised =
@@ -21,6 +21,9 @@ promised =
       of-read-pair = λ κs a r e h. h;
       of-write-venue = λ κs a r e h. h;
     }
+
+pub steps-promised : StepsPromised
+steps-promised = record { of-venue-step = λ κs a r e h. h .0; of-pair-step = λ κs a r e h. h .0 }
 
 pub asks-nothing : AsksNothing
 asks-nothing =

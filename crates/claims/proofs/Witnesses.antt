@@ -1,27 +1,29 @@
 -- The witnesses, by computation. Assumes nothing.
-use Prim.Native.Nat.{ℕ, zero, suc, _+_, _<_}
-use mathlib.Core.Path.{_≡_, refl, sym, ap, _∙_, subst}
+use Prim.Native.Nat.{ℕ, zero, suc, _<_}
+use mathlib.Core.Path.{_≡_, refl, subst}
 use mathlib.Core.Bool.{Bool, true, false, _&&_}
 use mathlib.Core.List.{List, [], _∷_}
 use native.Mathlib.Omega.{arith}
 use lib.Dec.{ltb, lit<}
-use lib.IntN.{pos}
 use lib.Ieee.{le, lt, ofInt, div, sub}
 use lib.ListN.{getD}
 use borrow.Author.Tests.{ltb-true}
 use Rattle.cells.specs.declared.Axis.the-variants.{X, Y, Z}
+use Rattle.cells.specs.declared.Refusal.the-variants.{Bytes}
+use Rattle.cells.specs.declared.Verdict.the-variants as Verdict
 use Rattle.lines.specs.Lines.{six-line}
 use Rattle.lines.specs.Preference.{rule-1}
+use Rattle.lines.proofs.Cells.{centre-inside}
 use Rattle.grids.specs.Grid.{count-check, shape, layer-part, layer}
 use Rattle.grids.specs.Marks.{marked, complete, completeness}
 use Rattle.walks.specs.Answers.{first-hit}
 use Rattle.survey.specs.Survey.{placement-check, cell-of}
 use Rattle.sight.specs.Sight.{sight}
 use Rattle.records.specs.Heads.{whole-check}
-use Rattle.records.specs.Venues.{venue-version, venue-head, venue-check, venue-read, venue-cells, start-of}
+use Rattle.records.specs.Venues.{venue-version, venue-head, venue-check, venue-read, venue-cells}
 use Rattle.records.specs.Pairs.{signed, pair-version, pair-length, pair-check, pair-read}
 use Rattle.records.specs.Writing.{write-check}
-use Rattle.claims.specs.Example.{example-counts}
+use Rattle.claims.specs.Example.{at}
 use Rattle.claims.specs.Witnesses.{steps-there, OfLines, OfGrids, OfPoints, OfRecords, OfPrograms}
 use Rattle.claims.specs.Records.{example-venue, example-pair}
 use Rattle.claims.proofs.Records.{accepted}
@@ -39,10 +41,7 @@ unfolding six-line
 of-lines =
     record {
       share = record { some = lit< tt; most = omega arith };
-      centre-of-p = record {
-        from = λ a. elim a [ X ↦ record { lt = tt } | Y ↦ record { lt = tt } | Z ↦ record { lt = tt } ];
-        upto = λ a. elim a [ X ↦ record { lt = tt } | Y ↦ record { lt = tt } | Z ↦ record { lt = tt } ];
-      };
+      centre-of-p = centre-inside rule-1 (at 0 0 0) (at 2 1 0) 1 (lit< tt);
       limits = longest-list .accepted;
       in-order = one-place rule-1 steps-there .there 2 (omega arith) .0;
       last-made = entered rule-1 steps-there .by-last 1 (omega arith);
@@ -63,10 +62,8 @@ of-grids =
       says-yes = record { says = refl };
       says-no = record { says = refl };
       part = record { says = refl };
-      layer = λ cells e. record {
-        says = e ∙ ap (λ (l : List ℕ). layer example-counts l (pos 0)) (sym e);
-        there = record { block = refl; offset = rw e (omega arith) };
-      };
+      layer = record { says = refl; there = record { block = refl; offset = refl } };
+      not-marked = record { says = refl; holds = refl };
       plain-hits = record { says = refl };
       adaptive-hits = record { says = refl };
       clear-marks = refl;
@@ -86,6 +83,7 @@ of-points =
         z = record { number = 3; same = refl; below = lit< tt; there = refl };
       };
       looked-up = record { says = refl };
+      off-survey = refl;
       seen = record { says = refl };
     }
 
@@ -113,11 +111,11 @@ of-records =
       right = accepted example-venue .venue _ .0 (record { says = refl });
       right-pair = accepted example-pair .pair _ .0 (record { says = refl });
       pair = record { says = refl };
-      cells = λ bytes e. (
-        record { ptr = (bytes .ptr .0, bytes .ptr .1 + start-of (venue-read (bytes .now))); name = 0; now = venue-cells (bytes .now) },
-        record { says = refl; there = record { block = refl; offset = refl } },
-      );
+      cells = record { says = refl; there = record { block = refl; offset = refl } };
+      no-venue = record { says = refl };
+      misfit = (omega arith, refl, omega arith, refl, λ e. omega arith);
       written = record { says = refl; holds = refl };
+      not-written = record { says = refl; holds = refl };
     }
 
 pub of-programs : OfPrograms
@@ -125,6 +123,7 @@ unfolding decimal over
 of-programs =
     record {
       for-c = record { answer = Completeness.Yes; meets = of-grids .says-yes; flat = refl };
+      refused-for-c = record { answer = Verdict.Refused Bytes; meets = of-grids .not-marked; flat = refl };
       put = record { says = refl; holds = refl };
       run = subst (Runs example-input) example-writes (writes example-input .some);
     }

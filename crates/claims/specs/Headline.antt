@@ -8,13 +8,13 @@ use lib.ListN.{take}
 use denote.Ref.{RefT}
 use Rattle.cells.specs.declared.Cell.{Cell}
 use Rattle.cells.specs.declared.Counts.{Counts}
+use Rattle.cells.specs.declared.Refusal.{Refusal}
 use Rattle.lines.specs.Steps.{total}
 use Rattle.lines.specs.Preference.{rule-1}
 use Rattle.lines.specs.Lines.{differences, six-cell}
 use Rattle.lines.specs.Segment.{Share, InOpen, InClosed}
 use Rattle.lists.specs.declared.Listed.{Listed}
 use Rattle.grids.specs.declared.Completeness.the-variants.{Yes}
-use Rattle.grids.specs.Grid.{solid}
 use Rattle.grids.specs.Marks.{Completes}
 use Rattle.walks.specs.declared.Walker.the-variants.{Plain, Adaptive}
 use Rattle.walks.specs.declared.Hit.{Hit}
@@ -32,7 +32,9 @@ use Rattle.records.specs.Writing.{WritesVenue}
 use Rattle.claims.specs.Ties.{AsksNothing, Promised}
 use Rattle.claims.specs.ExportTies.{ExportsAskNothing, ExportsPromised}
 use Rattle.claims.specs.Refused.{LinesTold, GridsTold, PointsTold, RecordsTold}
-use Rattle.claims.specs.Exports.{ExportsOnce, RefusedUntouched}
+use Rattle.claims.specs.Exports.{ExportsAre, ExportsOnce, RefusedUntouched}
+use Rattle.claims.specs.Flattenings.{Flattenings}
+use Rattle.claims.specs.Words.{OneNumber}
 use Rattle.claims.specs.Lists.{ListedOnce}
 use Rattle.claims.specs.Lines.{OnePlace, SixLine, TwentySixLine}
 use Rattle.claims.specs.Grids as grids
@@ -47,8 +49,10 @@ use Rattle.claims.specs.Story.{SameStory, NoLater, FirstSolid, HitOnce}
 pub record TakesAnything : Type 1 where
   pub asks-nothing : AsksNothing
   pub promised : Promised
+  pub numbers : (r : Refusal) → OneNumber r
   pub lists : (line : List Cell) (p q : Cell) (entry : List ℤ) → ListedOnce line p q entry
   pub grid-calls : grids.OneAnswer
+  pub marking : (n : Counts) (l : List ℕ) → grids.MarkedCall n l
   pub walks : (n : Counts) (l : List ℕ) (p q : Cell) → HitOnce n l p q
   pub cells : (n : Counts) (at : Placement) (p : Point) → points.OneAnswer n at p
   pub sights : (n : Counts) (l : List ℕ) (at : Placement) (camera ball : Point) → SeenOnce n l at camera ball
@@ -57,7 +61,7 @@ pub record TakesAnything : Type 1 where
   pub grid-refusals : (n : Counts) (l : List ℕ) → GridsTold n l
   pub point-refusals : (n : Counts) (at : Placement) → PointsTold n at
   pub record-refusals : RecordsTold
-  pub for-c : ExportsAskNothing × ExportsPromised × ExportsOnce × RefusedUntouched
+  pub for-c : ExportsAskNothing × ExportsPromised × ExportsAre × Flattenings × ExportsOnce × RefusedUntouched
 
 -- 2. The lines are the paper's, made exact: at each place of the 6-line every crossing made comes before every one not made, ties by rule 1, and no
 -- other place has that; its cells go from P to Q, each touched by the segment, and no cell is missing whose inside the segment enters. The plain

@@ -12,6 +12,7 @@ use Rattle.lines.specs.Crossings.{next, place, before, InOrder, LastMade, MadeU
 use Rattle.lines.specs.Preference.{Preference, rule-1}
 use Rattle.lines.specs.Lines.{differences, centres, six-cell, six-line, longest, place-26, cell-26, line-26, InLimit}
 use Rattle.lines.specs.Segment.{Share, InClosed, InOpen}
+use Rattle.claims.specs.Example.{at}
 use Rattle.lines.specs.Decisions.{decision, e-xy, e-xz, e-zy, values, by-signs, doubled, moved-values}
 
 -- 1. For each number of crossings there is one place such that every crossing made comes before every one not made: the 6-line's.
@@ -35,6 +36,14 @@ pub record Touched (r : Preference) (p q : Cell) : Type 0 where
 -- 3. No cell of the lattice whose open inside meets the segment is missing.
 pub record NoneMissing (r : Preference) (p q : Cell) : Type 0 where
   pub found : (k d : ℕ) (c : Cell) → Share k d → InOpen p q k d c → (n : ℕ) × (n ≤ total (differences p q)) × (six-cell r p q n ≡ c)
+
+-- A cell's faces lie half a cell from its centre: on the way from (0,0,0) to (2,0,0) the point at 24 hundredths lies inside P, that at 25 on the face
+-- of both cells and inside neither, that at 26 in P no more.
+pub record HalfACell : Type 0 where
+  pub short-of : InOpen (at 0 0 0) (at 2 0 0) 24 100 (at 0 0 0)
+  pub on-the-face : InClosed (at 0 0 0) (at 2 0 0) 25 100 (at 0 0 0) × InClosed (at 0 0 0) (at 2 0 0) 25 100 (at 1 0 0)
+  pub not-inside : (InOpen (at 0 0 0) (at 2 0 0) 25 100 (at 0 0 0) → ⊥) × (InOpen (at 0 0 0) (at 2 0 0) 25 100 (at 1 0 0) → ⊥)
+  pub past : InClosed (at 0 0 0) (at 2 0 0) 26 100 (at 0 0 0) → ⊥
 
 -- 4. 26-line cell m is the place of the 6-line after all crossings at fractions up to and including m/M. There are M+1 cells, from P to Q; from one
 -- to the next each axis moves by 0 or 1, the longest by 1.

@@ -25,6 +25,9 @@ use Rattle.sight.proofs.see.Reads as see
 use Rattle.records.specs.Venues.{ReadsVenue, GivesCells}
 use Rattle.records.specs.Pairs.{ReadsPair}
 use Rattle.records.specs.Writing.{WritesVenue}
+use Rattle.program.specs.Program.{venue-said, pair-said, Says}
+use Rattle.program.proofs.venue_step.Reads as venue-step
+use Rattle.program.proofs.pair_step.Reads as pair-step
 use Rattle.records.proofs.read_venue.Reads as read-venue
 use Rattle.records.proofs.venue_cells.Reads as venue-cells
 use Rattle.records.proofs.read_pair.Reads as read-pair
@@ -48,6 +51,12 @@ pub record Promised : Type 1 where
   pub of-venue-cells : (κs : _) (a : _) (r : _) (e : _) → venue-cells.Post κs a r e → GivesCells (a .0) r
   pub of-read-pair : (κs : _) (a : _) (r : _) (e : _) → read-pair.Post κs a r e → ReadsPair (a .0 .now) r
   pub of-write-venue : (κs : _) (a : _) (r : _) (e : _) → write-venue.Post κs a r e → WritesVenue (a .0) (a .1 .0 .now) (a .1 .1 .0 .now) r (e .1 .1 .0 .now)
+
+-- what the program's two steps promise, whose theorem is that of its whole output
+pub record StepsPromised : Type 1 where
+  pub of-venue-step : (κs : _) (a : _) (r : _) (e : _) → venue-step.Post κs a r e → Says (venue-said (a .0 .now)) (a .1 .0 .now) r (e .1 .0 .now)
+  pub of-pair-step : (κs : _) (a : _) (r : _) (e : _) → pair-step.Post κs a r e →
+      Says (pair-said (a .0) (a .1 .0 .now) (a .1 .1 .0) (a .1 .1 .1 .0 .now)) (a .1 .1 .1 .1 .0 .now) r (e .1 .1 .1 .1 .0 .now)
 
 -- what each call asks for: nothing, of any inputs
 pub record AsksNothing : Type 1 where

@@ -1,6 +1,6 @@
 -- Nothing is claimed of nothing: each record that stands as a premise in the claims is met, on a named input. So a premise that nobody can meet is
 -- refused here. Assumes nothing.
-use Prim.Native.Nat.{ℕ, _+_}
+use Prim.Native.Nat.{ℕ, _+_, _≤_}
 use mathlib.Core.Path.{_≡_}
 use mathlib.Core.Bool.{true}
 use mathlib.Core.List.{List, [], _∷_, _++_}
@@ -8,8 +8,11 @@ use lib.IntN.{pos}
 use lib.ListN.{length}
 use denote.Ref.{RefT}
 use Rattle.buffers.specs.Numbers.{AllBytes}
-use Rattle.cells.specs.declared.Refusal.the-variants.{Bytes, Room}
+use Rattle.cells.specs.declared.Refusal.the-variants.{Bytes, Room, OffSurvey, Record}
+use Rattle.cells.specs.declared.Axis.the-variants.{X}
+use Rattle.cells.specs.declared.End.the-variants.{P}
 use Rattle.cells.specs.declared.Verdict.the-variants as Verdict
+use Rattle.cells.specs.declared.Verdict.the-variants.{Fine}
 use Rattle.cells.specs.Refusals.{NumberOf}
 use Rattle.cells.specs.Touching.{Touches}
 use Rattle.lines.specs.Steps.{Steps}
@@ -21,30 +24,31 @@ use Rattle.lists.specs.declared.Listed.the-variants as Listed
 use Rattle.lists.specs.Lists.{numbers, Line6}
 use Rattle.grids.specs.declared.Completeness.the-variants.{Yes, No}
 use Rattle.grids.specs.declared.LayerPart.the-variants.{Part}
-use Rattle.grids.specs.Grid.{Shapes, GivesLayerPart, GivesLayer}
+use Rattle.grids.specs.Grid.{size, count-check, Shapes, GivesLayerPart, GivesLayer}
 use Rattle.grids.specs.Marks.{complete, Marks, Completes}
 use Rattle.walks.specs.declared.Walker.the-variants.{Plain, Adaptive}
 use Rattle.walks.specs.declared.Hit.{Hit}
 use Rattle.walks.specs.declared.FirstHit.the-variants as FirstHit
 use Rattle.walks.specs.Answers.{Finds}
-use Rattle.survey.specs.declared.Lookup.the-variants.{Cell}
-use Rattle.survey.specs.Survey.{Tested, quotients, LooksUp}
+use Rattle.survey.specs.declared.Lookup.the-variants as Lookup
+use Rattle.survey.specs.Survey.{Tested, quotients, look-up, LooksUp}
 use Rattle.sight.specs.declared.Sight.the-variants as Sight
 use Rattle.sight.specs.Sight.{Sees}
-use Rattle.records.specs.declared.venues.VenueRead.the-variants.{Read}
+use Rattle.records.specs.declared.venues.VenueRead.the-variants as VenueRead
 use Rattle.records.specs.declared.pairs.PairRead.the-variants as PairRead
-use Rattle.records.specs.declared.writing.Written.the-variants.{Wrote}
-use Rattle.records.specs.Heads.{announced}
-use Rattle.records.specs.Venues.{ReadsVenue, GivesCells}
+use Rattle.records.specs.declared.writing.Written.the-variants as Written
+use Rattle.records.specs.Heads.{announced, version-of}
+use Rattle.records.specs.Venues.{counts-at, ReadsVenue, GivesCells}
 use Rattle.records.specs.Pairs.{ReadsPair}
 use Rattle.records.specs.Writing.{WritesVenue}
 use Rattle.texts.specs.Text.{decimal, Puts}
-use Rattle.oatmarten.specs.GridCalls.{FlatCompletes}
+use Rattle.oatmarten.specs.GridCalls.{FlatMarks, FlatCompletes}
 use Rattle.claims.specs.Program.{Runs, example-input, example-output}
 use Rattle.claims.specs.Example.{counts, at, example-counts, example-cells, marked-cells}
 use Rattle.claims.specs.Lists.{lowest, highest, room}
 use Rattle.claims.specs.Points.{Finite, InItsCell, cube, metres, tenths, placement, point}
 use Rattle.claims.specs.Records.{Right, RightPair, example-venue, example-pair, example-room}
+use Rattle.claims.specs.ProgramRows.{no-cells}
 use Rattle.claims.specs.Starred.{halves}
 use Rattle.claims.specs.Story.{all-clear}
 
@@ -64,6 +68,10 @@ pub record OfLines : Type 0 where
   pub listed : Line6 (at 0 0 0) (at 2 1 0) room (Listed.Cells 4) (numbers (at 0 0 0 ∷ at 1 0 0 ∷ at 1 1 0 ∷ at 2 1 0 ∷ []) ++ pos 7 ∷ [])
   pub no-room : Line6 (at 0 0 0) (at 2 1 0) [] (Listed.Refused Room) []
 
+-- memory that a caller lends
+abbrev pub lent : List ℕ → RefT (List ℕ)
+lent l = record { ptr = (0, 0); name = 0; now = l }
+
 -- the hit of both walks in the program's venue, marked
 abbrev pub the-hit : Hit
 the-hit = record { cell = at 1 1 0; code = 2; place = record { num = 1; den = 2 }; reads = 3 }
@@ -79,7 +87,8 @@ pub record OfGrids : Type 0 where
   pub says-yes : Completes example-counts marked-cells Yes
   pub says-no : Completes example-counts example-cells No
   pub part : GivesLayerPart example-counts 8 (pos 0) (Part 0 8)
-  pub layer : (cells : RefT (List ℕ)) → cells .now ≡ example-cells → GivesLayer example-counts cells (pos 0) cells
+  pub layer : GivesLayer example-counts (lent example-cells) (pos 0) (lent example-cells)
+  pub not-marked : Marks example-counts (0 ∷ []) (Verdict.Refused Bytes) (0 ∷ [])
   -- walks: a hit of each, and a clear one, with complete marks
   pub plain-hits : Finds Plain example-counts marked-cells (at 0 0 0) (at 3 1 0) (FirstHit.Hit the-hit)
   pub adaptive-hits : Finds Adaptive example-counts marked-cells (at 0 0 0) (at 3 1 0) (FirstHit.Hit the-hit)
@@ -91,7 +100,9 @@ pub record OfPoints : Type 0 where
   pub tested : Tested (cube 4) (placement (metres 0) (metres 1))
   pub finite : Finite (point (tenths 15) (metres 0) (tenths 39))
   pub in-its-cell : InItsCell (cube 4) (quotients (placement (metres 0) (metres 1)) (point (tenths 15) (metres 0) (tenths 39))) (at 1 0 3)
-  pub looked-up : LooksUp (cube 4) (placement (metres 0) (metres 1)) (point (tenths 15) (metres 0) (tenths 39)) (Cell (at 1 0 3))
+  pub looked-up : LooksUp (cube 4) (placement (metres 0) (metres 1)) (point (tenths 15) (metres 0) (tenths 39)) (Lookup.Cell (at 1 0 3))
+  -- a camera on the far wall has no cell
+  pub off-survey : look-up P (cube 4) (placement (metres 0) (metres 1)) (point (metres 4) (metres 0) (metres 0)) ≡ Lookup.Refused (OffSurvey P X)
   -- a clear sight over complete marks
   pub seen : Sees (counts 3 2 1) all-clear (placement (metres 0) (metres 1)) (point (halves 1) (halves 1) (halves 1))
       (point (halves 5) (halves 3) (halves 1)) Sight.Clear
@@ -99,15 +110,21 @@ pub record OfPoints : Type 0 where
 pub record OfRecords : Type 0 where
   pub bytes : AllBytes example-venue
   pub exact : length example-venue ≡ 4 + announced example-venue
-  pub venue : ReadsVenue example-venue (Read (record { counts = example-counts; start = 11; long = 8 }))
+  pub venue : ReadsVenue example-venue (VenueRead.Read (record { counts = example-counts; start = 11; long = 8 }))
   pub right : Right example-venue (record { counts = example-counts; start = 11; long = 8 })
   pub right-pair : RightPair example-pair (record { p = at 0 0 0; q = at 3 1 0 })
   pub pair : ReadsPair example-pair (PairRead.Read (record { p = at 0 0 0; q = at 3 1 0 }))
-  pub cells : (bytes : RefT (List ℕ)) → bytes .now ≡ example-venue → (part : RefT (List ℕ)) × GivesCells bytes part
-  pub written : WritesVenue example-counts example-cells example-room (Wrote 19) (example-venue ++ 99 ∷ [])
+  pub cells : GivesCells (lent example-venue) (record { ptr = (0, 11); name = 0; now = example-cells })
+  pub no-venue : ReadsVenue [] (VenueRead.Refused Record)
+  -- a length that does not fit the counts, where all else does
+  pub misfit : (4 + announced no-cells ≤ length no-cells) × (version-of no-cells ≡ 1) × (7 ≤ announced no-cells)
+      × (count-check (counts-at no-cells 5) ≡ Fine) × (announced no-cells ≡ 7 + size (counts-at no-cells 5) → ⊥)
+  pub written : WritesVenue example-counts example-cells example-room (Written.Wrote 19) (example-venue ++ 99 ∷ [])
+  pub not-written : WritesVenue example-counts example-cells [] (Written.Refused Room) []
 
 -- a call for C, a text line, and a run of the program
 pub record OfPrograms : Type 0 where
   pub for-c : FlatCompletes example-counts marked-cells (record { said = record { refusal = 0; end = 0; axis = 0 }; yes = 1 })
+  pub refused-for-c : FlatMarks example-counts (0 ∷ []) (record { said = record { refusal = 3; end = 0; axis = 0 } }) (0 ∷ [])
   pub put : Puts (decimal 7) 0 (99 ∷ []) 1 (55 ∷ [])
   pub run : Runs example-input example-output
