@@ -1,24 +1,29 @@
 -- The claims about the list calls. Assumes nothing.
-use Prim.Native.Nat.{ℕ, _*_, _≤_}
+use Prim.Native.Nat.{ℕ, zero, suc, _+_, _-_, _*_, _≤_, _<_}
 use mathlib.Core.Path.{_≡_, refl, sym, ap, _∙_}
 use mathlib.Core.Bool.{true}
-use mathlib.Core.List.{List}
+use mathlib.Core.List.{List, [], _∷_, _++_}
 use native.Mathlib.Omega.{arith}
+use native.Mathlib.Numerals.{unary-clauses}
 use lib.IntN.{ℤ, pos, natAbs}
-use lib.ListN.{length, getD}
+use lib.ListN.{length, getD, drop, length-append, length-drop}
+use lib.Seq.{getD-append-add, getD-drop}
+use borrow.Author.Tests.{ltb-false}
 use Rattle.cells.specs.declared.Axis.{Axis}
 use Rattle.cells.specs.declared.Axis.the-variants.{X, Y, Z}
 use Rattle.cells.specs.declared.Cell.{Cell}
+use Rattle.cells.specs.declared.Verdict.the-variants as Verdict
 use Rattle.cells.specs.Touching.{on}
-use Rattle.cells.proofs.Checks.{by-refusal}
+use Rattle.cells.specs.Checks.{by-verdict}
+use Rattle.cells.proofs.Checks.{by-refusal, by-fine, fine-rest, passed}
 use Rattle.lines.specs.Preference.{rule-1}
 use Rattle.lines.specs.Lines.{six-line, line-26, in-limit, InLimit}
-use Rattle.lines.proofs.Cells.{limited-difference}
+use Rattle.lines.proofs.Cells.{limited-difference, six-length, six-numbered, length-26, numbered-26}
 use Rattle.lists.specs.declared.Listed.{Listed}
 use Rattle.lists.specs.declared.Listed.the-variants.{Cells, Refused}
-use Rattle.lists.specs.Lists.{list-check, filled}
+use Rattle.lists.specs.Lists.{ends-check, list-check, numbers, filled, Lists}
 use Rattle.lists.proofs.Front.{numbers-length}
-use Rattle.claims.specs.Lists.{ListedOnce, Longest, LongestLists, lowest, highest, WrongLists}
+use Rattle.claims.specs.Lists.{ListedOnce, three-at, CellsAt, CellsListed, Longest, LongestLists, lowest, highest, WrongLists}
 use Rattle.claims.proofs.Lines.{six-line-holds, line-26-holds}
 
 -- 1 for an accepted list
@@ -36,6 +41,74 @@ listed-once line p q entry =
           by-refusal Refused (list-check p q (length line) (length entry)) (Cells (length line)) (filled line entry)
           (λ e. let z : _≡_ {A = ℕ} 1 0 = ap accepted e in omega arith) (sym (h .says)) (h .holds);
     }
+
+-- ---- the cells of an accepted list
+
+-- how many cells an answer says
+said : Listed → ℕ
+said (Cells n) = n
+said (Refused r) = 0
+
+-- three numbers further on
+three-on : (c : Cell) (l : List ℤ) (i : ℕ) → three-at (c .x ∷ c .y ∷ c .z ∷ l) (suc (suc (suc i))) ≡ three-at l i
+three-on c l i = simp unary-clauses
+
+-- cell n stands at 3n, whatever comes behind the line
+numbers-at : (line : List Cell) (l : List ℤ) (n : ℕ) (d : Cell) → n < length line → three-at (numbers line ++ l) (3 * n) ≡ getD line n d
+numbers-at [] l n d lt = absurd (omega arith)
+numbers-at (c ∷ line) l zero d lt = refl
+numbers-at (c ∷ line) l (suc n) d lt =
+    let e : 3 * suc n ≡ suc (suc (suc (3 * n))) = omega arith in
+    ap (three-at (numbers (c ∷ line) ++ l)) e ∙ three-on c (numbers line ++ l) (3 * n) ∙ numbers-at line l n d (omega arith)
+
+-- of any line
+module _ (line : List Cell) (p q : Cell) (entry exit : List ℤ) (k : ℕ) (h : Lists line p q entry (Cells k) exit) where
+  fits : (list-check p q (length line) (length entry) ≡ Verdict.Fine) × (Cells (length line) ≡ Cells k)
+  unfolding accepted
+  fits =
+      by-fine Refused (list-check p q (length line) (length entry)) (Cells (length line))
+      (λ r e. absurd (let z : _≡_ {A = ℕ} 0 1 = ap accepted e in omega arith)) (sym (h .says))
+
+  whole : k ≡ length line
+  unfolding said
+  whole = ap said (sym (fits .1))
+
+  written : exit ≡ filled line entry
+  written = h .holds ∙ ap (by-verdict (λ r. entry) (filled line entry)) (fits .0)
+
+  roomy : 3 * length line ≤ length entry
+  roomy = ltb-false (length entry) (3 * length line) (passed _ _ (fine-rest (ends-check p q) _ (fits .0)))
+
+  behind : (i : ℕ) → 3 * length line ≤ i → getD (filled line entry) i (pos 0) ≡ getD entry i (pos 0)
+  behind i le =
+      let j = i - 3 * length line in
+      let e : i ≡ length (numbers line) + j = omega (arith, numbers-length line) in
+      let e′ : 3 * length line + j ≡ i = omega arith in
+      ap (λ m. getD (filled line entry) m (pos 0)) e ∙ getD-append-add (numbers line) (drop (3 * length line) entry) j (pos 0)
+      ∙ getD-drop (3 * length line) entry j (pos 0) ∙ ap (λ m. getD entry m (pos 0)) e′
+
+  cells-at : (many : ℕ) (cell : ℕ → Cell) → length line ≡ many → ((n : ℕ) → n < many → getD line n p ≡ cell n) → CellsAt many cell entry exit k
+  cells-at many cell long is =
+      record {
+        all = whole ∙ long;
+        each = λ n lt.
+            ap (λ l. three-at l (3 * n)) written ∙ numbers-at line (drop (3 * length line) entry) n p (omega (arith, whole)) ∙ is n (omega (arith, whole));
+        rest = λ i le. ap (λ l. getD l i (pos 0)) written ∙ behind i (omega (arith, whole));
+        long =
+            ap length written
+            ∙ omega (arith, length-append (numbers line) (drop (3 * length line) entry), numbers-length line, length-drop (3 * length line) entry, roomy);
+      }
+
+pub cells-listed : (p q : Cell) (entry exit : List ℤ) (k : ℕ) → CellsListed p q entry exit k
+cells-listed p q entry exit k =
+    record {
+      six = λ h. cells-at (six-line rule-1 p q) p q entry exit k h _ _ (six-length rule-1 p q)
+          (λ n lt. six-numbered rule-1 p q n (omega arith));
+      twenty-six = λ h. cells-at (line-26 p q) p q entry exit k h _ _ (length-26 p q)
+          (λ n lt. numbered-26 p q n (omega arith));
+    }
+
+-- ---- the longest lists
 
 -- the corners are accepted
 corners : InLimit lowest × InLimit highest

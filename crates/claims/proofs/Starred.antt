@@ -37,4 +37,5 @@ unfolding six-line line-26 marked first-hit
 starred =
     refl and refl and refl and refl and refl and refl and refl and refl and refl and refl and refl and refl and refl and refl and refl and refl and
     refl and refl and refl and refl and refl and refl and refl and refl and refl and refl and refl and
-    refl and refl and refl and refl and refl and refl and refl and refl and refl and refl and refl and sights-hold
+    refl and refl and refl and refl and refl and refl and refl and refl and refl and refl and refl and
+    refl and refl and sights-hold

@@ -1,41 +1,50 @@
 -- Demand 3: the claims about the two first-hit calls, from where their walks end. Assumes nothing.
-use Prim.Native.Nat.{ℕ, suc, _*_, _≤_}
+use Prim.Native.Nat.{ℕ, zero, suc, _+_, _*_, _≤_, _<_}
 use mathlib.Core.Path.{_≡_, refl, sym, ap, _∙_, subst, subst₂}
-use mathlib.Core.Bool.{Bool, true, false, cond}
-use mathlib.Core.List.{List}
+use mathlib.Core.Bool.{Bool, true, false, cond, _||_}
+use mathlib.Core.Logic.{⊎-elim}
+use mathlib.Core.List.{List, [], _∷_}
 use native.Mathlib.Omega.{arith}
+use native.Mathlib.Numerals.{add-one}
 use lib.IntN.{pos}
-use lib.ListN.{length}
+use lib.ListN.{length, getD}
+use borrow.Author.Tests.{eq-eqb, ne-eqb}
 use Rattle.cells.specs.declared.Cell.{Cell}
 use Rattle.cells.specs.declared.Counts.{Counts}
 use Rattle.cells.specs.declared.Verdict.{Verdict}
 use Rattle.cells.specs.declared.Verdict.the-variants as Verdict
 use Rattle.cells.specs.Checks.{by-verdict}
-use Rattle.lines.specs.Steps.{total}
+use Rattle.lines.specs.Steps.{X, Y, Z, total}
 use Rattle.lines.specs.Preference.{rule-1}
-use Rattle.lines.specs.Lines.{differences, six-cell}
-use Rattle.lines.proofs.Cells.{six-misses-none}
-use Rattle.grids.specs.Grid.{byte-of, solid}
+use Rattle.lines.specs.Lines.{differences, longest, six-cell, cell-26, number-26}
+use Rattle.lines.proofs.Centres.{within-26, grows-26}
+use Rattle.lines.proofs.Cells.{six-misses-none, six-at-26}
+use Rattle.grids.specs.Grid.{byte-of, clear, solid}
 use Rattle.grids.specs.Marks.{complete, marked}
 use Rattle.grids.proofs.Marking.{marked-complete}
+use Rattle.walks.specs.declared.Walker.{Walker}
 use Rattle.walks.specs.declared.Walker.the-variants.{Plain, Adaptive}
 use Rattle.walks.specs.declared.Place.{Place}
 use Rattle.walks.specs.declared.Hit.{Hit}
 use Rattle.walks.specs.declared.FirstHit.{FirstHit}
 use Rattle.walks.specs.declared.FirstHit.the-variants as FirstHit
-use Rattle.walks.specs.Walks.{hit-at, six-count}
+use Rattle.walks.specs.Walks.{is-cell, hit-at, six-count, next-adaptive, next-cell, walk, walk-of}
 use Rattle.walks.specs.Answers.{entered-at, first-hit}
 use Rattle.grids.specs.Inside.{walk-check, InGrid}
 use Rattle.walks.proofs.Runs.{plain-first, by-one, visits-all}
 use Rattle.walks.specs.Numbers.{solid-at, end-of, reads-of, answer-at}
 use Rattle.grids.proofs.Inside.{accepted}
 use Rattle.walks.proofs.Inside.{six-inside}
+use Rattle.walks.proofs.Find.{same-is-cell}
 use Rattle.walks.proofs.Safe.{complete-safe}
+use Rattle.walks.proofs.Numbers.{adaptive-next, Way, face, long, way}
+use Rattle.walks.proofs.Long.{go-long, go-face}
 use Rattle.walks.proofs.Places.{never-falls}
 use Rattle.walks.proofs.Story.{first-hit-is, walk-stops, end-below, no-earlier, not-invented, ends-alike, reads-no-more}
 use Rattle.walks.proofs.Story.{plain-clear, plain-clear-reads, adaptive-clear-most, adaptive-clear-least}
+use Rattle.survey.proofs.Tests.{neither}
 use Rattle.claims.specs.Story.{SameStory, hits, clears, refusals, OneStory, NeverInvented, NothingInTheWay, Reads, WalksEnd}
-use Rattle.claims.specs.Story.{FirstSolid, HitInside, MarkedFirst, HitOnce, WrongWalks, OnTheLine, HitPlace}
+use Rattle.claims.specs.Story.{FirstSolid, HitInside, MarkedFirst, HitOnce, WrongWalks, OnTheLine, HitPlace, StepByStep, AdaptiveStep}
 use Rattle.claims.proofs.Grids.{says-complete}
 
 -- what an answer carries
@@ -230,6 +239,74 @@ module _ (n : Counts) (l : List ℕ) (p q : Cell) where
 
   pub hit-once : HitOnce n l p q
   hit-once = record { once = λ w r s h k. h .says ∙ sym (k .says) }
+
+-- ---- step by step
+
+-- of any walk, from any cell
+module _ (hit : Cell → Bool) (next : Cell → Cell) (q d : Cell) where
+  walk-some : (fuel : ℕ) (w : Cell) → 0 < length (walk hit next q (suc fuel) w)
+  unfolding walk
+  walk-some fuel w = omega arith
+
+  walk-starts : (fuel : ℕ) (w : Cell) → 0 < length (walk hit next q fuel w) → getD (walk hit next q fuel w) 0 d ≡ w
+  unfolding walk
+  walk-starts zero w some = absurd (omega arith)
+  walk-starts (suc fuel) w some = refl
+
+  -- at a cell that is not the last: neither solid nor Q, and what comes next
+  Going : List Cell → ℕ → Type 0
+  Going cells i = (hit (getD cells i d) ≡ false) × (is-cell (getD cells i d) q ≡ false) × (getD cells (suc i) d ≡ next (getD cells i d))
+
+  walk-goes : (fuel : ℕ) (w : Cell) (i : ℕ) → suc i < length (walk hit next q fuel w) → Going (walk hit next q fuel w) i
+  unfolding walk Going
+  walk-goes zero w i lt = absurd (omega arith)
+  walk-goes (suc fuel) w i lt = by (hit w || is-cell w q) refl i lt (walk-goes fuel (next w))
+    where
+      rest : List Cell
+      rest = walk hit next q fuel (next w)
+
+      by : (t : Bool) → (hit w || is-cell w q) ≡ t → (i : ℕ) → suc i < length (w ∷ cond t [] rest) → ((j : ℕ) → suc j < length rest → Going rest j) →
+          Going (w ∷ cond t [] rest) i
+      by true e i lt further = absurd (omega arith)
+      by false e zero lt further = let (h, c) = neither (hit w) (is-cell w q) e in (h, c, walk-starts fuel (next w) (omega arith))
+      by false e (suc i) lt further = further i (omega arith)
+
+module _ (n : Counts) (l : List ℕ) (p q : Cell) where
+  pub step-by-step : StepByStep n l p q
+  unfolding walk-of Going
+  step-by-step = record {
+    starts = λ w. (some w, walk-starts (hit-at n l) (next-cell w n l p q) q p (six-count p q) p (some w));
+    passes = λ w i lt.
+        let (free, other, on) = going w i lt in
+        (free, λ e. let z : _≡_ {A = ℕ} 0 1 = ap (λ b. cond b 1 0) (sym other ∙ same-is-cell _ q e) in omega arith);
+    goes = λ w i lt. going w i lt .2;
+  }
+    where
+      some : (w : Walker) → 0 < length (walk-of w n l p q)
+      some w = rw (add-one (total (differences p q))) (walk-some (hit-at n l) (next-cell w n l p q) q p (total (differences p q)) p)
+
+      going : (w : Walker) (i : ℕ) → suc i < length (walk-of w n l p q) → Going (hit-at n l) (next-cell w n l p q) q p (walk-of w n l p q) i
+      going w = walk-goes (hit-at n l) (next-cell w n l p q) q p (six-count p q) p
+
+  pub adaptive-step : AdaptiveStep n l p q
+  adaptive-step =
+      record {
+        long = λ m lt empty.
+            let is = six-at-26 rule-1 p q m (omega arith) in
+            let most = within-26 (differences p q) (m + 1) (omega arith) in
+            ap (next-adaptive n l p q) is
+            ∙ adaptive-next n l p q (number-26 p q m) (omega (arith, grows-26 (differences p q) m lt, most X, most Y, most Z))
+            ∙ ap (six-cell rule-1 p q) (go-long n l p q m lt (ap (λ c. clear (byte-of n l c)) (sym is) ∙ eq-eqb _ 0 empty))
+            ∙ sym (six-at-26 rule-1 p q (m + 1) (omega arith));
+        short = λ s lt.
+            ⊎-elim
+            (λ other. adaptive-next n l p q s lt ∙ ap (six-cell rule-1 p q) (go-face n l p q s (ne-eqb _ 0 other)))
+            (λ none. adaptive-next n l p q s lt ∙ ap (six-cell rule-1 p q) (by-face s none (way n l p q s lt)));
+      }
+    where
+      by-face : (s : ℕ) {t : ℕ} → ((m : ℕ) → m ≤ longest (differences p q) → cell-26 p q m ≡ six-cell rule-1 p q s → ⊥) → Way n l p q s t → t ≡ suc s
+      by-face s none face = refl
+      by-face s none (long m e h) = absurd (none m (omega (arith, h .below)) (sym (h .cell)))
 
 -- ---- mark, then walk
 

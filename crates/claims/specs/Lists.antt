@@ -1,15 +1,16 @@
 -- What is claimed of the list calls besides their contracts. Assumes nothing.
-use Prim.Native.Nat.{ℕ, _≤_}
+use Prim.Native.Nat.{ℕ, _+_, _*_, _≤_, _<_}
 use mathlib.Core.Path.{_≡_}
 use mathlib.Core.List.{List, [], _∷_, _++_}
 use lib.IntN.{ℤ, pos, negsuc}
-use lib.ListN.{length, replicate}
+use lib.ListN.{length, getD, replicate}
 use Rattle.cells.specs.declared.Cell.{Cell}
 use Rattle.cells.specs.declared.Refusal.{Refusal}
+use Rattle.lines.specs.Steps.{total}
 use Rattle.lines.specs.Preference.{rule-1}
-use Rattle.lines.specs.Lines.{six-line, line-26, InLimit}
+use Rattle.lines.specs.Lines.{differences, longest, six-cell, six-line, cell-26, line-26, InLimit}
 use Rattle.lists.specs.declared.Listed.{Listed}
-use Rattle.lists.specs.declared.Listed.the-variants.{Refused}
+use Rattle.lists.specs.declared.Listed.the-variants.{Cells, Refused}
 use Rattle.lists.specs.Lists.{Lists, Line6, Line26, numbers}
 use Rattle.claims.specs.Example.{at}
 
@@ -18,6 +19,28 @@ pub record ListedOnce (line : List Cell) (p q : Cell) (entry : List ℤ) : Type 
   pub answer : (r s : Listed) (exit last : List ℤ) → Lists line p q entry r exit → Lists line p q entry s last → r ≡ s
   pub memory : (r s : Listed) (exit last : List ℤ) → Lists line p q entry r exit → Lists line p q entry s last → exit ≡ last
   pub untouched : (r : Refusal) (exit : List ℤ) → Lists line p q entry (Refused r) exit → exit ≡ entry
+
+-- the numbers at i, i+1 and i+2 as x, y and z of a cell
+abbrev pub three-at : List ℤ → ℕ → Cell
+three-at l i = record { x = getD l i (pos 0); y = getD l (i + 1) (pos 0); z = getD l (i + 2) (pos 0) }
+
+-- the memory before and after k cells were listed, of a line that has so many cells, `cell n` as its cell n
+pub record CellsAt (many : ℕ) (cell : ℕ → Cell) (entry exit : List ℤ) (k : ℕ) : Type 0 where
+  -- all its cells are listed
+  pub all : k ≡ many
+  -- cell n stands at the numbers 3n, 3n+1 and 3n+2 as x, y and z
+  pub each : (n : ℕ) → n < k → three-at exit (3 * n) ≡ cell n
+  -- what lies behind the k cells stays
+  pub rest : (i : ℕ) → 3 * k ≤ i → getD exit i (pos 0) ≡ getD entry i (pos 0)
+  -- the memory is as long as before
+  pub long : length exit ≡ length entry
+
+-- "A line list writes three numbers a cell, in line order, at the front of the lent slice, and answers the number of cells; the rest stays."
+pub record CellsListed (p q : Cell) (entry exit : List ℤ) (k : ℕ) : Type 0 where
+  -- an accepted list of the 6-line has its A+B+C+1 cells
+  pub six : Line6 p q entry (Cells k) exit → CellsAt (total (differences p q) + 1) (six-cell rule-1 p q) entry exit k
+  -- an accepted list of the 26-line has its M+1 cells
+  pub twenty-six : Line26 p q entry (Cells k) exit → CellsAt (longest (differences p q) + 1) (cell-26 p q) entry exit k
 
 -- the corners of the coordinate limit
 abbrev pub lowest : Cell

@@ -157,6 +157,9 @@ table =
     -- complete marks, both clear, the adaptive walk reads fewer
     ∷ finds Plain (counts 3 2 1) (0 ∷ 0 ∷ 0 ∷ 0 ∷ 0 ∷ 0 ∷ []) (at 0 0 0) (at 2 1 0) (clear 4)
     ∷ finds Adaptive (counts 3 2 1) (0 ∷ 0 ∷ 0 ∷ 0 ∷ 0 ∷ 0 ∷ []) (at 0 0 0) (at 2 1 0) (clear 3)
+    -- also where y or z is the longest axis
+    ∷ finds Adaptive (counts 2 3 1) (0 ∷ 0 ∷ 0 ∷ 0 ∷ 0 ∷ 0 ∷ []) (at 0 0 0) (at 1 2 0) (clear 3)
+    ∷ finds Adaptive (counts 1 2 3) (0 ∷ 0 ∷ 0 ∷ 0 ∷ 0 ∷ 0 ∷ []) (at 0 0 0) (at 0 1 2) (clear 3)
     -- missing marks: a long step lands on the hit
     ∷ finds Plain (counts 6 3 1) long-bytes (at 0 0 0) (at 5 2 0) (hit (at 2 1 0) 2 3 10 4)
     ∷ finds Adaptive (counts 6 3 1) long-bytes (at 0 0 0) (at 5 2 0) (hit (at 2 1 0) 2 3 10 3)

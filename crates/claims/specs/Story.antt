@@ -1,17 +1,18 @@
 -- Demand 3: the plain and the adaptive walk tell one story. Claims about the two first-hit calls, by their contracts: for every grid, every two
 -- ends, and all answers that meet the contracts on the same inputs. Assumes nothing.
-use Prim.Native.Nat.{ℕ, _+_, _*_, _≤_, _<_}
+use Prim.Native.Nat.{ℕ, suc, _+_, _*_, _≤_, _<_}
 use mathlib.Core.Path.{_≡_}
 use mathlib.Core.Bool.{true, false}
 use mathlib.Core.Logic.{_⊎_}
 use mathlib.Core.List.{List, [], _∷_}
+use lib.ListN.{length, getD}
 use Rattle.cells.specs.declared.Cell.{Cell}
 use Rattle.cells.specs.declared.Counts.{Counts}
 use Rattle.cells.specs.declared.Refusal.{Refusal}
 use Rattle.cells.specs.declared.Verdict.the-variants.{Fine}
 use Rattle.lines.specs.Steps.{total}
 use Rattle.lines.specs.Preference.{rule-1}
-use Rattle.lines.specs.Lines.{differences, longest, six-cell}
+use Rattle.lines.specs.Lines.{differences, longest, six-cell, cell-26}
 use Rattle.lines.specs.Segment.{Share, InOpen}
 use Rattle.grids.specs.declared.Completeness.the-variants.{Yes}
 use Rattle.grids.specs.Grid.{byte-of, solid}
@@ -21,7 +22,7 @@ use Rattle.walks.specs.declared.Walker.the-variants.{Plain, Adaptive}
 use Rattle.walks.specs.declared.Hit.{Hit}
 use Rattle.walks.specs.declared.FirstHit.{FirstHit}
 use Rattle.walks.specs.declared.FirstHit.the-variants as FirstHit
-use Rattle.walks.specs.Walks.{hit-at, walk-of}
+use Rattle.walks.specs.Walks.{hit-at, next-cell, walk-of}
 use Rattle.grids.specs.Inside.{InGrid}
 use Rattle.walks.specs.Answers.{entered-at, last-of, Finds}
 use Rattle.claims.specs.Example.{counts, at, example-counts, example-cells, marked-cells}
@@ -100,6 +101,26 @@ pub record MarkedFirst (n : Counts) (l exit : List ℕ) : Type 0 where
 -- 9. One answer for each input.
 pub record HitOnce (n : Counts) (l : List ℕ) (p q : Cell) : Type 0 where
   pub once : (w : Walker) (r s : FirstHit) → Finds w n l p q r → Finds w n l p q s → r ≡ s
+
+-- 10. Each walk starts at P; a cell from which it goes on is neither solid nor Q, and it goes on to what comes next. (7 says where it ends.)
+pub record StepByStep (n : Counts) (l : List ℕ) (p q : Cell) : Type 0 where
+  -- there is a first cell, and it is P
+  pub starts : (w : Walker) → (0 < length (walk-of w n l p q)) × (getD (walk-of w n l p q) 0 p ≡ p)
+  -- a cell of the walk that is not its last is not solid, and not Q
+  pub passes : (w : Walker) (i : ℕ) → suc i < length (walk-of w n l p q) →
+      (hit-at n l (getD (walk-of w n l p q) i p) ≡ false) × (getD (walk-of w n l p q) i p ≡ q → ⊥)
+  -- after it stands what comes next
+  pub goes : (w : Walker) (i : ℕ) → suc i < length (walk-of w n l p q) →
+      getD (walk-of w n l p q) (suc i) p ≡ next-cell w n l p q (getD (walk-of w n l p q) i p)
+
+-- 11. What comes next in the adaptive walk: at a clear cell of the 26-line its next cell, else the next cell of the 6-line.
+pub record AdaptiveStep (n : Counts) (l : List ℕ) (p q : Cell) : Type 0 where
+  -- after a cell of the 26-line that is not its last, and whose byte is 0, comes the next cell of the 26-line
+  pub long : (m : ℕ) → m < longest (differences p q) → byte-of n l (cell-26 p q m) ≡ 0 → next-cell Adaptive n l p q (cell-26 p q m) ≡ cell-26 p q (m + 1)
+  -- after a cell of the 6-line that is not its last, and whose byte is not 0 or which is no cell of the 26-line, comes the next cell of the 6-line
+  pub short : (s : ℕ) → s < total (differences p q) →
+      ((byte-of n l (six-cell rule-1 p q s) ≡ 0 → ⊥) ⊎ ((m : ℕ) → m ≤ longest (differences p q) → cell-26 p q m ≡ six-cell rule-1 p q s → ⊥)) →
+      next-cell Adaptive n l p q (six-cell rule-1 p q s) ≡ six-cell rule-1 p q (suc s)
 
 -- ---- wrong walks, on named inputs
 
