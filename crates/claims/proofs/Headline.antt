@@ -8,13 +8,13 @@ use Rattle.claims.proofs.Refused.{lines-told, grids-told, points-told, 
 use Rattle.claims.proofs.Exports.{exports-are, exports-once, refused-untouched}
 use Rattle.claims.proofs.Flattenings.{flattenings}
 use Rattle.claims.proofs.Words.{one-number}
-use Rattle.claims.proofs.Lists.{listed-once}
+use Rattle.claims.proofs.Lists.{listed-once, cells-listed}
 use Rattle.claims.proofs.Lines.{one-place, six-line-holds, each-cell-touched, no-cell-missing, line-26-holds}
 use Rattle.claims.proofs.Grids as grids
 use Rattle.claims.proofs.Points as points
 use Rattle.claims.proofs.Records as records
 use Rattle.claims.proofs.Sights.{seen-once, nothing-in-sight}
-use Rattle.claims.proofs.Story.{hit-once, first-solid, one-story, never-invented}
+use Rattle.claims.proofs.Story.{hit-once, first-solid, walks-end, step-by-step, adaptive-step, one-story, never-invented}
 
 pub takes-anything : TakesAnything
 takes-anything =
@@ -44,6 +44,9 @@ are-the-papers =
       touched = λ p q. each-cell-touched rule-1 p q .touched;
       none-missing = λ p q. no-cell-missing rule-1 p q .found;
       twenty-six = line-26-holds rule-1;
+      listed = cells-listed;
+      walks = λ n l p q. (step-by-step n l p q, walks-end n l p q);
+      adaptive = adaptive-step;
       plain = first-solid;
       read-back = λ n cells entry exit k. records.read-back-same n cells entry .same exit k;
     }

@@ -11,7 +11,7 @@ use borrow.Author.Tests.{ltb-true}
 use Rattle.cells.specs.declared.Axis.the-variants.{X, Y, Z}
 use Rattle.cells.specs.declared.Refusal.the-variants.{Bytes}
 use Rattle.cells.specs.declared.Verdict.the-variants as Verdict
-use Rattle.lines.specs.Lines.{six-line}
+use Rattle.lines.specs.Lines.{six-line, line-26}
 use Rattle.lines.specs.Preference.{rule-1}
 use Rattle.lines.proofs.Cells.{centre-inside}
 use Rattle.grids.specs.Grid.{count-check, shape, layer-part, layer}
@@ -37,7 +37,7 @@ use Rattle.texts.specs.Text.{decimal}
 use Rattle.grids.specs.declared.Completeness.the-variants as Completeness
 
 pub of-lines : OfLines
-unfolding six-line
+unfolding six-line line-26
 of-lines =
     record {
       share = record { some = lit< tt; most = omega arith };
@@ -46,6 +46,7 @@ of-lines =
       in-order = one-place rule-1 steps-there .there 2 (omega arith) .0;
       last-made = entered rule-1 steps-there .by-last 1 (omega arith);
       listed = record { says = refl; holds = refl };
+      listed-26 = record { says = refl; holds = refl };
       no-room = record { says = refl; holds = refl };
     }
 

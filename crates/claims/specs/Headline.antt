@@ -35,13 +35,13 @@ use Rattle.claims.specs.Refused.{LinesTold, GridsTold, PointsTold, Recor
 use Rattle.claims.specs.Exports.{ExportsAre, ExportsOnce, RefusedUntouched}
 use Rattle.claims.specs.Flattenings.{Flattenings}
 use Rattle.claims.specs.Words.{OneNumber}
-use Rattle.claims.specs.Lists.{ListedOnce}
+use Rattle.claims.specs.Lists.{ListedOnce, CellsListed}
 use Rattle.claims.specs.Lines.{OnePlace, SixLine, TwentySixLine}
 use Rattle.claims.specs.Grids as grids
 use Rattle.claims.specs.Points as points
 use Rattle.claims.specs.Records as records
 use Rattle.claims.specs.Sights.{SeenOnce, OpenWay}
-use Rattle.claims.specs.Story.{SameStory, NoLater, FirstSolid, HitOnce}
+use Rattle.claims.specs.Story.{SameStory, NoLater, FirstSolid, HitOnce, WalksEnd, StepByStep, AdaptiveStep}
 
 -- 1. Every public call takes any numbers and any lent memory, has one answer and one final memory for each input, and refuses by number exactly
 -- where SCOPE's table says, in its order; a refusal writes nothing.
@@ -64,15 +64,18 @@ pub record TakesAnything : Type 1 where
   pub for-c : ExportsAskNothing × ExportsPromised × ExportsAre × Flattenings × ExportsOnce × RefusedUntouched
 
 -- 2. The lines are the paper's, made exact: at each place of the 6-line every crossing made comes before every one not made, ties by rule 1, and no
--- other place has that; its cells go from P to Q, each touched by the segment, and no cell is missing whose inside the segment enters. The plain
--- walk is the 6-line to its first solid cell; the adaptive one is defined in `walks` (`next-adaptive`), and 3 says what it finds. A venue written
--- and read back is the same venue.
+-- other place has that; its cells go from P to Q, each touched by the segment, and no cell is missing whose inside the segment enters. The list
+-- calls write just these cells. Both walks start at P and go on by what comes next, to the first solid cell or to Q: for the plain walk that is the
+-- 6-line to its first solid cell, for the adaptive one long steps at clear cells of the 26-line. A venue written and read back is the same venue.
 pub record AreThePapers : Type 0 where
   pub order : (p q : Cell) → OnePlace rule-1 (differences p q)
   pub six : (p q : Cell) → SixLine rule-1 p q
   pub touched : (p q : Cell) (n : ℕ) → n ≤ total (differences p q) → (k : ℕ) × (d : ℕ) × Share k d × InClosed p q k d (six-cell rule-1 p q n)
   pub none-missing : (p q : Cell) (k d : ℕ) (c : Cell) → Share k d → InOpen p q k d c → (n : ℕ) × (n ≤ total (differences p q)) × (six-cell rule-1 p q n ≡ c)
   pub twenty-six : (p q : Cell) → TwentySixLine rule-1 p q
+  pub listed : (p q : Cell) (entry exit : List ℤ) (k : ℕ) → CellsListed p q entry exit k
+  pub walks : (n : Counts) (l : List ℕ) (p q : Cell) → StepByStep n l p q × WalksEnd n l p q
+  pub adaptive : (n : Counts) (l : List ℕ) (p q : Cell) → AdaptiveStep n l p q
   pub plain : (n : Counts) (l : List ℕ) (p q : Cell) → FirstSolid n l p q
   pub read-back : (n : Counts) (cells entry exit : List ℕ) (k : ℕ) → WritesVenue n cells entry (Wrote k) exit →
       (rest : List ℕ) (bytes part : RefT (List ℕ)) (r : VenueRead) →

@@ -35,7 +35,7 @@ pub record CellsAt (many : ℕ) (cell : ℕ → Cell) (entry exit : List ℤ) (k
   -- the memory is as long as before
   pub long : length exit ≡ length entry
 
--- "A line list writes three numbers a cell, in line order, at the front of the lent slice, and answers the number of cells; the rest stays."
+-- SCOPE A2: what an accepted list answers and writes, cell by cell
 pub record CellsListed (p q : Cell) (entry exit : List ℤ) (k : ℕ) : Type 0 where
   -- an accepted list of the 6-line has its A+B+C+1 cells
   pub six : Line6 p q entry (Cells k) exit → CellsAt (total (differences p q) + 1) (six-cell rule-1 p q) entry exit k

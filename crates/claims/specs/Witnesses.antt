@@ -21,7 +21,7 @@ use Rattle.lines.specs.Preference.{rule-1}
 use Rattle.lines.specs.Lines.{differences, centres, InLimit}
 use Rattle.lines.specs.Segment.{Share, InOpen}
 use Rattle.lists.specs.declared.Listed.the-variants as Listed
-use Rattle.lists.specs.Lists.{numbers, Line6}
+use Rattle.lists.specs.Lists.{Line6, Line26}
 use Rattle.grids.specs.declared.Completeness.the-variants.{Yes, No}
 use Rattle.grids.specs.declared.LayerPart.the-variants.{Part}
 use Rattle.grids.specs.Grid.{size, count-check, Shapes, GivesLayerPart, GivesLayer}
@@ -65,7 +65,10 @@ pub record OfLines : Type 0 where
   pub last-made : LastMade (centres rule-1 steps-there) (place (centres rule-1 steps-there) 2)
       (next (centres rule-1 steps-there) (place (centres rule-1 steps-there) 1))
   -- a list that is written, and one that is refused
-  pub listed : Line6 (at 0 0 0) (at 2 1 0) room (Listed.Cells 4) (numbers (at 0 0 0 ∷ at 1 0 0 ∷ at 1 1 0 ∷ at 2 1 0 ∷ []) ++ pos 7 ∷ [])
+  pub listed : Line6 (at 0 0 0) (at 2 1 0) room (Listed.Cells 4)
+      (pos 0 ∷ pos 0 ∷ pos 0 ∷ pos 1 ∷ pos 0 ∷ pos 0 ∷ pos 1 ∷ pos 1 ∷ pos 0 ∷ pos 2 ∷ pos 1 ∷ pos 0 ∷ pos 7 ∷ [])
+  pub listed-26 : Line26 (at 0 0 0) (at 2 1 0) room (Listed.Cells 3)
+      (pos 0 ∷ pos 0 ∷ pos 0 ∷ pos 1 ∷ pos 1 ∷ pos 0 ∷ pos 2 ∷ pos 1 ∷ pos 0 ∷ pos 7 ∷ pos 7 ∷ pos 7 ∷ pos 7 ∷ [])
   pub no-room : Line6 (at 0 0 0) (at 2 1 0) [] (Listed.Refused Room) []
 
 -- memory that a caller lends
