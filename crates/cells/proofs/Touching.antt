@@ -9,7 +9,7 @@ use borrow.Author.Tests.{leb-true, le-leb}
 use Rattle.cells.specs.declared.Axis.{Axis}
 use Rattle.cells.specs.declared.Axis.the-variants.{X, Y, Z}
 use Rattle.cells.specs.declared.Cell.{Cell}
-use Rattle.cells.specs.Touching.{on, apart, axes-apart, Touches, touching}
+use Rattle.cells.specs.Touching.{on, apart, Touches, touching}
 
 -- both tests hold
 pub and-both : (s t : Bool) → (s && t) ≡ true → (s ≡ true) × (t ≡ true)

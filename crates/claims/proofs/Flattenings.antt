@@ -2,7 +2,7 @@
 use Prim.Native.Nat.{ℕ}
 use mathlib.Core.Path.{_≡_, refl, sym, ap, _∙_}
 use mathlib.Core.Bool.{true, false, cond}
-use mathlib.Core.List.{List, [], _∷_}
+use mathlib.Core.List.{[], _∷_}
 use mathlib.Core.Logic.{_⊎_, inl, inr, _↔_}
 use mathlib.Core.Option.{Option, none, some, Option·map}
 use native.Mathlib.Omega.{arith}
@@ -35,7 +35,7 @@ use Rattle.walks.specs.declared.Hit.{Hit}
 use Rattle.walks.specs.declared.FirstHit.{FirstHit}
 use Rattle.walks.specs.declared.FirstHit.the-variants as FirstHit
 use Rattle.walks.specs.Answers as walk
-use Rattle.walks.specs.Answers.{first-hit, told-hit, WalkSaid}
+use Rattle.walks.specs.Answers.{first-hit, told-hit}
 use Rattle.survey.specs.declared.Lookup.{Lookup}
 use Rattle.survey.specs.declared.Lookup.the-variants as Lookup
 use Rattle.survey.specs.Survey.{told-lookup}
@@ -43,7 +43,7 @@ use Rattle.sight.specs.declared.Block.{Block}
 use Rattle.sight.specs.declared.Sight.{Sight}
 use Rattle.sight.specs.declared.Sight.the-variants as Sight
 use Rattle.sight.specs.Sight as sights
-use Rattle.sight.specs.Sight.{told-sight, SightSaid}
+use Rattle.sight.specs.Sight.{told-sight}
 use Rattle.records.specs.declared.venues.VenueRead.{VenueRead}
 use Rattle.records.specs.declared.venues.VenueRead.the-variants as VenueRead
 use Rattle.records.specs.declared.pairs.PairRead.{PairRead}
@@ -70,7 +70,6 @@ use Rattle.oatmarten.specs.GridCalls.{flat-verdict, flat-complete, flat-part}
 use Rattle.oatmarten.specs.WalkCalls.{flat-hit}
 use Rattle.oatmarten.specs.SightCalls.{flat-found, flat-sight}
 use Rattle.oatmarten.specs.RecordCalls.{flat-venue, flat-pair, flat-written}
-use Rattle.claims.proofs.Grids.{one}
 use Rattle.claims.specs.Flattenings.{Flattened, Flattenings, InTable, SaidNumbers, FlatRows, InputRows}
 
 -- ---- the numbers of a refusal: they have a left inverse

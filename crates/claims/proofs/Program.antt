@@ -1,7 +1,7 @@
 -- The program's claims: what a step says of a frame it says of all that is left of the input, so the steps give the whole output. Assumes nothing.
-use Prim.Native.Nat.{ℕ, zero, suc, _+_, _≤_, _<_}
+use Prim.Native.Nat.{ℕ, zero, suc, _≤_}
 use mathlib.Core.Path.{_≡_, refl, sym, ap, ap₂, _∙_, subst}
-use mathlib.Core.List.{List, [], _++_, append-nil, _∷_}
+use mathlib.Core.List.{List, [], _++_, append-nil}
 use mathlib.Core.Bool.{Bool, true, false, cond}
 use mathlib.Core.Logic.{_⊎_, inl, inr}
 use native.Mathlib.Omega.{arith}
@@ -47,7 +47,7 @@ use Rattle.program.specs.declared.Next.{Next}
 use Rattle.program.specs.declared.Next.the-variants.{On, Over}
 use Rattle.program.specs.declared.Step.{Step}
 use Rattle.program.specs.Program.{Said, venue-most, pair-most, beyond, venue-said, pair-said, then-on, pairs, after-venue, output, frame, frame-length}
-use Rattle.program.specs.Program.{after-frame, Says, text-room, venue-refused, said-of-venue, after-refusal, answers, walk-lines, said-of-walks, after-record}
+use Rattle.program.specs.Program.{after-frame, Says, text-room, after-refusal, answers, walk-lines, said-of-walks}
 use Rattle.program.proofs.Frames.{venue-framed, venue-on, venue-taken, read-framed, cells-framed, pair-framed, pair-on, after-same, less-left, beyond-is}
 use Rattle.claims.specs.Program.{Pairs, last, next, Runs, ends, begins, Writes, OneStep, example-input}
 use Rattle.claims.specs.Program.{WrongPrograms, Walked, AllWalked, going-on, FiveOrLines}

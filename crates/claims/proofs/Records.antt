@@ -28,9 +28,8 @@ use Rattle.records.specs.declared.writing.Written.{Written}
 use Rattle.records.specs.declared.writing.Written.the-variants as Written
 use Rattle.records.specs.Writing.{written-version, head-bytes, record-length, write-check, after-writing, WritesVenue}
 use Rattle.records.proofs.RoundTrip.{read-back, cells-back, front-written, record-fits, same-bytes}
-use Rattle.claims.specs.Example.{example-counts, example-cells}
 use Rattle.claims.specs.Records.{OneAnswer, Right, RightPair, Accepted, LengthTested, ThePart, SameVenue, ReadBack, WrittenBack, NotLookedAt}
-use Rattle.claims.specs.Records.{example-venue, example-room, minus-one-pair, NumbersRead, WrongRecords}
+use Rattle.claims.specs.Records.{minus-one-pair, NumbersRead, WrongRecords}
 use Rattle.claims.proofs.Grids.{one, one-place}
 
 -- 1 where a venue was written

@@ -4,7 +4,7 @@ use native.Mathlib.Omega.{arith}
 use mathlib.Core.Path.{_≡_, refl, sym, ap, _∙_}
 use mathlib.Core.Bool.{Bool, true, false, cond}
 use mathlib.Core.List.{List, []}
-use mathlib.Core.Logic.{_↔_, _⊎_, inl, inr}
+use mathlib.Core.Logic.{_↔_, inl, inr}
 use lib.IntN.{ℤ}
 use lib.ListN.{length}
 use denote.Ref.{RefT}
@@ -43,7 +43,6 @@ use Rattle.survey.specs.declared.Placement.{Placement}
 use Rattle.survey.specs.declared.Point.{Point}
 use Rattle.survey.specs.Survey.{placement-check, Tested, quotients, point-check, cell-at, look-up, cell-of, LooksUp, told-lookup}
 use Rattle.survey.proofs.Lookups.{lookup-found}
-use Rattle.sight.specs.declared.Block.{Block}
 use Rattle.sight.specs.declared.Sight.{Sight}
 use Rattle.sight.specs.declared.Sight.the-variants as Sight
 use Rattle.sight.specs.Sight as sights

@@ -2,7 +2,7 @@
 use Prim.Native.Nat.{ℕ, suc, _+_, _≤_, _<_}
 use mathlib.Core.Path.{_≡_}
 use mathlib.Core.Logic.{_↔_}
-use lib.IntN.{ℤ, pos, negsuc, _+ℤ_}
+use lib.IntN.{pos, negsuc, _+ℤ_}
 use lib.Signed.{ltZ, _≤ℤ_}
 use lib.ListN.{length, getD}
 use Rattle.cells.specs.declared.Cell.{Cell}

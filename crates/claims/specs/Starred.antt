@@ -22,7 +22,6 @@ use Rattle.records.specs.Pairs.{pair-read, told-pair}
 use Rattle.program.specs.Program.{output}
 use Rattle.walks.specs.declared.Walker.{Walker}
 use Rattle.walks.specs.declared.Walker.the-variants.{Plain, Adaptive}
-use Rattle.walks.specs.declared.Hit.{Hit}
 use Rattle.walks.specs.Answers as said
 use Rattle.walks.specs.Answers.{first-hit, told-hit, WalkSaid}
 use Rattle.survey.specs.declared.Placement.{Placement}

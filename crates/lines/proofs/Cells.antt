@@ -1,15 +1,11 @@
 -- The 6-line and the 26-line as cells: step space carried over to the lattice, for every two ends and any order of preference. Assumes nothing.
 use mathlib.Core.Path.{_≡_, refl, sym, ap, ap₂, _∙_, fun-ext}
-use mathlib.Core.Logic.{_⊎_, inl, inr, ⊎-elim, _↔_}
 use mathlib.Core.Bool.{true}
-use mathlib.Core.List.{List, [], _∷_, _++_}
-use Prim.Native.Nat.{ℕ, zero, suc, _+_, _-_, _*_, _≤_, _<_, min}
-use native.Mathlib.Omega.{arith, by-contra}
-use native.Mathlib.Numerals.{add-one}
+use Prim.Native.Nat.{ℕ, zero, suc, _+_, _-_, _*_, _≤_, _<_}
+use native.Mathlib.Omega.{arith}
 use lib.IntN.{ℤ, pos, negsuc, _-ℤ_}
 use lib.Signed.{leZ}
-use lib.ListN.{length, getD, length-append, List·getD-append}
-use lib.Seq.{getD-append-add}
+use lib.ListN.{length, getD}
 use Rattle.cells.specs.declared.Cell.{Cell}
 use Rattle.cells.specs.Tabulate.{tabulate}
 use Rattle.cells.specs.Touching.{on, apart, differ, Touches}
@@ -24,7 +20,7 @@ use Rattle.lines.specs.Lines.{differences, cell-of, centres, six-cell, s
 use Rattle.lines.specs.Segment.{Share, InClosed, InOpen}
 use Rattle.lines.proofs.Steps.{bump, total-bump, same-self, Cmp, here, other, cmp}
 use Rattle.lines.proofs.Merge.{Next, Rule}
-use Rattle.lines.proofs.Fractions.{Before, Good, InClosedSteps, InOpenSteps, laws, next-rule, place-start, place-total}
+use Rattle.lines.proofs.Fractions.{Before, Good, InClosedSteps, InOpenSteps, next-rule, place-start, place-total}
 use Rattle.lines.proofs.Fractions.{place-suc, place-on, place-end, start-touched, entered-touched, none-left-out}
 use Rattle.lines.proofs.Centres.{centres-good, longest-most, is-place-26, skipped-26, moved-start, moved-end, moved-longest, moved-grows, moved-by-one}
 use Rattle.lines.proofs.Towards.{towards-start, towards-end, towards-apart, Passed, open-passed, passed-closed, centre-open}

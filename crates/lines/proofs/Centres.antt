@@ -1,17 +1,17 @@
 -- The lines of SCOPE in step space: crossings at (1 + 2i) / (2D), any order of preference; the 26-line by the floor formula. Assumes nothing.
-use mathlib.Core.Path.{_≡_, refl, sym, ap, _∙_, fun-ext}
-use mathlib.Core.Logic.{_⊎_, inl, inr, ⊎-elim, _↔_}
-use Prim.Native.Nat.{ℕ, zero, suc, _+_, _-_, _*_, _/_, _≤_, _<_, max}
+use mathlib.Core.Path.{_≡_, refl, ap, fun-ext}
+use mathlib.Core.Logic.{_⊎_, inl, inr, _↔_}
+use Prim.Native.Nat.{ℕ, zero, suc, _+_, _*_, _/_, _≤_, _<_, max}
 use native.Mathlib.Omega.{arith, by-contra, both-ways}
-use native.Mathlib.Nat.{div-eq-of-lt-le, mul-le-mul-right}
+use native.Mathlib.Nat.{div-eq-of-lt-le}
 use native.Mathlib.Decide.{decLe}
-use Rattle.lines.specs.Steps.{Axis, X, Y, Z, Steps, total, same, after-steps}
-use Rattle.lines.specs.Crossings.{Course, upper, place, MadeUpto}
+use Rattle.lines.specs.Steps.{Axis, X, Y, Z, Steps, total}
+use Rattle.lines.specs.Crossings.{Course, place, MadeUpto}
 use Rattle.lines.specs.Preference.{Preference, rule-1}
 use Rattle.lines.specs.Lines.{centres, longest, moved-26, place-26}
-use Rattle.lines.proofs.Steps.{lt-or-ge, walk-start, walk-total, total-lt}
+use Rattle.lines.proofs.Steps.{lt-or-ge, total-lt}
 use Rattle.lines.proofs.Merge.{Within, OnLine, fewer-is-below}
-use Rattle.lines.proofs.Fractions.{Before, Good, after, laws, place-on, place-start, place-total}
+use Rattle.lines.proofs.Fractions.{Before, Good, after, laws, place-on, place-total}
 use Rattle.lines.proofs.Fractions.{on-is-place, after-iff, after-within, after-upto, upto-on}
 
 pub centres-good : (r : Preference) (D : Steps) → Good (centres r D)

@@ -2,14 +2,14 @@
 -- whose ends lie inside their cells, and every order of preference: the order has the laws of an order; the crossings up to n/d lead to a place
 -- on the line; no cell whose inside meets the segment is left out; each cell is touched. Assumes nothing.
 use mathlib.Core.Path.{_≡_, refl, sym, ap, _∙_}
-use mathlib.Core.Logic.{_⊎_, inl, inr, ⊎-elim, _≢_, _↔_}
+use mathlib.Core.Logic.{inl, inr, ⊎-elim, _≢_, _↔_}
 use mathlib.Core.Bool.{Bool, true, false, cond, not, _&&_, _||_}
 use Prim.Native.Nat.{ℕ, zero, suc, _+_, _-_, _*_, _/_, _≤_, _<_}
 use native.Mathlib.Omega.{arith, by-contra}
 use native.Mathlib.Nat.{add-zero, mul-le-mul, mul-le-mul-left, mul-le-mul-right, mul-lt-mul-of-pos-right, le-div-iff-mul-le, one-le-mul}
 use lib.Dec.{ltb, eqb}
-use borrow.Author.Tests.{ltb-true, ltb-false, lt-ltb, le-ltb, eqb-true, eq-eqb, ne-eqb}
-use Rattle.lines.specs.Steps.{Axis, X, Y, Z, Steps, total, same, after-steps}
+use borrow.Author.Tests.{ltb-true, ltb-false, lt-ltb, le-ltb, eq-eqb, ne-eqb}
+use Rattle.lines.specs.Steps.{Axis, Steps, total, same}
 use Rattle.lines.specs.Crossings.{Course, upper, before, has-more, sooner, next, place, InOrder, LastMade, MadeUpto}
 use Rattle.lines.proofs.Steps.{Cmp, here, other, cmp, same-self, lt-or-ge, bump, walk-start, walk-suc, walk-total}
 use Rattle.lines.proofs.Merge.{Laws, Within, OnLine, Next, Rule, Leads, done, itself, wins, reached, walk-on}

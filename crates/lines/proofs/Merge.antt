@@ -2,7 +2,7 @@
 -- alone: a place on the line is told by its number of crossings, and the walk that always takes the crossing that comes first goes through just
 -- these places. Knows nothing of fractions. Assumes nothing.
 use mathlib.Core.Path.{_≡_, refl, sym}
-use mathlib.Core.Logic.{_⊎_, inl, inr, ⊎-elim}
+use mathlib.Core.Logic.{_⊎_, ⊎-elim}
 use Prim.Native.Nat.{ℕ, zero, suc, _+_, _-_, _≤_, _<_}
 use native.Mathlib.Omega.{arith, by-contra, both-ways}
 use native.Mathlib.Nat.{eq-or-lt-of-le}

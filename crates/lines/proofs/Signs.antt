@@ -1,23 +1,23 @@
 -- The decision values: their signs, with the tie bit, tell the order of two crossings under any preference; figure 6 is the instance of rule 1;
 -- a step moves them by figure 6's sums; they stay small; and they make the 26-line too. Assumes nothing.
 use mathlib.Core.Path.{_≡_, refl, sym, ap, ap₂, _∙_}
-use mathlib.Core.Logic.{_⊎_, inl, inr, ⊎-elim, _↔_}
+use mathlib.Core.Logic.{⊎-elim, _↔_}
 use mathlib.Core.Bool.{Bool, true, false, cond}
-use Prim.Native.Nat.{ℕ, zero, suc, _+_, _-_, _*_, _≤_, _<_}
-use native.Mathlib.Omega.{arith, by-contra}
+use Prim.Native.Nat.{ℕ, _+_, _*_, _≤_, _<_}
+use native.Mathlib.Omega.{arith}
 use native.Mathlib.Nat.{mul-le-mul}
 use lib.Dec.{ltb}
 use lib.IntN.{ℤ, pos, negsuc, _+ℤ_, _-ℤ_}
 use lib.Signed.{ltZ, _≤ℤ_}
 use borrow.Author.Tests.{lt-ltb, le-ltb}
-use Rattle.cells.proofs.Signed.{up, dn, same-number, one-sided, sum-is, diff-is, lt-ltZ, le-ltZ, ≤ℤ-is}
+use Rattle.cells.proofs.Signed.{same-number, one-sided, sum-is, diff-is, lt-ltZ, le-ltZ, ≤ℤ-is}
 use Rattle.lines.specs.declared.Tripod.{Tripod}
 use Rattle.lines.specs.Steps.{Axis, X, Y, Z, Steps, total, same}
-use Rattle.lines.specs.Crossings.{Course, upper, before, next}
+use Rattle.lines.specs.Crossings.{before, next}
 use Rattle.lines.specs.Preference.{Preference, rule-1}
 use Rattle.lines.specs.Lines.{centres, longest, place-26}
 use Rattle.lines.specs.Decisions.{decision, e-xy, e-xz, e-zy, values, by-signs, doubled, moved-values}
-use Rattle.lines.proofs.Steps.{Cmp, here, other, cmp, same-self, lt-or-ge, bump, open-axis}
+use Rattle.lines.proofs.Steps.{same-self, lt-or-ge, bump, open-axis}
 use Rattle.lines.proofs.Merge.{Within, Next, Rule, Leads, itself, leads-trans, leader-is-next, next-unique}
 use Rattle.lines.proofs.Fractions.{Before, ahead, before-test, laws, next-rule, before-leads, other-leads}
 use Rattle.lines.proofs.Centres.{centres-good, longest-most, moved-longest, moves-iff}

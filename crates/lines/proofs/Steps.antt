@@ -1,5 +1,5 @@
 -- Laws of step space, over variable axes. Assumes nothing.
-use mathlib.Core.Path.{_≡_, refl, ap, fun-ext}
+use mathlib.Core.Path.{_≡_, refl, fun-ext}
 use mathlib.Core.Logic.{_⊎_, inl, inr}
 use Prim.Native.Nat.{ℕ, zero, suc, _+_, _≤_, _<_}
 use native.Mathlib.Omega.{arith}

@@ -1,12 +1,12 @@
 -- One axis, in both directions: coordinates moved from p towards q, and where the segment lies among them. This is the one place where signs
 -- are looked at. Assumes nothing.
-use mathlib.Core.Path.{_≡_, refl, sym, ap, _∙_}
+use mathlib.Core.Path.{_≡_, refl, ap}
 use mathlib.Core.Logic.{_⊎_, inl, inr, ⊎-elim, _↔_}
-use mathlib.Core.Bool.{Bool, true, false, cond}
-use Prim.Native.Nat.{ℕ, zero, suc, _+_, _-_, _*_, _≤_, _<_}
+use mathlib.Core.Bool.{Bool, true, false}
+use Prim.Native.Nat.{ℕ, _+_, _-_, _*_, _≤_, _<_}
 use native.Mathlib.Omega.{arith, by-contra}
 use native.Mathlib.Nat.{mul-le-mul-left}
-use lib.IntN.{ℤ, pos, _+ℤ_, _-ℤ_, _*ℤ_}
+use lib.IntN.{ℤ, pos, _-ℤ_, _*ℤ_}
 use lib.Signed.{leZ, _≤ℤ_, _<ℤ_}
 use Rattle.cells.specs.Touching.{apart}
 use Rattle.cells.proofs.Signed.{up, dn, same-number, one-sided, sum-is, diff-is, times-up, times-dn, abs-is, leZ-true, leZ-false, ≤ℤ-is, <ℤ-is}

@@ -1,6 +1,6 @@
 -- SCOPE L6, L7: the three decision values of figure 6 at a place of the line, the tests of their signs and the sums that move them.
 -- Assumes nothing.
-use Prim.Native.Nat.{ℕ, _+_, _*_}
+use Prim.Native.Nat.{_+_, _*_}
 use mathlib.Core.Bool.{cond}
 use lib.IntN.{ℤ, pos, _+ℤ_, _-ℤ_}
 use lib.Signed.{ltZ}

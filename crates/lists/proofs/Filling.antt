@@ -21,7 +21,7 @@ use Rattle.tripod.specs.Tripod.{NextFace}
 use Rattle.lists.specs.declared.six.SixWay.{SixWay}
 use Rattle.lists.specs.declared.six.SixSpot.{SixSpot}
 use Rattle.lists.specs.Lists.{filled}
-use Rattle.lists.specs.Way.{WayOf, SixSpotAt, put3, crossed-six}
+use Rattle.lists.specs.Kept.{SixWayOf, SixSpotAt, put3, crossed-six}
 use Rattle.lists.proofs.Line.{spot-crossed}
 use Rattle.lists.proofs.Front.{front, put-next, front-filled}
 
@@ -75,7 +75,7 @@ spot-start p q t s z e v =
 abbrev pub C : Cell → Cell → Course
 C p q = centres rule-1 (differences p q)
 
-module _ (p q : Cell) (w : SixWay) (way : WayOf p q w) where
+module _ (p q : Cell) (w : SixWay) (way : SixWayOf p q w) where
   pub six-turn :
       (m : ℕ) (s : SixSpot) (n : Axis) → m < total (differences p q) → SixSpotAt p q (place (C p q) m) s → NextFace (s .e) n →
       SixSpotAt p q (place (C p q) (m + 1)) (crossed-six w n s)

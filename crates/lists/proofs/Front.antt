@@ -2,12 +2,11 @@
 use mathlib.Core.Path.{_≡_, refl, sym, ap, ap₂, _∙_, subst}
 use mathlib.Core.Bool.{true, not}
 use mathlib.Core.List.{List, [], _∷_, _++_}
-use Prim.Native.Nat.{ℕ, zero, suc, _+_, _*_, _≤_, _<_}
+use Prim.Native.Nat.{ℕ, _+_, _*_, _≤_, _<_}
 use native.Mathlib.Omega.{arith}
 use native.Mathlib.Numerals.{add-one, add-two}
 use lib.IntN.{ℤ}
-use lib.Dec.{ltb}
-use lib.ListN.{length, set, take, drop, length-append, length-drop}
+use lib.ListN.{length, drop, length-append, length-drop}
 use lib.Seq.{sets-eq, take-at, drop-append-add, drop-drop}
 use borrow.Author.Tests.{lt-ltb, le-ltb, not-false}
 use Rattle.cells.specs.declared.Cell.{Cell}
@@ -20,14 +19,13 @@ use Rattle.cells.specs.declared.End.the-variants.{P, Q}
 use Rattle.cells.specs.Checks.{refuse-when}
 use Rattle.cells.specs.Touching.{on}
 use Rattle.cells.proofs.Checks.{fine-first, fine-rest, passed}
-use Rattle.cells.specs.declared.Verdict.{Verdict}
 use Rattle.cells.specs.declared.Verdict.the-variants.{Fine, Refused}
 use Rattle.lines.specs.Lines.{in-limit, InLimit}
 use Rattle.cells.specs.Tabulate.{tabulate}
 use Rattle.cells.proofs.Tabulate.{tabulate-length}
 use Rattle.lists.specs.declared.Listed.the-variants as Listed
 use Rattle.lists.specs.Lists.{end-check, ends-check, numbers, filled, Lists}
-use Rattle.lists.specs.Way.{put3}
+use Rattle.lists.specs.Kept.{put3}
 
 -- ---- numbers
 

@@ -21,7 +21,7 @@ use Rattle.lines.proofs.Signs.{step-moves}
 use Rattle.tripod.proofs.Laws.{limit-parts, place-small, doubled-small}
 use Rattle.lists.specs.declared.six.SixWay.{SixWay}
 use Rattle.lists.specs.declared.six.SixSpot.{SixSpot}
-use Rattle.lists.specs.Way.{unit, heading, stepped-cell, WayOf, SixSpotAt, crossed-six, CanCrossSix}
+use Rattle.lists.specs.Kept.{unit, heading, stepped-cell, SixWayOf, SixSpotAt, crossed-six, CanCrossSix}
 
 -- ---- one axis
 
@@ -67,7 +67,7 @@ stepped-on p q t X = λ i. record { x = towards-next (p .x) (q .x) (t X) i; y = 
 stepped-on p q t Y = λ i. record { x = towards-kept (p .x) (q .x) (t X) i; y = towards-next (p .y) (q .y) (t Y) i; z = towards-kept (p .z) (q .z) (t Z) i }
 stepped-on p q t Z = λ i. record { x = towards-kept (p .x) (q .x) (t X) i; y = towards-kept (p .y) (q .y) (t Y) i; z = towards-next (p .z) (q .z) (t Z) i }
 
-module _ (p q : Cell) (w : SixWay) (way : WayOf p q w) where
+module _ (p q : Cell) (w : SixWay) (way : SixWayOf p q w) where
   -- across a face along n lies the spot of the place one step further
   pub spot-crossed : (t : Steps) (s : SixSpot) (n : Axis) → SixSpotAt p q t s → SixSpotAt p q (bump t n) (crossed-six w n s)
   spot-crossed t s n h =

@@ -23,11 +23,11 @@ use Rattle.lines.proofs.Towards.{towards-start}
 use Rattle.lists.specs.declared.twenty_six.Pace.{Pace}
 use Rattle.lists.specs.declared.twenty_six.Coordinate.{Coordinate}
 use Rattle.lists.specs.declared.twenty_six.Coordinates.{Coordinates}
-use Rattle.lists.specs.Way.{unit, pace, first-of, next-of, CanMove, paces, firsts, nexts, CanMoves, cell-at}
+use Rattle.lists.specs.Kept.{unit, pace, first-of, next-of, CanMove, paces, firsts, nexts, CanMoves, cell-at}
 use Rattle.lists.proofs.Line.{towards-next, towards-small, unit-small}
 
 -- what is due at cell m: the way to cell m + 1, 2(m+1)D over 2M, less the middle of the cells moved and the next, (2k+1)M over 2M
-abbrev pub due-26 : ℕ → ℕ → ℕ → ℤ
+abbrev pub due-26 : (M D m : ℕ) → ℤ
 due-26 M D m = pos (2 * (m + 1) * D) -ℤ pos ((2 * moved-26 M D m + 1) * M)
 
 -- the coordinate of cell m

@@ -1,2 +1,2 @@
 pub mod Lists
-pub mod Way
+pub mod Kept

@@ -2,7 +2,7 @@
 ghost use mathlib.Core.Path.{_≡_};
 ghost use Rattle.lines.specs.Lines.{in-limit};
 ghost use Rattle.lists.specs.Lists.{end-check, ends-check};
-ghost use Rattle.lists.specs.Way.{unit};
+ghost use Rattle.lists.specs.Kept.{unit};
 use cells::Axis;
 use cells::Cell;
 use cells::End;

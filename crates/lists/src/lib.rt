@@ -2,7 +2,7 @@
 ghost use mathlib.Core.Path.{_≡_};
 ghost use Prim.Native.Nat.{_+_, _≤_};
 ghost use lib.ListN.{length};
-ghost use Rattle.lists.specs.Way.{put3};
+ghost use Rattle.lists.specs.Kept.{put3};
 
 mod ends; // the tests of the ends, and the way from one to the other
 mod six;

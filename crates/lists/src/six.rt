@@ -7,7 +7,7 @@ ghost use Rattle.lines.specs.Preference.{rule-1};
 ghost use Rattle.lines.specs.Steps.{total};
 ghost use Rattle.tripod.specs.Tripod.{steps, Short};
 ghost use Rattle.lists.specs.Lists.{filled, Line6};
-ghost use Rattle.lists.specs.Way.{stepped-cell, crossed-six, CanStep, CanCrossSix, WayOf, Measured};
+ghost use Rattle.lists.specs.Kept.{stepped-cell, crossed-six, CanStep, CanCrossSix, SixWayOf, Measured};
 use crate::Listed;
 use crate::ends::check_ends;
 use crate::ends::unit_to;
@@ -40,9 +40,9 @@ pub struct SixSpot {
 }
 
 // The way from p to q.
-fn way_of(p: Cell, q: Cell, d: Diffs) -> SixWay
+fn six_way_of(p: Cell, q: Cell, d: Diffs) -> SixWay
     requires { ⌜ InLimit p × InLimit q × (steps d ≡ differences p q) × Short d ⌝ }
-    ensures { λ r. ⌜ WayOf p q r ⌝ }
+    ensures { λ r. ⌜ SixWayOf p q r ⌝ }
 {
     let x = unit_to(p.x, q.x);
     let y = unit_to(p.y, q.y);
@@ -101,7 +101,7 @@ fn fill6(out: &mut [i32], p: Cell, q: Cell, d: Diffs)
     requires { ⌜ Measured p q d × (3 * (total (steps d) + 1) ≤ length (now out)) ⌝ }
     ensures { λ _. ⌜ now (out .exit) ≡ filled (six-line rule-1 p q) (now (out .entry)) ⌝ }
 {
-    let w = way_of(p, q, d);
+    let w = six_way_of(p, q, d);
     let e = tripod::first_values(d);
     let mut s = SixSpot { at: p, e: e };
     let crossings = d.total();

@@ -5,7 +5,7 @@ ghost use lib.ListN.{length};
 ghost use Rattle.lines.specs.Lines.{longest, line-26};
 ghost use Rattle.tripod.specs.Tripod.{steps, Short};
 ghost use Rattle.lists.specs.Lists.{filled, Line26};
-ghost use Rattle.lists.specs.Way.{pace, first-of, next-of, paces, firsts, nexts, cell-at, CanMove, CanMoves, Measured};
+ghost use Rattle.lists.specs.Kept.{pace, first-of, next-of, paces, firsts, nexts, cell-at, CanMove, CanMoves, Measured};
 use crate::Listed;
 use crate::ends::check_ends;
 use crate::ends::unit_to;

@@ -5,7 +5,7 @@ use native.Mathlib.Numerals.{add-one}
 use native.Mathlib.Omega.{arith}
 use native.Mathlib.Decide.{decLt}
 use mathlib.Core.Path.{_≡_, refl, sym, ap, _∙_}
-use mathlib.Core.Bool.{Bool, true, false, _&&_, _||_, true≢false}
+use mathlib.Core.Bool.{Bool, true, false, _&&_, true≢false, _||_}
 use mathlib.Core.Logic.{⊎-elim}
 use mathlib.Core.List.{List}
 use lib.ListN.{length, getD, set, replicate, length-set, length-replicate}
@@ -189,7 +189,7 @@ module _ (n : Counts) (l : List ℕ) (s : Shaped n (length l)) (r : ℕ) (below 
       place y z = omega arith
 
   -- the byte of a cell is solid
-  solid-at : ℕ → ℕ → ℕ → Bool
+  solid-at : (x z y : ℕ) → Bool
   solid-at x z y = solid (getD l (index n x y z) 0)
 
   column-beside : (x x′ : ℕ) → Next x x′ (n .nx) → in-column n l r x′ ≡ true → SolidBeside n l x (r % n .ny) (r / n .ny)

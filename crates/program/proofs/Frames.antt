@@ -17,7 +17,7 @@ use Rattle.records.specs.Venues.{venue-read, venue-cells}
 use Rattle.records.specs.Pairs.{pair-read}
 use Rattle.records.proofs.Following.{same-announced, venue-unread, pair-unread, cells-unread}
 use Rattle.program.specs.declared.Next.the-variants.{On, Over}
-use Rattle.program.specs.Program.{Said, venue-most, pair-most, beyond, venue-refused, said-of-venue, venue-said, pair-refused}
+use Rattle.program.specs.Program.{venue-most, pair-most, beyond, venue-refused, said-of-venue, venue-said, pair-refused}
 use Rattle.program.specs.Program.{said-of-pair, pair-said, after-record, frame-length, frame, after-frame}
 
 -- ---- the length that stands at the front

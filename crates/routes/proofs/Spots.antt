@@ -63,7 +63,7 @@ byte-limit n bytes s i h = record { limit = at-axis }
 -- ---- a step of the byte's place
 
 -- from i to i′, w further on or back
-abbrev moved-by : Bool → ℕ → ℕ → ℕ → Type 0
+abbrev moved-by : Bool → (w i i′ : ℕ) → Type 0
 moved-by true w i i′ = i′ ≡ i + w
 moved-by false w i i′ = i ≡ i′ + w
 

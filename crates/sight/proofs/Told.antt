@@ -1,10 +1,9 @@
 -- The answer's case and values tell which answer it is: the definition that says them has a left inverse. Assumes nothing.
 use mathlib.Core.Path.{_≡_, refl, ap}
-use mathlib.Core.Logic.{_⊎_, inl, inr}
+use mathlib.Core.Logic.{_⊎_}
 use mathlib.Core.Option.{Option, some, Option·map}
 use Rattle.cells.specs.Refusals.{Told}
 use Rattle.cells.proofs.Refusals.{told-back, tells-apart, untold-by}
-use Rattle.sight.specs.declared.Block.{Block}
 use Rattle.sight.specs.declared.Sight.{Sight}
 use Rattle.sight.specs.declared.Sight.the-variants.{Clear, Blocked, Refused}
 use Rattle.sight.specs.Sight.{SightSaid, clear, blocked, told-sight}

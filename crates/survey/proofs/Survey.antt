@@ -1,11 +1,10 @@
 -- What passed tests tell: counts from 1 to 1,024, a finite placement with an edge above 0, and so quotients from 0 up to the counts.
 -- Assumes nothing.
-use Prim.Native.Nat.{ℕ, zero, suc, _≤_, _<_}
+use Prim.Native.Nat.{ℕ}
 use native.Mathlib.Omega.{arith}
-use mathlib.Core.Path.{_≡_, refl}
+use mathlib.Core.Path.{_≡_}
 use mathlib.Core.Bool.{Bool, true, false, not}
-use borrow.Author.Tests.{eqb-false, ltb-false, not-false}
-use lib.Dec.{eqb, ltb}
+use borrow.Author.Tests.{not-false}
 use lib.Ieee.{Float, lt}
 use lib.Ieee.Scale.{finite}
 use Rattle.cells.specs.declared.Axis.{Axis}

@@ -1,7 +1,7 @@
 -- SCOPE, S: one surveyed value as a quotient and its cell along one axis, over the
 -- toolchain's account of IEEE 754 (`lib.Ieee`). Assumes nothing.
 use Prim.Native.Nat.{ℕ, zero, suc, _+_}
-use mathlib.Core.Bool.{Bool, _&&_, _||_, cond}
+use mathlib.Core.Bool.{Bool, _&&_, cond, _||_}
 use lib.IntN.{pos}
 use lib.Ieee.{Float, binary64, sub, div, lt, le, ofInt}
 

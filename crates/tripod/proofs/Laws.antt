@@ -3,23 +3,21 @@
 use mathlib.Core.Path.{_≡_, refl, sym, ap, ap₂, _∙_, fun-ext, subst}
 use mathlib.Core.Logic.{_↔_, _≢_}
 use mathlib.Core.Bool.{Bool, true, false}
-use Prim.Native.Nat.{ℕ, suc, _+_, _-_, _*_, _^_, _≤_, _<_}
-use native.Mathlib.Omega.{arith, both-ways}
+use Prim.Native.Nat.{ℕ, _+_, _*_, _≤_, _<_}
+use native.Mathlib.Omega.{arith}
 use lib.IntN.{ℤ, pos, negsuc, natAbs, _+ℤ_, _-ℤ_}
-use lib.Signed.{leZ, ltZ, _≤ℤ_}
+use lib.Signed.{leZ, _≤ℤ_}
 use Rattle.cells.specs.declared.Cell.{Cell}
 use Rattle.cells.specs.Touching.{apart}
 use Rattle.cells.specs.Small.{Small}
 use Rattle.cells.proofs.Touching.{and-both}
-use Rattle.cells.proofs.Signed.{up, dn, one-sided, diff-is, abs-is, leZ-true, leZ-false, le-leZ, ≤ℤ-is}
+use Rattle.cells.proofs.Signed.{up, dn, one-sided, diff-is, abs-is, leZ-true, le-leZ, ≤ℤ-is}
 use mir.Syntax.{w32}
 use mir.Val.{SFits, toZ, ofZ}
 use Rattle.cells.proofs.Machine.{parts-small, nat-small, nat-held, held, held-is, small-held, small-sum, small-diff}
 use Rattle.lines.specs.declared.Tripod.{Tripod}
-use Rattle.lines.specs.Steps.{Axis, X, Y, Z, Steps, at, total}
-use Rattle.lines.specs.Crossings.{next}
-use Rattle.lines.specs.Preference.{rule-1}
-use Rattle.lines.specs.Lines.{centres, longest, place-26, moved-26, differences, in-limit, InLimit}
+use Rattle.lines.specs.Steps.{Axis, X, Y, Z, Steps}
+use Rattle.lines.specs.Lines.{longest, place-26, differences, in-limit, InLimit}
 use Rattle.lines.specs.Decisions.{decision, values, doubled, by-signs}
 use Rattle.lines.proofs.Cells.{limited-difference}
 use Rattle.lines.proofs.Centres.{longest-most, moved-grows, moved-by-one, moved-longest}

@@ -1,5 +1,5 @@
 -- The place after a step that is made where a test says so. Assumes nothing.
-use mathlib.Core.Path.{_≡_, _∙_}
+use mathlib.Core.Path.{_≡_}
 use mathlib.Core.Bool.{Bool, true, false, cond}
 use Prim.Native.Nat.{_+_, _*_}
 use native.Mathlib.Omega.{arith}

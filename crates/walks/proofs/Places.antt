@@ -1,19 +1,18 @@
 -- The place of a hit: the fractions at which the 6-line enters its cells never fall. Assumes nothing.
-use mathlib.Core.Path.{_≡_, refl, sym, ap, _∙_, subst}
+use mathlib.Core.Path.{_≡_, ap, _∙_, subst}
 use mathlib.Core.Logic.{⊎-elim}
-use Prim.Native.Nat.{ℕ, zero, suc, _+_, _-_, _*_, _≤_, _<_}
+use Prim.Native.Nat.{ℕ, zero, suc, _+_, _*_, _≤_, _<_}
 use native.Mathlib.Omega.{arith}
 use native.Mathlib.Nat.{eq-or-lt-of-le}
 use Rattle.cells.specs.declared.Cell.{Cell}
 use Rattle.lines.specs.Steps.{Axis, Steps, total}
-use Rattle.lines.specs.Crossings.{Course, next, place, upper}
+use Rattle.lines.specs.Crossings.{Course, next, place}
 use Rattle.lines.specs.Preference.{rule-1}
 use Rattle.lines.specs.Lines.{differences, centres}
-use Rattle.lines.proofs.Steps.{bump, same-self}
+use Rattle.lines.proofs.Steps.{same-self}
 use Rattle.lines.proofs.Merge.{OnLine, Next, Rule, fewer-is-below}
-use Rattle.lines.proofs.Fractions.{Before, laws, place-on, place-suc, place-total, next-rule, ahead}
+use Rattle.lines.proofs.Fractions.{Before, laws, place-on, place-suc, place-total, next-rule}
 use Rattle.lines.proofs.Centres.{centres-good}
-use Rattle.walks.specs.declared.Place.{Place}
 use Rattle.walks.specs.Answers.{entered-at}
 
 module _ (p q : Cell) where

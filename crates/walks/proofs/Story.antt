@@ -1,9 +1,9 @@
 -- The two walks' answers, by the numbers of the 6-line's cells where they end: what demand 3 rests on. Assumes nothing.
-use mathlib.Core.Path.{_≡_, refl, sym, ap, ap₂, _∙_, subst}
+use mathlib.Core.Path.{_≡_, refl, sym, ap, ap₂, _∙_}
 use mathlib.Core.Logic.{_⊎_, inl, inr, ⊎-elim}
 use mathlib.Core.Bool.{Bool, true, false, cond}
 use mathlib.Core.List.{List}
-use Prim.Native.Nat.{ℕ, zero, suc, _+_, _≤_, _<_}
+use Prim.Native.Nat.{ℕ, suc, _+_, _≤_, _<_}
 use native.Mathlib.Omega.{arith, both-ways}
 use native.Mathlib.Decide.{decLt}
 use lib.ListN.{length}
@@ -19,7 +19,7 @@ use Rattle.lines.proofs.Fractions.{place-start, place-suc, place-end}
 use Rattle.lines.proofs.Cells.{six-end}
 use Rattle.lines.proofs.Centres.{centres-good, longest-axis, is-place-26, moved-longest}
 use Rattle.cells.specs.Checks.{by-verdict}
-use Rattle.grids.specs.Grid.{byte-of, solid}
+use Rattle.grids.specs.Grid.{byte-of}
 use Rattle.walks.specs.declared.Walker.{Walker}
 use Rattle.walks.specs.declared.Walker.the-variants.{Plain, Adaptive}
 use Rattle.walks.specs.declared.FirstHit.the-variants as FirstHit
@@ -27,7 +27,7 @@ use Rattle.walks.specs.Walks.{hit-at, six-count, walk-of}
 use Rattle.walks.specs.Answers.{place-by, place-of, last-of, answer-of, first-hit}
 use Rattle.grids.specs.Inside.{walk-check, InGrid}
 use Rattle.walks.specs.Safe.{NoClearTouches}
-use Rattle.walks.specs.Numbers.{stop, ends, last-number, go, solid-at, step, end-of, reads-of, answer-at}
+use Rattle.walks.specs.Numbers.{stop, last-number, go, solid-at, step, end-of, reads-of, answer-at}
 use Rattle.walks.proofs.Runs.{stopped, ended, Ended, by-one, visits-all, at-least, plain-first, never-earlier, never-invented, same-end, no-more-visits}
 use Rattle.walks.proofs.Numbers.{six-found, go-rises, skipped, way, Way, face, long, step-rises, walk-length, walk-last}
 use Rattle.walks.proofs.Inside.{six-inside}

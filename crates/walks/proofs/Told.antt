@@ -1,7 +1,6 @@
 -- The answer's case and values tell which answer it is: the definition that says them has a left inverse. Assumes nothing.
-use Prim.Native.Nat.{ℕ}
 use mathlib.Core.Path.{_≡_, refl, ap}
-use mathlib.Core.Logic.{_⊎_, inl, inr}
+use mathlib.Core.Logic.{_⊎_}
 use mathlib.Core.Option.{Option, some, Option·map}
 use Rattle.cells.specs.Refusals.{Told}
 use Rattle.cells.proofs.Refusals.{told-back, tells-apart, untold-by}

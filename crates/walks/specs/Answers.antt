@@ -1,16 +1,13 @@
 -- SCOPE W4, W5, W6: the answer of a first-hit call, from its walk, with a hit's place and the reads; refusals 2, 3, then 5 (P before Q; x, y, z).
 -- Assumes nothing.
-use Prim.Native.Nat.{ℕ, zero, suc, _+_, _-_, _*_}
+use Prim.Native.Nat.{ℕ, zero, suc, _-_, _*_}
 use mathlib.Core.Path.{_≡_}
-use mathlib.Core.Bool.{Bool, cond, _||_}
+use mathlib.Core.Bool.{cond}
 use mathlib.Core.List.{List, [], _∷_}
 use mathlib.Core.Option.{Option, none, some}
 use mathlib.Core.Logic.{_⊎_, inl, inr}
-use lib.IntN.{ℤ, pos}
-use lib.Signed.{ltZ, leZ}
 use lib.ListN.{length}
 use Rattle.cells.specs.declared.Axis.{Axis}
-use Rattle.cells.specs.declared.End.the-variants.{P, Q}
 use Rattle.cells.specs.declared.Cell.{Cell}
 use Rattle.cells.specs.declared.Counts.{Counts}
 use Rattle.cells.specs.Checks.{by-verdict}

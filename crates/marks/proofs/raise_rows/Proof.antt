@@ -1,10 +1,10 @@
 -- `marks::raise_rows` meets its contract: after x turns the window shows what it had and the three rows for the numbers below x; the measure is
 -- what is left of nx. Assumes nothing.
+use mathlib.Core.Bool.{_||_}
 use Prim.Native.Nat.{_+_, _-_, _≤_}
 use native.Mathlib.Nat.{le-refl}
 use native.Mathlib.Omega.{arith}
 use mathlib.Core.Path.{_≡_}
-use mathlib.Core.Bool.{_||_}
 use lib.ListN.{getD}
 use borrow.Author.Needs.{needs}
 use Rattle.grids.specs.Grid.{solid}

@@ -1,5 +1,5 @@
 -- `program::pair_step` meets its contract: each test is the definition's, in its order. Assumes nothing.
-use mathlib.Core.Path.{_≡_, refl, sym, _∙_}
+use mathlib.Core.Path.{_≡_, sym, _∙_}
 use mathlib.Core.Bool.{Bool}
 use denote.Ref.{now}
 use borrow.Author.Tests.{eq-eqb, ne-eqb}

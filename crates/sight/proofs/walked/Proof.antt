@@ -1,6 +1,5 @@
 -- `sight::walked` meets its contract: the walk has a route; it stops where the definition's ends, and answers from there. Assumes nothing.
 use lib.ListN.{length}
-use borrow.Author.Needs.{needs}
 use Rattle.walks.specs.declared.Walker.the-variants.{Adaptive}
 use Rattle.routes.specs.Route.{Planned}
 use Rattle.routes.proofs.Accepting.{ends-enclosed, route-planned, p-enclosed}

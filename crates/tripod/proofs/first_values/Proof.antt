@@ -1,6 +1,4 @@
 -- `tripod::first_values` meets its contract: differences of short numbers fit, and with no step taken they are the values. Assumes nothing.
-use mathlib.Core.Path.{_∙_}
-use native.Mathlib.Omega.{arith}
 use borrow.Author.Needs.{needs}
 use Rattle.lines.proofs.Signs.{same-values}
 use Rattle.tripod.proofs.Laws.{first-fits, first-held}

@@ -1,5 +1,5 @@
 -- `tripod::long_moves` meets its contract: with the longest axis known, each test is that of the 26-line by the decision values. Assumes nothing.
-use mathlib.Core.Path.{_≡_, refl, sym, subst, _∙_, ap}
+use mathlib.Core.Path.{_≡_, sym, subst}
 use borrow.Author.Needs.{needs}
 use mathlib.Core.Bool.{true}
 use Rattle.lines.specs.Steps.{Axis, X, Y, Z}

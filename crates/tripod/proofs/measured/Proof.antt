@@ -1,7 +1,6 @@
 -- `tripod::measured` meets its contract: one difference for each axis, of ends within the limit. Assumes nothing.
 use mathlib.Core.Path.{_≡_, _∙_, ap, ap₂}
 use mathlib.Core.Bool.{true}
-use lib.IntN.{ℤ}
 use Rattle.cells.specs.declared.Cell.{Cell}
 use Rattle.cells.specs.Touching.{on, apart}
 use Rattle.cells.proofs.Machine.{held, small-held}

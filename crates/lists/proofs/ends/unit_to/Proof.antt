@@ -1,5 +1,4 @@
 -- `lists::ends::unit_to` meets its contract: the test is that of `unit`. Assumes nothing.
-use mathlib.Core.Path.{sym}
 use Rattle.cells.proofs.Machine.{le-held}
 use Rattle.lists.proofs.ends.unit_to.Statement.{statement}
 use Rattle.lists.proofs.ends.unit_to.Tie as tie

@@ -15,7 +15,7 @@ use Rattle.lines.proofs.Cells.{six-is, six-line-is, six-end}
 use Rattle.lines.proofs.Fractions.{place-on, place-start}
 use Rattle.lines.proofs.Centres.{centres-good}
 use Rattle.lists.specs.Lists.{filled}
-use Rattle.lists.specs.Way.{SixSpotAt}
+use Rattle.lists.specs.Kept.{SixSpotAt}
 use Rattle.lists.proofs.Line.{can-cross}
 use Rattle.lists.proofs.Filling.{Filling, C, filled-none, filled-one, filled-last, spot-start, six-turn}
 use Rattle.lists.proofs.six.fill6.Statement.{statement}
@@ -28,8 +28,8 @@ Inv-loop out₀ q w s₀ crossings m₀ at₀ out s m at = Filling (six-cell rul
 abbrev μ-loop : tie.MeasureT-loop
 μ-loop out₀ q w s₀ crossings m₀ at₀ out s m at = crossings - m
 
-way-of-requires : tie.Need-way-of-requires Inv-loop μ-loop
-way-of-requires c κs = search needs
+six-way-of-requires : tie.Need-six-way-of-requires Inv-loop μ-loop
+six-way-of-requires c κs = search needs
 
 first-values-requires : tie.Need-first-values-requires Inv-loop μ-loop
 first-values-requires c κs = search needs
@@ -62,7 +62,7 @@ crossed-requires c κs =
     let l = c .before .before .before .before .before in
     let s = l .before .before .before .before in
     let k = s .pre .0 in
-    can-cross (s .args .p) (s .args .q) _ (l .before .before .before .way-of .ensures) (k .p-in) (k .q-in) _ _
+    can-cross (s .args .p) (s .args .q) _ (l .before .before .before .six-way-of .ensures) (k .p-in) (k .q-in) _ _
     (place-on (C (s .args .p) (s .args .q)) (centres-good rule-1 (differences (s .args .p) (s .args .q))) (l .loop .m) (omega (arith, ap total (k .is))) .1)
     (l .loop .inv .1)
 
@@ -85,7 +85,7 @@ loop-again c =
       filled-one (six-cell rule-1 p q) _ _ (room (l .before)) _ _ _ (l .loop .m) _ (l .loop .inv .0) (omega arith) (c .before .before .before .put .ensures)
           (l .loop .inv .1 .cell ∙ sym (six-is rule-1 p q (l .loop .m))),
       subst (SixSpotAt p q (place (C p q) (l .loop .m + 1))) (sym (c .crossed .ensures))
-          (six-turn p q _ (l .before .before .before .way-of .ensures) (l .loop .m) (l .loop .s) _ (omega (arith, ap total (k .is)))
+          (six-turn p q _ (l .before .before .before .six-way-of .ensures) (l .loop .m) (l .loop .s) _ (omega (arith, ap total (k .is)))
           (l .loop .inv .1) (c .before .next-face .ensures)),
     )
 
@@ -113,7 +113,7 @@ fill6-spec =
     (tie.spec
     Inv-loop
     μ-loop
-    way-of-requires
+    six-way-of-requires
     first-values-requires
     total-requires
     loop-holds

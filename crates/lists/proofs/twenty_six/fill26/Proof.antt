@@ -8,7 +8,7 @@ use Rattle.lines.specs.Lines.{differences, longest, cell-26}
 use Rattle.cells.specs.Tabulate.{tabulate}
 use Rattle.lines.proofs.Cells.{end-26, line-26-is}
 use Rattle.lists.specs.Lists.{filled}
-use Rattle.lists.specs.Way.{cell-at, paces, firsts, nexts, CanMoves}
+use Rattle.lists.specs.Kept.{cell-at, paces, firsts, nexts, CanMoves}
 use Rattle.lists.proofs.Filling.{Filling, filled-none, filled-one, filled-last}
 use Rattle.lists.proofs.Moving.{Paced, paced-cell, paced-first, paced-next, paced-moves}
 use Rattle.lists.proofs.twenty_six.fill26.Statement.{statement}

@@ -7,7 +7,7 @@ use mir.Val.{SFits}
 use borrow.Author.Needs.{needs}
 use Rattle.cells.proofs.Machine.{held, held-is}
 use Rattle.lists.specs.declared.twenty_six.Coordinate.{Coordinate}
-use Rattle.lists.specs.Way.{first-of}
+use Rattle.lists.specs.Kept.{first-of}
 use Rattle.lists.proofs.twenty_six.first_coordinates.Statement.{statement}
 use Rattle.lists.proofs.twenty_six.first_coordinates.Tie as tie
 

@@ -4,7 +4,7 @@ use Prim.Native.Nat.{_*_}
 use native.Mathlib.Omega.{arith}
 use borrow.Author.Needs.{needs}
 use Rattle.cells.proofs.Machine.{held, held-is, small-held}
-use Rattle.lists.specs.Way.{unit}
+use Rattle.lists.specs.Kept.{unit}
 use Rattle.lists.proofs.Line.{unit-small}
 use Rattle.lists.proofs.Moving.{doubled-held, less-fits, less-held}
 use Rattle.lists.proofs.twenty_six.pace_of.Statement.{statement}

@@ -7,7 +7,7 @@ use mir.Val.{SFits}
 use borrow.Author.Needs.{needs}
 use Rattle.cells.proofs.Machine.{held, held-is}
 use Rattle.lists.specs.declared.twenty_six.Pace.{Pace}
-use Rattle.lists.specs.Way.{pace}
+use Rattle.lists.specs.Kept.{pace}
 use Rattle.lists.proofs.twenty_six.paces_of.Statement.{statement}
 use Rattle.lists.proofs.twenty_six.paces_of.Tie as tie
 

@@ -44,7 +44,7 @@ pub record CanStep (c : Cell) (h : Heading) : Type 0 where
   pub hz : Small (h .z)
 
 -- the way from p to q
-pub record WayOf (p q : Cell) (w : SixWay) : Type 0 where
+pub record SixWayOf (p q : Cell) (w : SixWay) : Type 0 where
   pub towards : w .towards ≡ heading p q
   pub twice : w .twice ≡ doubled (differences p q)
 

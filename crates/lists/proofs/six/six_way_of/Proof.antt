@@ -1,4 +1,4 @@
--- `lists::six::way_of` meets its contract: a unit for each axis, and the doubled differences. Assumes nothing.
+-- `lists::six::six_way_of` meets its contract: a unit for each axis, and the doubled differences. Assumes nothing.
 use mathlib.Core.Path.{_≡_, ap, ap₂, _∙_}
 use lib.IntN.{ℤ}
 use borrow.Author.Needs.{needs}
@@ -9,10 +9,10 @@ use Rattle.lines.specs.Steps.{Axis, X, Y, Z}
 use Rattle.lines.specs.Lines.{InLimit}
 use Rattle.lines.specs.Decisions.{doubled}
 use Rattle.tripod.proofs.Laws.{limit-small}
-use Rattle.lists.specs.Way.{unit}
+use Rattle.lists.specs.Kept.{unit}
 use Rattle.lists.proofs.Line.{unit-small}
-use Rattle.lists.proofs.six.way_of.Statement.{statement}
-use Rattle.lists.proofs.six.way_of.Tie as tie
+use Rattle.lists.proofs.six.six_way_of.Statement.{statement}
+use Rattle.lists.proofs.six.six_way_of.Tie as tie
 
 -- what the call on an axis answered, of the ends themselves
 unit-of : (p q : Cell) → InLimit p → InLimit q → (a : Axis) {r : ℤ} → r ≡ unit (held (on p a)) (held (on q a)) → held r ≡ unit (on p a) (on q a)
@@ -48,5 +48,5 @@ returns c =
       twice = c .twice .ensures ∙ ap doubled is;
     }
 
-pub way-of-spec : {M : Type 1} → statement M
-way-of-spec = tie.close (tie.spec unit-to-requires unit-to-requires-2 unit-to-requires-3 twice-requires returns)
+pub six-way-of-spec : {M : Type 1} → statement M
+six-way-of-spec = tie.close (tie.spec unit-to-requires unit-to-requires-2 unit-to-requires-3 twice-requires returns)
