@@ -107,8 +107,20 @@ long-step D = record { moves = moves D }
 pub half-a-cell : HalfACell
 half-a-cell =
     record {
-      short-of = record { from = λ a. elim a [ X ↦ record { lt = tt } | Y ↦ record { lt = tt } | Z ↦ record { lt = tt } ]; upto = λ a. elim a [ X ↦ record { lt = tt } | Y ↦ record { lt = tt } | Z ↦ record { lt = tt } ] };
-      on-the-face = (record { from = λ a. elim a [ X ↦ record { le = tt } | Y ↦ record { le = tt } | Z ↦ record { le = tt } ]; upto = λ a. elim a [ X ↦ record { le = tt } | Y ↦ record { le = tt } | Z ↦ record { le = tt } ] }, record { from = λ a. elim a [ X ↦ record { le = tt } | Y ↦ record { le = tt } | Z ↦ record { le = tt } ]; upto = λ a. elim a [ X ↦ record { le = tt } | Y ↦ record { le = tt } | Z ↦ record { le = tt } ] });
+      short-of = record {
+        from = λ a. elim a [ X ↦ record { lt = tt } | Y ↦ record { lt = tt } | Z ↦ record { lt = tt } ];
+        upto = λ a. elim a [ X ↦ record { lt = tt } | Y ↦ record { lt = tt } | Z ↦ record { lt = tt } ];
+      };
+      on-the-face = (
+        record {
+          from = λ a. elim a [ X ↦ record { le = tt } | Y ↦ record { le = tt } | Z ↦ record { le = tt } ];
+          upto = λ a. elim a [ X ↦ record { le = tt } | Y ↦ record { le = tt } | Z ↦ record { le = tt } ];
+        },
+        record {
+          from = λ a. elim a [ X ↦ record { le = tt } | Y ↦ record { le = tt } | Z ↦ record { le = tt } ];
+          upto = λ a. elim a [ X ↦ record { le = tt } | Y ↦ record { le = tt } | Z ↦ record { le = tt } ];
+        },
+      );
       not-inside = (λ h. h .upto X .lt, λ h. h .from X .lt);
       past = λ h. h .upto X .le;
     }

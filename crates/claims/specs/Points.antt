@@ -55,7 +55,7 @@ pub record Finite (p : Point) : Type 0 where
   pub z : finite (p .z) ≡ true
   -- no more is asked
 
--- 2. An answer that is a cell is the cell where the point's quotients lie; and where there is such a cell, it is the answer. Of the call, and of
+-- 3. An answer that is a cell is the cell where the point's quotients lie; and where there is such a cell, it is the answer. Of the call, and of
 -- the lookups that a sight makes, of the camera as P and of the ball as Q.
 pub record TheCell (n : Counts) (at : Placement) (p : Point) : Type 0 where
   pub given : (c : cell.Cell) → LooksUp n at p (Cell c) → Tested n at × InItsCell n (quotients at p) c
@@ -63,18 +63,18 @@ pub record TheCell (n : Counts) (at : Placement) (p : Point) : Type 0 where
   pub end-given : (e : End) (c : cell.Cell) → Tested n at → look-up e n at p ≡ Cell c → InItsCell n (quotients at p) c
   pub end-found : (e : End) (c : cell.Cell) → Tested n at → Finite p → InItsCell n (quotients at p) c → look-up e n at p ≡ Cell c
 
--- 3. With counts and placement that pass their tests and finite values, no quotient is NaN; and a quotient is outside exactly when no whole
+-- 4. With counts and placement that pass their tests and finite values, no quotient is NaN; and a quotient is outside exactly when no whole
 -- number k below the count has k ≤ q < k+1.
 pub record Outside (n : Counts) (at : Placement) (p : Point) : Type 0 where
   pub numbers : Tested n at → Finite p →
       (isNan (quotients at p .x) ≡ false) × (isNan (quotients at p .y) ≡ false) × (isNan (quotients at p .z) ≡ false)
   pub exactly : (count : ℕ) (q : Float) → count ≤ 1024 → isNan q ≡ false → (outside count q ≡ true) ↔ ((k : ℕ) → k < count → in-cell q k ≡ false)
 
--- 4. Every whole number up to 2^53 is made f64 exactly: its value is the number over 1. All counts and all numbers of 32 bits are among them.
+-- 5. Every whole number up to 2^53 is made f64 exactly: its value is the number over 1. All counts and all numbers of 32 bits are among them.
 pub record Exact (k : ℕ) : Type 0 where
   pub value : k ≤ 2 ^ 53 → HasValue (as-f64 k) false k 1
 
--- 5. Examples of the share of the way, the quotient rounded once: 1 over 2 is 0.5, 1 over 3 and 3 over 10 the f64 nearest to them (3 times the f64
+-- 6. Examples of the share of the way, the quotient rounded once: 1 over 2 is 0.5, 1 over 3 and 3 over 10 the f64 nearest to them (3 times the f64
 -- nearest to a tenth is another one), 0 over 1 is 0.
 pub record Shares : Type 0 where
   pub half : toBits binary64 (share-of 1 2) ≡ 0x3fe0_0000_0000_0000

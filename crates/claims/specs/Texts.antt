@@ -40,8 +40,8 @@ pub record OneLine (line : List ℕ) (at : ℕ) (entry : List ℕ) : Type 0 wher
 abbrev pub left-of-grid : Cell
 left-of-grid = record { x = negsuc 0; y = pos 1; z = pos 0 }
 
--- SCOPE's output, `1 P hit 1 1 0 2 3` and `1 A clear 4`, a hit whose numbers all differ, `3 P hit 4 5 6 7 8`, a line that no grid gives, `1 P hit -1 1 0 2 3`, and a refusal of each kind,
--- `12 refused 5` and `G refused 10`
+-- SCOPE's output, `1 P hit 1 1 0 2 3` and `1 A clear 4`, a hit whose numbers all differ, `3 P hit 4 5 6 7 8`, a line that no grid gives,
+-- `1 P hit -1 1 0 2 3`, and a refusal of each kind, `12 refused 5` and `G refused 10`
 pub record Examples : Type 0 where
   pub hit : hit-line 1 80 (at 1 1 0) 2 3 ≡ 49 ∷ 32 ∷ 80 ∷ 32 ∷ 104 ∷ 105 ∷ 116 ∷ 32 ∷ 49 ∷ 32 ∷ 49 ∷ 32 ∷ 48 ∷ 32 ∷ 50 ∷ 32 ∷ 51 ∷ 10 ∷ []
   pub all-different : hit-line 3 80 (at 4 5 6) 7 8 ≡ 51 ∷ 32 ∷ 80 ∷ 32 ∷ 104 ∷ 105 ∷ 116 ∷ 32 ∷ 52 ∷ 32 ∷ 53 ∷ 32 ∷ 54 ∷ 32 ∷ 55 ∷ 32 ∷ 56 ∷ 10 ∷ []

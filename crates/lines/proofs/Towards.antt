@@ -168,5 +168,7 @@ passed-closed p q t n d lo hi =
 
 -- the centre of p lies strictly between the faces of p
 pub centre-open : (p q : ℤ) (d : ℕ) → 0 < d → (lower-face d p <ℤ point p q 0 d) × (point p q 0 d <ℤ upper-face d p)
-centre-open p q d some =
-    (<ℤ-is (lower-face d p) (point p q 0 d) .1 (omega (arith, lower-gap p q p 0 d 0)), <ℤ-is (point p q 0 d) (upper-face d p) .1 (omega (arith, upper-gap p q p 0 d 0)))
+centre-open p q d some = (
+  <ℤ-is (lower-face d p) (point p q 0 d) .1 (omega (arith, lower-gap p q p 0 d 0)),
+  <ℤ-is (point p q 0 d) (upper-face d p) .1 (omega (arith, upper-gap p q p 0 d 0)),
+)

@@ -4,7 +4,8 @@ ghost use mathlib.Core.List.{[], _∷_, _++_};
 ghost use Prim.Native.Nat.{_+_, _≤_, _<_};
 ghost use lib.IntN.{natAbs};
 ghost use lib.ListN.{length};
-ghost use Rattle.texts.specs.Text.{decimal, signed-decimal, parted, ended, cell-fields, line-room, hit-line, clear-line, pair-refused-line, venue-refused-line, Puts};
+ghost use Rattle.texts.specs.Text.{decimal, signed-decimal, parted, ended, cell-fields};
+ghost use Rattle.texts.specs.Text.{line-room, hit-line, clear-line, pair-refused-line, venue-refused-line, Puts};
 use cells::Cell;
 
 const SPACE: u8 = 32;
