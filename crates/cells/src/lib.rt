@@ -1,4 +1,4 @@
-// The shared words: axes, ends, cells, counts, the four parts of a placement, and the refusals.
+// The shared words: axes, ends, cells, counts, entry faces, the four parts of a placement, and the refusals.
 ghost use Rattle.cells.specs.Refusals.{NumberOf};
 
 // The three axes.
@@ -19,6 +19,15 @@ pub struct Cell {
     pub x: i32,
     pub y: i32,
     pub z: i32,
+}
+
+// The face by which a line came into a cell: none where it starts there, else the axis with the sign of the move.
+pub enum Face {
+    None,
+    // the line moves to larger numbers on the axis
+    Plus(Axis),
+    // to smaller ones
+    Minus(Axis),
 }
 
 // How many cells a grid has along each axis.

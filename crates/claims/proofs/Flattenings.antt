@@ -1,5 +1,5 @@
 -- The claims about the structs for C, from one law over an answer and its struct. Assumes nothing.
-use Prim.Native.Nat.{ℕ}
+use Prim.Native.Nat.{ℕ, zero, suc}
 use mathlib.Core.Path.{_≡_, refl, sym, ap, _∙_}
 use mathlib.Core.Bool.{true, false, cond}
 use mathlib.Core.List.{[], _∷_}
@@ -7,12 +7,15 @@ use mathlib.Core.Logic.{_⊎_, inl, inr, _↔_}
 use mathlib.Core.Option.{Option, none, some, Option·map}
 use native.Mathlib.Omega.{arith}
 use lib.Dec.{eqb}
+use lib.IntN.{ℤ, pos, negsuc}
 use borrow.Author.Tests.{ne-eqb}
 use lib.ListN.{length}
 use Rattle.cells.specs.declared.Axis.{Axis}
 use Rattle.cells.specs.declared.Axis.the-variants.{X, Y, Z}
 use Rattle.cells.specs.declared.End.{End}
 use Rattle.cells.specs.declared.End.the-variants.{P, Q}
+use Rattle.cells.specs.declared.Face.{Face}
+use Rattle.cells.specs.declared.Face.the-variants as Face
 use Rattle.cells.specs.declared.Part.{Part}
 use Rattle.cells.specs.declared.Part.the-variants.{OriginX, OriginY, OriginZ, Edge}
 use Rattle.cells.specs.declared.Refusal.{Refusal}
@@ -65,6 +68,7 @@ use Rattle.oatmarten.specs.declared.record_calls.OatVenue.{OatVenue}
 use Rattle.oatmarten.specs.declared.record_calls.OatPair.{OatPair}
 use Rattle.oatmarten.specs.declared.record_calls.OatWritten.{OatWritten}
 use Rattle.oatmarten.specs.Refusals.{end-number, axis-number, part-number, accepted, flat-refusal, said-of}
+use Rattle.oatmarten.specs.Faces.{face-number}
 use Rattle.oatmarten.specs.LineCalls.{flat-listed}
 use Rattle.oatmarten.specs.GridCalls.{flat-verdict, flat-complete, flat-part}
 use Rattle.oatmarten.specs.WalkCalls.{flat-hit}
@@ -148,6 +152,9 @@ said-numbers =
       ends = (refl, refl);
       axes = (refl, refl, refl);
       parts = (refl, refl, refl, refl);
+      no-face = refl;
+      rising = (refl, refl, refl);
+      falling = (refl, refl, refl);
       fine = refl;
       limit = λ e a. refl;
       count = λ a. refl;
@@ -236,12 +243,31 @@ part-case : (a : LayerPart) → Case told-part flat-part (λ f. f .said) LayerPa
 part-case (LayerPart.Part start many) = fine (start, many) refl refl refl
 part-case (LayerPart.Refused r) = refused r refl refl refl
 
+-- the face that a number means
+abbrev face-of : ℤ → Face
+face-of (pos zero) = Face.None
+face-of (pos (suc zero)) = Face.Plus X
+face-of (pos (suc (suc zero))) = Face.Plus Y
+face-of (pos (suc (suc (suc n)))) = Face.Plus Z
+face-of (negsuc zero) = Face.Minus X
+face-of (negsuc (suc zero)) = Face.Minus Y
+face-of (negsuc (suc (suc n))) = Face.Minus Z
+
+face-back : (f : Face) → face-of (face-number f) ≡ f
+face-back Face.None = refl
+face-back (Face.Plus X) = refl
+face-back (Face.Plus Y) = refl
+face-back (Face.Plus Z) = refl
+face-back (Face.Minus X) = refl
+face-back (Face.Minus Y) = refl
+face-back (Face.Minus Z) = refl
+
 abbrev hit-values : OatHit → Hit
 hit-values f =
     record {
       cell = record { x = f .x; y = f .y; z = f .z };
       code = f .code;
-      place = record { num = f .num; den = f .den };
+      place = record { num = f .num; den = f .den; face = face-of (f .face) };
       reads = f .reads;
     }
 
@@ -250,7 +276,15 @@ walk-values f = cond (eqb (f .hit) 1) (FirstHit.Hit (hit-values f)) (FirstHit.Cl
 
 hit-case : (a : FirstHit) → Case told-hit flat-hit (λ f. f .said) FirstHit.Refused walk-values a
 hit-case (FirstHit.Clear reads) = fine (walk.clear reads) refl refl refl
-hit-case (FirstHit.Hit h) = fine (walk.hit h) refl refl refl
+hit-case (FirstHit.Hit h) =
+    fine (walk.hit h)
+    (λ i. FirstHit.Hit (record {
+      cell = h .cell;
+      code = h .code;
+      place = record { num = h .place .num; den = h .place .den; face = face-back (h .place .face) i };
+      reads = h .reads;
+    }))
+    refl refl
 hit-case (FirstHit.Refused r) = refused r refl refl refl
 
 abbrev found-values : OatFound → Lookup
@@ -261,14 +295,24 @@ found-case (Lookup.Cell c) = fine c refl refl refl
 found-case (Lookup.Refused r) = refused r refl refl refl
 
 abbrev block-values : OatSight → Block
-block-values f = record { share = f .share; cell = record { x = f .x; y = f .y; z = f .z }; code = f .code; reads = f .reads }
+block-values f =
+    record {
+      share = f .share;
+      cell = record { x = f .x; y = f .y; z = f .z };
+      code = f .code;
+      reads = f .reads;
+      face = face-of (f .face);
+    }
 
 abbrev sight-values : OatSight → Sight
 sight-values f = cond (eqb (f .blocked) 1) (Sight.Blocked (block-values f)) Sight.Clear
 
 sight-case : (a : Sight) → Case told-sight flat-sight (λ f. f .said) Sight.Refused sight-values a
 sight-case Sight.Clear = fine sights.clear refl refl refl
-sight-case (Sight.Blocked b) = fine (sights.blocked b) refl refl refl
+sight-case (Sight.Blocked b) =
+    fine (sights.blocked b)
+    (λ i. Sight.Blocked (record { share = b .share; cell = b .cell; code = b .code; reads = b .reads; face = face-back (b .face) i }))
+    refl refl
 sight-case (Sight.Refused r) = refused r refl refl refl
 
 abbrev venue-values : OatVenue → VenueRead
@@ -321,12 +365,12 @@ flat-rows =
       complete-refused = λ r. refl;
       part = λ start many. refl;
       part-refused = λ r. refl;
-      hit = λ x y z code num den reads. refl;
+      hit = λ x y z code num den f reads. refl;
       walk-clear = λ reads. refl;
       walk-refused = λ r. refl;
       found = λ x y z. refl;
       found-refused = λ r. refl;
-      blocked = λ share x y z code reads. refl;
+      blocked = λ share x y z code reads f. refl;
       sight-clear = refl;
       sight-refused = λ r. refl;
       venue = λ nx ny nz start long. refl;

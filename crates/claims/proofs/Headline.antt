@@ -14,7 +14,7 @@ use Rattle.claims.proofs.Grids as grids
 use Rattle.claims.proofs.Points as points
 use Rattle.claims.proofs.Records as records
 use Rattle.claims.proofs.Sights.{seen-once, nothing-in-sight}
-use Rattle.claims.proofs.Story.{hit-once, first-solid, walks-end, step-by-step, adaptive-step, one-story, never-invented}
+use Rattle.claims.proofs.Story.{hit-once, hit-face, first-solid, walks-end, step-by-step, adaptive-step, one-story, never-invented}
 
 pub takes-anything : TakesAnything
 takes-anything =
@@ -57,4 +57,5 @@ tell-one-story =
       same = λ n l p q yes. one-story n l p q .story (grids.says-complete n l .yes yes);
       clear = λ n l at camera ball yes. nothing-in-sight n l at camera ball .open-way (grids.says-complete n l .yes yes);
       never-invented = λ n l p q k plain ha hp. let (h, is, place, order) = never-invented n l p q .plain-too k plain ha hp in (h, is, order);
+      faces = hit-face;
     }

@@ -307,7 +307,7 @@ pub wrong-programs : WrongPrograms
 unfolding pair-said beyond pair-read pair-check venue-said venue-read venue-check whole-check
 wrong-programs =
     record {
-      silent = λ run. let e : _≡_ {A = ℕ} 0 30 = ap length (only-run example-input run ∙ example-writes) in omega arith;
+      silent = λ run. let e : _≡_ {A = ℕ} 0 33 = ap length (only-run example-input run ∙ example-writes) in omega arith;
       goes-on = λ n cells entry exit answer k w. over-not-on k (w .next);
       begins = λ entry exit answer k w. over-not-on k (w .next);
     }

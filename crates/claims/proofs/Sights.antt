@@ -7,12 +7,13 @@ use lib.Ieee.{le, lt, ofInt, div, sub}
 use lib.ListN.{length}
 use Rattle.cells.specs.declared.Cell as cell
 use Rattle.cells.specs.declared.Counts.{Counts}
-use Rattle.cells.specs.declared.End.the-variants.{P}
+use Rattle.cells.specs.declared.End.the-variants.{P, Q}
 use Rattle.cells.specs.declared.Refusal.{Refusal}
 use Rattle.cells.specs.Checks.{_then_, by-verdict}
 use Rattle.cells.proofs.Checks.{by-fine}
 use Rattle.grids.specs.Grid.{shape}
 use Rattle.walks.specs.declared.Walker.the-variants.{Adaptive}
+use Rattle.walks.specs.declared.Hit.{Hit}
 use Rattle.walks.specs.declared.FirstHit.{FirstHit}
 use Rattle.walks.specs.declared.FirstHit.the-variants as FirstHit
 use Rattle.walks.specs.Answers.{first-hit}
@@ -21,12 +22,13 @@ use Rattle.survey.specs.declared.Lookup.the-variants as Lookup
 use Rattle.survey.specs.declared.Placement.{Placement}
 use Rattle.survey.specs.declared.Point.{Point}
 use Rattle.survey.specs.Survey.{placement-check, look-up}
+use Rattle.sight.specs.declared.Block.{Block}
 use Rattle.sight.specs.declared.Sight.{Sight}
 use Rattle.sight.specs.declared.Sight.the-variants.{Clear, Blocked, Refused}
-use Rattle.sight.specs.Sight.{sight-of, seen, looked, sight}
+use Rattle.sight.specs.Sight.{share-of, sight-of, seen, looked, sight, Sees}
 use Rattle.sight.proofs.Seen.{looked-is, sight-is, camera-refused, both-found}
 use Rattle.claims.proofs.Story.{nothing-in-the-way}
-use Rattle.claims.specs.Sights.{SeenOnce, AsTheWalk, NothingInSight, CameraFirst, WrongSights}
+use Rattle.claims.specs.Sights.{SeenOnce, AsTheWalk, NothingInSight, CameraFirst, BlockedAsHit, WrongSights}
 
 -- 0 clear, 1 blocked, 2 refused
 kind : Sight → ℕ
@@ -46,12 +48,42 @@ not-clear : (r : Refusal) → ¬ (Refused r ≡ Clear)
 unfolding kind
 not-clear r e = let z : _≡_ {A = ℕ} 2 0 = ap kind e in omega arith
 
-seen-clear : (n : Counts) (l : List ℕ) (f t : Lookup) → seen n l f t ≡ Clear →
-    (c : cell.Cell) × (b : cell.Cell) × (reads : ℕ) × (f ≡ Lookup.Cell c) × (t ≡ Lookup.Cell b) × (first-hit Adaptive n l c b ≡ FirstHit.Clear reads)
+-- ---- a blocked sight
+
+-- what it is blocked by
+block-or : Block → Sight → Block
+block-or b Clear = b
+block-or b (Blocked c) = c
+block-or b (Refused r) = b
+
+-- a hit as what blocks a sight
+abbrev block-of : Hit → Block
+block-of h = record { share = share-of (h .place .num) (h .place .den); cell = h .cell; code = h .code; reads = h .reads; face = h .place .face }
+
+walk-blocked : (h : FirstHit) (b : Block) → sight-of h ≡ Blocked b → (k : Hit) × (h ≡ FirstHit.Hit k) × (b ≡ block-of k)
+unfolding kind block-or
+walk-blocked (FirstHit.Hit h) b e = (h, refl, ap (block-or b) (sym e))
+walk-blocked (FirstHit.Clear reads) b e = absurd (let z : _≡_ {A = ℕ} 0 1 = ap kind e in omega arith)
+walk-blocked (FirstHit.Refused r) b e = absurd (let z : _≡_ {A = ℕ} 2 1 = ap kind e in omega arith)
+
+not-blocked : (b : Block) (r : Refusal) → ¬ (Refused r ≡ Blocked b)
 unfolding kind
-seen-clear n l (Lookup.Cell c) (Lookup.Cell b) e = let (reads, is) = walk-clear (first-hit Adaptive n l c b) e in (c, b, reads, refl, refl, is)
-seen-clear n l (Lookup.Cell c) (Lookup.Refused r) e = absurd (let z : _≡_ {A = ℕ} 2 0 = ap kind e in omega arith)
-seen-clear n l (Lookup.Refused r) t e = absurd (let z : _≡_ {A = ℕ} 2 0 = ap kind e in omega arith)
+not-blocked b r e = let z : _≡_ {A = ℕ} 2 1 = ap kind e in omega arith
+
+-- ---- a sight that is no refusal is what the adaptive walk says between the two cells that were found
+
+-- the two lookups found them
+record Looked (n : Counts) (l : List ℕ) (f t : Lookup) (s : Sight) : Type 0 where
+  from : cell.Cell
+  to : cell.Cell
+  from-is : f ≡ Lookup.Cell from
+  to-is : t ≡ Lookup.Cell to
+  walk : sight-of (first-hit Adaptive n l from to) ≡ s
+
+seen-by : (n : Counts) (l : List ℕ) (f t : Lookup) {s : Sight} → ((r : Refusal) → ¬ (Refused r ≡ s)) → seen n l f t ≡ s → Looked n l f t s
+seen-by n l (Lookup.Cell c) (Lookup.Cell b) other e = record { from = c; to = b; from-is = refl; to-is = refl; walk = e }
+seen-by n l (Lookup.Cell c) (Lookup.Refused r) other e = absurd (other r e)
+seen-by n l (Lookup.Refused r) t other e = absurd (other r e)
 
 -- ---- the claims
 
@@ -68,19 +100,44 @@ module _ (n : Counts) (l : List ℕ) (at : Placement) (camera ball : Point) wher
             both-found n l at camera ball (sym from) refl (sym to) refl (hit .says);
       }
 
+  looked-by : {s : Sight} → ((r : Refusal) → ¬ (Refused r ≡ s)) → Sees n l at camera ball s → Looked n l (look-up P n at camera) (look-up Q n at ball) s
+  looked-by other sees =
+      let (fine, is) = by-fine Refused (shape n (length l) then placement-check at) _ other (sym (sight-is n l at camera ball) ∙ sym (sees .says)) in
+      seen-by n l _ _ other (sym (looked-is n l at camera ball) ∙ is)
+
   pub nothing-in-sight : NothingInSight n l at camera ball
   nothing-in-sight =
       record {
         open-way = λ whole sees.
-            let (fine, clear) = by-fine Refused (shape n (length l) then placement-check at) _ not-clear
-            (sym (sight-is n l at camera ball) ∙ sym (sees .says)) in
-            let (c, b, reads, from, to, walk) = seen-clear n l _ _ (sym (looked-is n l at camera ball) ∙ clear) in
+            let k = looked-by not-clear sees in
+            let (reads, is) = walk-clear _ (k .walk) in
             record {
-              from = c;
-              to = b;
-              from-is = from;
-              to-is = to;
-              free = nothing-in-the-way n l c b .open-way whole reads (record { says = sym walk });
+              from = k .from;
+              to = k .to;
+              from-is = k .from-is;
+              to-is = k .to-is;
+              free = nothing-in-the-way n l (k .from) (k .to) .open-way whole reads (record { says = sym is });
+            };
+      }
+
+  pub blocked-as-hit : BlockedAsHit n l at camera ball
+  blocked-as-hit =
+      record {
+        hit-by = λ b sees.
+            let k = looked-by (not-blocked b) sees in
+            let (h, is, same) = walk-blocked _ b (k .walk) in
+            record {
+              from = k .from;
+              to = k .to;
+              hit = h;
+              from-is = k .from-is;
+              to-is = k .to-is;
+              found = record { says = sym is };
+              same-cell = ap (λ c. c .cell) same;
+              same-code = ap (λ c. c .code) same;
+              same-reads = ap (λ c. c .reads) same;
+              same-face = ap (λ c. c .face) same;
+              its-share = ap (λ c. c .share) same;
             };
       }
 
@@ -99,9 +156,10 @@ camera-first n l at camera =
 -- ---- wrong sights
 
 pub wrong-sights : WrongSights
-unfolding kind sight le lt ofInt div sub
+unfolding kind block-or sight le lt ofInt div sub
 wrong-sights =
     record {
       clear-always = λ h. let z : _≡_ {A = ℕ} 0 1 = ap kind (h .says) in omega arith;
       refuses-always = λ r h. let z : _≡_ {A = ℕ} 2 1 = ap kind (h .says) in omega arith;
+      other-face = λ b other h. other (ap (λ s. block-or b s .face) (h .says));
     }

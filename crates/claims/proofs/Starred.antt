@@ -38,4 +38,4 @@ starred =
     refl and refl and refl and refl and refl and refl and refl and refl and refl and refl and refl and refl and refl and refl and refl and refl and
     refl and refl and refl and refl and refl and refl and refl and refl and refl and refl and refl and
     refl and refl and refl and refl and refl and refl and refl and refl and refl and refl and refl and
-    refl and refl and sights-hold
+    refl and refl and refl and refl and refl and refl and refl and refl and refl and refl and sights-hold

@@ -1,24 +1,28 @@
 -- Demand 3: the claims about the two first-hit calls, from where their walks end. Assumes nothing.
-use Prim.Native.Nat.{ℕ, zero, suc, _+_, _*_, _≤_, _<_}
-use mathlib.Core.Path.{_≡_, refl, sym, ap, _∙_, subst, subst₂}
+use Prim.Native.Nat.{ℕ, zero, suc, _+_, _-_, _*_, _≤_, _<_}
+use mathlib.Core.Path.{_≡_, refl, sym, ap, ap₂, _∙_, subst, subst₂}
 use mathlib.Core.Bool.{Bool, true, false, cond, _||_}
-use mathlib.Core.Logic.{⊎-elim}
+use mathlib.Core.Logic.{⊎-elim, _⊎_, _↔_}
 use mathlib.Core.List.{List, [], _∷_}
 use native.Mathlib.Omega.{arith}
 use native.Mathlib.Numerals.{add-one}
 use lib.IntN.{pos}
 use lib.ListN.{length, getD}
 use borrow.Author.Tests.{eq-eqb, ne-eqb}
+use Rattle.cells.specs.declared.Axis.{Axis}
 use Rattle.cells.specs.declared.Cell.{Cell}
 use Rattle.cells.specs.declared.Counts.{Counts}
+use Rattle.cells.specs.declared.Face.{Face}
+use Rattle.cells.specs.declared.Face.the-variants as Face
 use Rattle.cells.specs.declared.Verdict.{Verdict}
 use Rattle.cells.specs.declared.Verdict.the-variants as Verdict
 use Rattle.cells.specs.Checks.{by-verdict}
+use Rattle.cells.specs.Faces.{back-across}
 use Rattle.lines.specs.Steps.{X, Y, Z, total}
 use Rattle.lines.specs.Preference.{rule-1}
 use Rattle.lines.specs.Lines.{differences, longest, six-cell, cell-26, number-26}
 use Rattle.lines.proofs.Centres.{within-26, grows-26}
-use Rattle.lines.proofs.Cells.{six-misses-none, six-at-26}
+use Rattle.lines.proofs.Cells.{six-start, six-different, six-misses-none, six-at-26}
 use Rattle.grids.specs.Grid.{byte-of, clear, solid}
 use Rattle.grids.specs.Marks.{complete, marked}
 use Rattle.grids.proofs.Marking.{marked-complete}
@@ -39,12 +43,14 @@ use Rattle.walks.proofs.Find.{same-is-cell}
 use Rattle.walks.proofs.Safe.{complete-safe}
 use Rattle.walks.proofs.Numbers.{adaptive-next, Way, face, long, way}
 use Rattle.walks.proofs.Long.{go-long, go-face}
-use Rattle.walks.proofs.Places.{never-falls}
+use Rattle.walks.proofs.Places.{enters, never-falls, face-is, some-face, face-back, num-made}
 use Rattle.walks.proofs.Story.{first-hit-is, walk-stops, end-below, no-earlier, not-invented, ends-alike, reads-no-more}
 use Rattle.walks.proofs.Story.{plain-clear, plain-clear-reads, adaptive-clear-most, adaptive-clear-least}
 use Rattle.survey.proofs.Tests.{neither}
 use Rattle.claims.specs.Story.{SameStory, hits, clears, refusals, OneStory, NeverInvented, NothingInTheWay, Reads, WalksEnd}
-use Rattle.claims.specs.Story.{FirstSolid, HitInside, MarkedFirst, HitOnce, WrongWalks, OnTheLine, HitPlace, StepByStep, AdaptiveStep}
+use Rattle.claims.specs.Story.{FirstSolid, HitInside, MarkedFirst, HitOnce, WrongWalks, OnTheLine, HitPlace, CameInBy, HitFace, StepByStep}
+use Rattle.claims.specs.Story.{AdaptiveStep, long-hit}
+use Rattle.claims.specs.Example.{at, example-counts, marked-cells}
 use Rattle.claims.proofs.Grids.{says-complete}
 
 -- what an answer carries
@@ -157,6 +163,36 @@ module _ (n : Counts) (l : List ℕ) (p q : Cell) where
               code = code ∙ ap (byte-of n l) (sym cell);
               solid-there = ap solid code ∙ hit;
               place = ap (λ k. k .place) there;
+            },
+          )
+
+  pub hit-face : HitFace n l p q
+  hit-face =
+      record {
+        none = λ w h a. let (s, on) = hit-place .there w h a in none-at h s (on .cell) (on .place);
+        crossed = λ w h a far. let (s, on) = hit-place .there w h a in crossed-at h s on far;
+      }
+    where
+      none-at : (h : Hit) (s : ℕ) → h .cell ≡ six-cell rule-1 p q s → h .place ≡ entered-at p q s → (h .place .face ≡ Face.None) ↔ (h .cell ≡ p)
+      none-at h zero cell place = (λ e. cell ∙ six-start rule-1 p q, λ e. ap (λ k. k .face) place)
+      none-at h (suc s) cell place = (
+        λ e. absurd (some-face p q s (sym (ap (λ k. k .face) place) ∙ e)),
+        λ e. absurd (omega (arith, six-different rule-1 p q (suc s) 0 (sym cell ∙ e ∙ sym (six-start rule-1 p q)))),
+      )
+
+      crossed-at : (h : Hit) (s : ℕ) → OnTheLine n l p q h s → (h .cell ≡ p → ⊥) → (a : Axis) × CameInBy p q h a
+      crossed-at h zero on far = absurd (far (on .cell ∙ six-start rule-1 p q))
+      crossed-at h (suc s) on far =
+          let a = enters p q s in (
+            a,
+            record {
+              face = subst (λ k. (k .face ≡ Face.Plus a) ⊎ (k .face ≡ Face.Minus a)) (sym (on .place)) (face-is p q s);
+              number = s;
+              most = on .most;
+              cell = on .cell;
+              before = ap₂ (λ k c. back-across (k .face) c) (on .place) (on .cell) ∙ face-back p q s;
+              num = ap (λ k. k .num) (on .place) ∙ num-made p q s ∙ ap (λ c. 2 * differences p c a - 1) (sym (on .cell));
+              den = ap (λ k. k .den) (on .place);
             },
           )
 
@@ -319,8 +355,35 @@ marked-first n l exit = record {
 
 -- ---- wrong walks
 
+-- a number for each face
+face-number : Face → ℕ
+face-number Face.None = 0
+face-number (Face.Plus X) = 1
+face-number (Face.Plus Y) = 2
+face-number (Face.Plus Z) = 3
+face-number (Face.Minus X) = 4
+face-number (Face.Minus Y) = 5
+face-number (Face.Minus Z) = 6
+
+-- what a walk that hits says of the face
+face-or : FirstHit → Face
+face-or (FirstHit.Hit h) = h .place .face
+face-or (FirstHit.Clear r) = Face.None
+face-or (FirstHit.Refused r) = Face.None
+
+-- at P there is none, and the other hit in the program's venue is entered by +y
+at-p : (w : Walker) → face-or (first-hit w example-counts marked-cells (at 1 1 0) (at 3 1 0)) ≡ Face.None
+unfolding first-hit face-or
+at-p Plain = refl
+at-p Adaptive = refl
+
+by-y : (w : Walker) → face-or (first-hit w example-counts marked-cells (at 0 0 0) (at 3 1 0)) ≡ Face.Plus Y
+unfolding first-hit face-or
+by-y Plain = refl
+by-y Adaptive = refl
+
 pub wrong-walks : WrongWalks
-unfolding first-hit kind reads-or hit-or
+unfolding first-hit kind reads-or hit-or face-or face-number
 wrong-walks =
     record {
       plain-refuses = λ r h. absurd (let z : _≡_ {A = ℕ} 2 0 = ap kind (h .says) in omega arith);
@@ -331,7 +394,8 @@ wrong-walks =
       adaptive-always-clear = λ reads h. absurd (let z : _≡_ {A = ℕ} 1 0 = ap kind (h .says) in omega arith);
       reads-made-up = λ reads h. ap (reads-or 0) (h .says);
       long-at-any-clear = λ h. absurd (let z : _≡_ {A = ℕ} 3 4 = ap (reads-or 0) (h .says) in omega arith);
-      place-of-first-face = λ h. absurd (let z : _≡_ {A = ℕ} 1 3 = ap
-          (λ a. hit-or (record { cell = record { x = pos 0; y = pos 0; z = pos 0 }; code = 0; place = record { num = 0; den = 1 }; reads = 0 }) a
-          .place .num) (h .says) in omega arith);
+      place-of-first-face = λ face h. absurd (let z : _≡_ {A = ℕ} 1 3 = ap (λ a. hit-or (long-hit 0 1 face) a .place .num) (h .says) in omega arith);
+      face-of-first-face = λ num den h. absurd (let z : _≡_ {A = ℕ} 2 1 = ap (λ a. face-number (face-or a)) (h .says) in omega arith);
+      sign-turned = λ w num den reads h. absurd (let z : _≡_ {A = ℕ} 5 2 = ap face-number (ap face-or (h .says) ∙ by-y w) in omega arith);
+      face-at-p = λ w num den reads face other h. other (ap face-or (h .says) ∙ at-p w);
     }

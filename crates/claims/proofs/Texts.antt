@@ -94,4 +94,15 @@ one-line line at entry = record { one = λ r t x y e f. (e .says ∙ sym (f .say
 
 pub examples : Examples
 unfolding decimal-in decimal signed-decimal hit-line clear-line pair-refused-line venue-refused-line
-examples = record { hit = refl; all-different = refl; below-zero = refl; clear = refl; pair = refl; venue = refl }
+examples =
+    record {
+      hit = refl;
+      all-different = refl;
+      below-zero = refl;
+      rising = (refl, refl, refl);
+      falling = (refl, refl, refl);
+      none = refl;
+      clear = refl;
+      pair = refl;
+      venue = refl;
+    }

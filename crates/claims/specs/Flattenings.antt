@@ -3,12 +3,14 @@
 use Prim.Native.Nat.{ℕ, _≤_}
 use mathlib.Core.Path.{_≡_}
 use mathlib.Core.Logic.{_⊎_, inr, _↔_}
-use lib.IntN.{ℤ, pos}
+use lib.IntN.{ℤ, pos, negsuc}
 use lib.Ieee.{Float}
 use Rattle.cells.specs.declared.Axis.{Axis}
 use Rattle.cells.specs.declared.Axis.the-variants.{X, Y, Z}
 use Rattle.cells.specs.declared.End.{End}
 use Rattle.cells.specs.declared.End.the-variants.{P, Q}
+use Rattle.cells.specs.declared.Face.{Face}
+use Rattle.cells.specs.declared.Face.the-variants as Face
 use Rattle.cells.specs.declared.Part.{Part}
 use Rattle.cells.specs.declared.Part.the-variants.{OriginX, OriginY, OriginZ, Edge}
 use Rattle.cells.specs.declared.Refusal.{Refusal}
@@ -38,6 +40,7 @@ use Rattle.records.specs.Writing.{told-written}
 use Rattle.oatmarten.specs.declared.refusals.OatSaid.{OatSaid}
 use Rattle.oatmarten.specs.declared.walk_calls.OatHit.{OatHit}
 use Rattle.oatmarten.specs.Refusals.{end-number, axis-number, part-number, accepted, flat-refusal, said-of}
+use Rattle.oatmarten.specs.Faces.{face-number}
 use Rattle.oatmarten.specs.Inputs.{as-cell, as-counts, as-placement, as-point}
 use Rattle.oatmarten.specs.LineCalls.{flat-listed}
 use Rattle.oatmarten.specs.GridCalls.{flat-verdict, flat-complete, flat-part}
@@ -76,12 +79,16 @@ InTable k = (1 ≤ k) × (k ≤ 11)
 abbrev pub three : (refusal end axis : ℕ) → OatSaid
 three refusal end axis = record { refusal = refusal; end = end; axis = axis }
 
--- 2. The numbers that C reads, as include/oatmarten.h has them: of ends, axes and parts of a placement, of each refusal, and of a call on a named
--- input, P at (0,0,0) and Q at (0,2,0) of the program's venue. They tell which refusal it is.
+-- 2. The numbers that C reads, as include/oatmarten.h has them: of ends, axes, parts of a placement and entry faces, of each refusal, and of a call
+-- on a named input, P at (0,0,0) and Q at (0,2,0) of the program's venue. They tell which refusal it is.
 pub record SaidNumbers : Type 0 where
   pub ends : (end-number P ≡ 1) × (end-number Q ≡ 2)
   pub axes : (axis-number X ≡ 1) × (axis-number Y ≡ 2) × (axis-number Z ≡ 3)
   pub parts : (part-number OriginX ≡ 1) × (part-number OriginY ≡ 2) × (part-number OriginZ ≡ 3) × (part-number Edge ≡ 4)
+  pub no-face : face-number Face.None ≡ pos 0
+  pub rising : (face-number (Face.Plus X) ≡ pos 1) × (face-number (Face.Plus Y) ≡ pos 2) × (face-number (Face.Plus Z) ≡ pos 3)
+  -- `negsuc` counts from -1 on
+  pub falling : (face-number (Face.Minus X) ≡ negsuc 0) × (face-number (Face.Minus Y) ≡ negsuc 1) × (face-number (Face.Minus Z) ≡ negsuc 2)
   pub fine : accepted ≡ three 0 0 0
   pub limit : (e : End) (a : Axis) → flat-refusal (Refusal.Limit e a) ≡ three 1 (end-number e) (axis-number a)
   pub count : (a : Axis) → flat-refusal (Refusal.Count a) ≡ three 2 0 (axis-number a)
@@ -114,25 +121,26 @@ pub record FlatRows : Type 0 where
   -- a layer's part: `offset` is where it starts, `length` how long it is
   pub part : (start many : ℕ) → flat-part (LayerPart.Part start many) ≡ record { said = three 0 0 0; offset = start; length = many }
   pub part-refused : (r : Refusal) → flat-part (LayerPart.Refused r) ≡ record { said = flat-refusal r; offset = 0; length = 0 }
-  -- a walk: `hit` is 1 where it hit, with the cell, its code, the place num over den, and the reads; 0 where it is clear, with the reads
-  pub hit : (x y z : ℤ) (code num den reads : ℕ) →
-      flat-hit (FirstHit.Hit (record { cell = record { x = x; y = y; z = z }; code = code; place = record { num = num; den = den }; reads = reads })) ≡
-      record { said = three 0 0 0; hit = 1; x = x; y = y; z = z; code = code; num = num; den = den; reads = reads }
+  -- a walk: `hit` is 1 where it hit, with the cell, its code, the place num over den, the face, and the reads; 0 where it is clear, with the reads
+  pub hit : (x y z : ℤ) (code num den : ℕ) (f : Face) (reads : ℕ) →
+      flat-hit (FirstHit.Hit
+      (record { cell = record { x = x; y = y; z = z }; code = code; place = record { num = num; den = den; face = f }; reads = reads })) ≡
+      record { said = three 0 0 0; hit = 1; x = x; y = y; z = z; code = code; num = num; den = den; face = face-number f; reads = reads }
   pub walk-clear : (reads : ℕ) → flat-hit (FirstHit.Clear reads) ≡
-      record { said = three 0 0 0; hit = 0; x = pos 0; y = pos 0; z = pos 0; code = 0; num = 0; den = 0; reads = reads }
+      record { said = three 0 0 0; hit = 0; x = pos 0; y = pos 0; z = pos 0; code = 0; num = 0; den = 0; face = pos 0; reads = reads }
   pub walk-refused : (r : Refusal) → flat-hit (FirstHit.Refused r) ≡
-      record { said = flat-refusal r; hit = 0; x = pos 0; y = pos 0; z = pos 0; code = 0; num = 0; den = 0; reads = 0 }
+      record { said = flat-refusal r; hit = 0; x = pos 0; y = pos 0; z = pos 0; code = 0; num = 0; den = 0; face = pos 0; reads = 0 }
   -- a point's cell: its x, y and z
   pub found : (x y z : ℤ) → flat-found (Lookup.Cell (record { x = x; y = y; z = z })) ≡ record { said = three 0 0 0; x = x; y = y; z = z }
   pub found-refused : (r : Refusal) → flat-found (Lookup.Refused r) ≡ record { said = flat-refusal r; x = pos 0; y = pos 0; z = pos 0 }
-  -- a sight: `blocked` is 1 where a cell is in the way, with the share of the way, the cell, its code, and the reads; 0 where it is clear
-  pub blocked : (share : Float) (x y z : ℤ) (code reads : ℕ) →
-      flat-sight (Sight.Blocked (record { share = share; cell = record { x = x; y = y; z = z }; code = code; reads = reads })) ≡
-      record { said = three 0 0 0; blocked = 1; share = share; x = x; y = y; z = z; code = code; reads = reads }
+  -- a sight: `blocked` is 1 where a cell is in the way, with the share of the way, the cell, its code, the reads, and the face; 0 where it is clear
+  pub blocked : (share : Float) (x y z : ℤ) (code reads : ℕ) (f : Face) →
+      flat-sight (Sight.Blocked (record { share = share; cell = record { x = x; y = y; z = z }; code = code; reads = reads; face = f })) ≡
+      record { said = three 0 0 0; blocked = 1; share = share; x = x; y = y; z = z; code = code; reads = reads; face = face-number f }
   pub sight-clear : flat-sight Sight.Clear ≡
-      record { said = three 0 0 0; blocked = 0; share = as-f64 0; x = pos 0; y = pos 0; z = pos 0; code = 0; reads = 0 }
+      record { said = three 0 0 0; blocked = 0; share = as-f64 0; x = pos 0; y = pos 0; z = pos 0; code = 0; reads = 0; face = pos 0 }
   pub sight-refused : (r : Refusal) → flat-sight (Sight.Refused r) ≡
-      record { said = flat-refusal r; blocked = 0; share = as-f64 0; x = pos 0; y = pos 0; z = pos 0; code = 0; reads = 0 }
+      record { said = flat-refusal r; blocked = 0; share = as-f64 0; x = pos 0; y = pos 0; z = pos 0; code = 0; reads = 0; face = pos 0 }
   -- a venue's record: the three counts; `offset` is where its cells start, `length` how many they are
   pub venue : (nx ny nz start long : ℕ) →
       flat-venue (VenueRead.Read (record { counts = record { nx = nx; ny = ny; nz = nz }; start = start; long = long })) ≡

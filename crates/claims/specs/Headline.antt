@@ -41,7 +41,7 @@ use Rattle.claims.specs.Grids as grids
 use Rattle.claims.specs.Points as points
 use Rattle.claims.specs.Records as records
 use Rattle.claims.specs.Sights.{SeenOnce, OpenWay}
-use Rattle.claims.specs.Story.{SameStory, NoLater, FirstSolid, HitOnce, WalksEnd, StepByStep, AdaptiveStep}
+use Rattle.claims.specs.Story.{SameStory, NoLater, FirstSolid, HitFace, HitOnce, WalksEnd, StepByStep, AdaptiveStep}
 
 -- 1. Every public call takes any numbers and any lent memory, has one answer and one final memory for each input, and refuses by number exactly
 -- where SCOPE's table says, in its order; a refusal writes nothing.
@@ -81,9 +81,9 @@ pub record AreThePapers : Type 0 where
       (rest : List ℕ) (bytes part : RefT (List ℕ)) (r : VenueRead) →
       bytes .now ≡ take k exit ++ rest → ReadsVenue (bytes .now) r → GivesCells bytes part → records.SameVenue n cells bytes part r
 
--- 3. Where the completeness call says yes, the adaptive and the plain walk find the same first solid cell, code and place, or both none, and the
--- adaptive one reads no more cells; and a clear sight has nothing solid in its way. In any grid whatever, an adaptive hit is a plain hit, there or
--- before.
+-- 3. Where the completeness call says yes, the adaptive and the plain walk find the same first solid cell, code, place and entry face, or both none,
+-- and the adaptive one reads no more cells; and a clear sight has nothing solid in its way. In any grid whatever, an adaptive hit is a plain hit,
+-- there or before; and a hit of either walk says the face by which the 6-line enters its cell, at its place.
 pub record TellOneStory : Type 0 where
   pub same : (n : Counts) (l : List ℕ) (p q : Cell) → Completes n l Yes → (plain adaptive : FirstHit) → Finds Plain n l p q plain →
       Finds Adaptive n l p q adaptive → SameStory plain adaptive
@@ -92,3 +92,4 @@ pub record TellOneStory : Type 0 where
   pub never-invented : (n : Counts) (l : List ℕ) (p q : Cell) (k : Hit) (plain : FirstHit) → Finds Adaptive n l p q (FirstHit.Hit k) →
       Finds Plain n l p q plain →
       (h : Hit) × (plain ≡ FirstHit.Hit h) × NoLater p q (h .cell) (k .cell)
+  pub faces : (n : Counts) (l : List ℕ) (p q : Cell) → HitFace n l p q

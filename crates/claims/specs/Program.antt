@@ -79,9 +79,9 @@ pub record FiveOrLines (bytes cells : RefT (List ℕ)) (t : List ℕ) (v : Venue
 abbrev pub example-input : List ℕ
 example-input = example-venue ++ example-pair
 
--- `1 P hit 1 1 0 2 3`
+-- `1 P hit 1 1 0 2 3 +y`
 abbrev pub plain-line : List ℕ
-plain-line = 49 ∷ 32 ∷ 80 ∷ 32 ∷ 104 ∷ 105 ∷ 116 ∷ 32 ∷ 49 ∷ 32 ∷ 49 ∷ 32 ∷ 48 ∷ 32 ∷ 50 ∷ 32 ∷ 51 ∷ 10 ∷ []
+plain-line = 49 ∷ 32 ∷ 80 ∷ 32 ∷ 104 ∷ 105 ∷ 116 ∷ 32 ∷ 49 ∷ 32 ∷ 49 ∷ 32 ∷ 48 ∷ 32 ∷ 50 ∷ 32 ∷ 51 ∷ 32 ∷ 43 ∷ 121 ∷ 10 ∷ []
 
 -- its whole output, with `1 A clear 4`
 abbrev pub example-output : List ℕ
@@ -91,9 +91,9 @@ example-output = plain-line ++ (49 ∷ 32 ∷ 65 ∷ 32 ∷ 99 ∷ 108 ∷ 101 �
 abbrev pub marked-input : List ℕ
 marked-input = (0 ∷ 0 ∷ 0 ∷ 15 ∷ 1 ∷ 0 ∷ 4 ∷ 0 ∷ 2 ∷ 0 ∷ 1 ∷ marked-cells) ++ example-pair
 
--- SCOPE T14: its whole output, with `1 A hit 1 1 0 2 3`
+-- SCOPE T14: its whole output, with `1 A hit 1 1 0 2 3 +y`
 abbrev pub marked-output : List ℕ
-marked-output = plain-line ++ (49 ∷ 32 ∷ 65 ∷ 32 ∷ 104 ∷ 105 ∷ 116 ∷ 32 ∷ 49 ∷ 32 ∷ 49 ∷ 32 ∷ 48 ∷ 32 ∷ 50 ∷ 32 ∷ 51 ∷ 10 ∷ [])
+marked-output = plain-line ++ (49 ∷ 32 ∷ 65 ∷ 32 ∷ 104 ∷ 105 ∷ 116 ∷ 32 ∷ 49 ∷ 32 ∷ 49 ∷ 32 ∷ 48 ∷ 32 ∷ 50 ∷ 32 ∷ 51 ∷ 32 ∷ 43 ∷ 121 ∷ 10 ∷ [])
 
 -- ---- wrong answers
 

@@ -6,22 +6,28 @@ use mathlib.Core.List.{List}
 use lib.ListN.{length}
 use Rattle.cells.specs.declared.Cell as cell
 use Rattle.cells.specs.declared.Counts.{Counts}
+use Rattle.cells.specs.declared.Axis.the-variants.{Y}
 use Rattle.cells.specs.declared.End.the-variants.{P, Q}
+use Rattle.cells.specs.declared.Face.{Face}
+use Rattle.cells.specs.declared.Face.the-variants as Face
 use Rattle.cells.specs.declared.Refusal.{Refusal}
 use Rattle.cells.specs.declared.Verdict.the-variants.{Fine}
 use Rattle.lines.specs.Segment.{Share, InOpen}
 use Rattle.grids.specs.Grid.{shape, byte-of, solid}
 use Rattle.grids.specs.Marks.{complete}
 use Rattle.walks.specs.declared.Walker.the-variants.{Adaptive}
+use Rattle.walks.specs.declared.Hit.{Hit}
 use Rattle.walks.specs.declared.FirstHit.{FirstHit}
+use Rattle.walks.specs.declared.FirstHit.the-variants as FirstHit
 use Rattle.walks.specs.Answers.{Finds}
 use Rattle.survey.specs.declared.Lookup.the-variants as Lookup
 use Rattle.survey.specs.declared.Placement.{Placement}
 use Rattle.survey.specs.declared.Point.{Point}
 use Rattle.survey.specs.Survey.{placement-check, look-up}
+use Rattle.sight.specs.declared.Block.{Block}
 use Rattle.sight.specs.declared.Sight.{Sight}
-use Rattle.sight.specs.declared.Sight.the-variants.{Clear, Refused}
-use Rattle.sight.specs.Sight.{sight-of, Sees}
+use Rattle.sight.specs.declared.Sight.the-variants.{Clear, Blocked, Refused}
+use Rattle.sight.specs.Sight.{share-of, sight-of, Sees}
 use Rattle.claims.specs.Points.{metres, placement, point}
 use Rattle.claims.specs.Example.{example-counts, marked-cells}
 use Rattle.claims.specs.Starred.{halves}
@@ -56,6 +62,23 @@ module _ (n : Counts) (l : List ℕ) (at : Placement) where
     pub any-ball : (r : Refusal) → look-up P n at camera ≡ Lookup.Refused r → (ball other : Point) (s t : Sight) →
         Sees n l at camera ball s → Sees n l at camera other t → s ≡ t
 
+  -- 5. A blocked sight is the adaptive hit between the cells of camera and ball: its cell, code, reads and entry face, and its place as a share.
+  pub record BlockedBy (camera ball : Point) (b : Block) : Type 0 where
+    pub from : cell.Cell
+    pub to : cell.Cell
+    pub hit : Hit
+    pub from-is : look-up P n at camera ≡ Lookup.Cell from
+    pub to-is : look-up Q n at ball ≡ Lookup.Cell to
+    pub found : Finds Adaptive n l from to (FirstHit.Hit hit)
+    pub same-cell : b .cell ≡ hit .cell
+    pub same-code : b .code ≡ hit .code
+    pub same-reads : b .reads ≡ hit .reads
+    pub same-face : b .face ≡ hit .place .face
+    pub its-share : b .share ≡ share-of (hit .place .num) (hit .place .den)
+
+  pub record BlockedAsHit (camera ball : Point) : Type 0 where
+    pub hit-by : (b : Block) → Sees n l at camera ball (Blocked b) → BlockedBy camera ball b
+
 -- ---- wrong answers, on the program's venue with its marks: a camera and a ball in the middles of (0,0,0) and (3,1,0)
 
 abbrev pub Seen-there : Sight → Type 0
@@ -66,3 +89,5 @@ Seen-there =
 pub record WrongSights : Type 0 where
   pub clear-always : Seen-there Clear → ⊥
   pub refuses-always : (r : Refusal) → Seen-there (Refused r) → ⊥
+  -- the line comes in by +y
+  pub other-face : (b : Block) → (b .face ≡ Face.Plus Y → ⊥) → Seen-there (Blocked b) → ⊥

@@ -8,8 +8,10 @@ use lib.Ieee.{Float, binary64, div, ofBits}
 use lib.ListN.{length}
 use Rattle.cells.specs.declared.Cell.{Cell}
 use Rattle.cells.specs.declared.Counts.{Counts}
-use Rattle.cells.specs.declared.Axis.the-variants.{X, Y}
+use Rattle.cells.specs.declared.Axis.the-variants.{X, Y, Z}
 use Rattle.cells.specs.declared.End.the-variants.{P, Q}
+use Rattle.cells.specs.declared.Face.{Face}
+use Rattle.cells.specs.declared.Face.the-variants as Face
 use Rattle.cells.specs.Checks.{by-verdict}
 use Rattle.cells.specs.Refusals.{Told, alone, at-end}
 use Rattle.lines.specs.Preference.{rule-1}
@@ -38,9 +40,10 @@ use Rattle.claims.specs.Program.{example-input, example-output, marked-i
 abbrev pub at-minus : (x y z : ℕ) → Cell
 at-minus x y z = record { x = negℤ (pos x); y = pos y; z = pos z }
 
--- what a walk answers: a hit at a cell, with its code, place and reads; or clear, with its reads
-abbrev pub hit : Cell → (code num den reads : ℕ) → Told ⊎ WalkSaid
-hit c code num den reads = inr (said.hit (record { cell = c; code = code; place = record { num = num; den = den }; reads = reads }))
+-- what a walk answers: a hit at a cell, with its code, place, entry face and reads; or clear, with its reads
+abbrev pub hit : Cell → (code num den : ℕ) → Face → (reads : ℕ) → Told ⊎ WalkSaid
+hit c code num den face reads =
+    inr (said.hit (record { cell = c; code = code; place = record { num = num; den = den; face = face }; reads = reads }))
 
 abbrev pub clear : ℕ → Told ⊎ WalkSaid
 clear reads = inr (said.clear reads)
@@ -51,8 +54,8 @@ halves k = div binary64 (as-f64 k) (as-f64 2)
 
 -- a row: the ends P and Q and the cells of the line between them; the ends, room for so many numbers, and what the 6-line's call answers; counts,
 -- bytes, and the bytes marked; a walk, its grid and ends, and what it finds; a venue's record, its counts and its cells; a pair's record, P and Q;
--- the program's whole input and output; or a grid, its placement, camera and ball, and the 64 bits of the share, the cell, code and reads of what is
--- in the way
+-- the program's whole input and output; or a grid, its placement, camera and ball, and the 64 bits of the share, the cell, code, reads and entry face
+-- of what is in the way
 pub data Row : Type 0 where
   six : Cell → Cell → List Cell → Row
   twenty-six : Cell → Cell → List Cell → Row
@@ -63,7 +66,7 @@ pub data Row : Type 0 where
   venue-part : List ℕ → List ℕ → Row
   pair : List ℕ → Cell → Cell → Row
   writes : List ℕ → List ℕ → Row
-  sees : Counts → List ℕ → Placement → Point → Point → ℕ → Cell → ℕ → ℕ → Row
+  sees : Counts → List ℕ → Placement → Point → Point → ℕ → Cell → ℕ → ℕ → Face → Row
 
 -- what a row says
 abbrev pub Holds : Row → Type 0
@@ -75,8 +78,8 @@ Holds (marks n l m) = marked 3 n l ≡ m
 Holds (finds w n l p q says) = told-hit (first-hit w n l p q) ≡ says
 Holds (venue s n cells) = told-venue (venue-read s) ≡ inr (n, length s - length cells, length cells)
 Holds (venue-part s cells) = venue-cells s ≡ cells
-Holds (sees n l place camera ball share c code reads) =
-    told-sight (sight n l place camera ball) ≡ inr (blocked (record { share = ofBits binary64 share; cell = c; code = code; reads = reads }))
+Holds (sees n l place camera ball share c code reads face) =
+    told-sight (sight n l place camera ball) ≡ inr (blocked (record { share = ofBits binary64 share; cell = c; code = code; reads = reads; face = face }))
 Holds (pair s p q) = told-pair (pair-read s) ≡ inr (p, q)
 Holds (writes s out) = output s ≡ out
 
@@ -104,10 +107,10 @@ record-rows =
 abbrev pub sight-rows : List Row
 sight-rows =
     sees example-counts marked-cells (placement (metres 0) (metres 1)) (point (halves 1) (halves 1) (halves 1))
-    (point (halves 7) (halves 3) (halves 1)) 0x3fe0_0000_0000_0000 (at 1 1 0) 2 3
+    (point (halves 7) (halves 3) (halves 1)) 0x3fe0_0000_0000_0000 (at 1 1 0) 2 3 (Face.Plus Y)
     -- a place of 3 over 10, from the camera on
     ∷ sees (counts 6 3 1) long-bytes (placement (metres 0) (metres 1)) (point (halves 1) (halves 1) (halves 1))
-    (point (halves 11) (halves 5) (halves 1)) 0x3fd3_3333_3333_3333 (at 2 1 0) 2 3
+    (point (halves 11) (halves 5) (halves 1)) 0x3fd3_3333_3333_3333 (at 2 1 0) 2 3 (Face.Plus X)
     ∷ record-rows
 
 abbrev pub table : List Row
@@ -138,21 +141,31 @@ table =
     ∷ marks (counts 1 1 3) (2 ∷ 0 ∷ 0 ∷ []) (2 ∷ 1 ∷ 0 ∷ [])
     -- a corner touches
     ∷ marks (counts 2 2 2) (0 ∷ 0 ∷ 0 ∷ 0 ∷ 0 ∷ 0 ∷ 0 ∷ 9 ∷ []) (1 ∷ 1 ∷ 1 ∷ 1 ∷ 1 ∷ 1 ∷ 1 ∷ 9 ∷ [])
-    ∷ finds Plain example-counts example-cells (at 0 0 0) (at 3 1 0) (hit (at 1 1 0) 2 1 2 3)
+    ∷ finds Plain example-counts example-cells (at 0 0 0) (at 3 1 0) (hit (at 1 1 0) 2 1 2 (Face.Plus Y) 3)
     ∷ finds Adaptive example-counts example-cells (at 0 0 0) (at 3 1 0) (clear 4)
-    ∷ finds Plain example-counts marked-cells (at 0 0 0) (at 3 1 0) (hit (at 1 1 0) 2 1 2 3)
-    ∷ finds Adaptive example-counts marked-cells (at 0 0 0) (at 3 1 0) (hit (at 1 1 0) 2 1 2 3)
+    ∷ finds Plain example-counts marked-cells (at 0 0 0) (at 3 1 0) (hit (at 1 1 0) 2 1 2 (Face.Plus Y) 3)
+    ∷ finds Adaptive example-counts marked-cells (at 0 0 0) (at 3 1 0) (hit (at 1 1 0) 2 1 2 (Face.Plus Y) 3)
     -- equal ends: one cell, one read
     ∷ finds Plain example-counts marked-cells (at 3 1 0) (at 3 1 0) (clear 1)
     ∷ finds Adaptive example-counts marked-cells (at 3 1 0) (at 3 1 0) (clear 1)
-    -- a hit at P: 0 over 1
-    ∷ finds Plain example-counts marked-cells (at 1 1 0) (at 3 1 0) (hit (at 1 1 0) 2 0 1 1)
-    ∷ finds Adaptive example-counts marked-cells (at 1 1 0) (at 3 1 0) (hit (at 1 1 0) 2 0 1 1)
+    -- a hit at P: 0 over 1, and no face
+    ∷ finds Plain example-counts marked-cells (at 1 1 0) (at 3 1 0) (hit (at 1 1 0) 2 0 1 Face.None 1)
+    ∷ finds Adaptive example-counts marked-cells (at 1 1 0) (at 3 1 0) (hit (at 1 1 0) 2 0 1 Face.None 1)
     -- the bytes lie x fastest, then y, then z: byte 4 of 2 by 3 by 2 is (0,2,0)
-    ∷ finds Plain (counts 2 3 2) (0 ∷ 0 ∷ 0 ∷ 0 ∷ 2 ∷ 0 ∷ 0 ∷ 0 ∷ 0 ∷ 0 ∷ 0 ∷ 0 ∷ []) (at 0 0 0) (at 0 2 0) (hit (at 0 2 0) 2 3 4 3)
+    ∷ finds Plain (counts 2 3 2) (0 ∷ 0 ∷ 0 ∷ 0 ∷ 2 ∷ 0 ∷ 0 ∷ 0 ∷ 0 ∷ 0 ∷ 0 ∷ 0 ∷ []) (at 0 0 0) (at 0 2 0) (hit (at 0 2 0) 2 3 4 (Face.Plus Y) 3)
     -- 255 is solid; a place is not reduced, 3 over 6
-    ∷ finds Plain (counts 2 1 1) (0 ∷ 255 ∷ []) (at 0 0 0) (at 1 0 0) (hit (at 1 0 0) 255 1 2 2)
-    ∷ finds Plain (counts 4 1 1) (0 ∷ 0 ∷ 2 ∷ 0 ∷ []) (at 0 0 0) (at 3 0 0) (hit (at 2 0 0) 2 3 6 3)
+    ∷ finds Plain (counts 2 1 1) (0 ∷ 255 ∷ []) (at 0 0 0) (at 1 0 0) (hit (at 1 0 0) 255 1 2 (Face.Plus X) 2)
+    ∷ finds Plain (counts 4 1 1) (0 ∷ 0 ∷ 2 ∷ 0 ∷ []) (at 0 0 0) (at 3 0 0) (hit (at 2 0 0) 2 3 6 (Face.Plus X) 3)
+    -- a tie of three: each face by which the 6-line goes on, there and back
+    ∷ finds Plain (counts 2 2 2) (0 ∷ 0 ∷ 2 ∷ 0 ∷ 0 ∷ 0 ∷ 0 ∷ 0 ∷ []) (at 0 0 0) (at 1 1 1) (hit (at 0 1 0) 2 1 2 (Face.Plus Y) 2)
+    ∷ finds Plain (counts 2 2 2) (0 ∷ 0 ∷ 0 ∷ 0 ∷ 0 ∷ 0 ∷ 2 ∷ 0 ∷ []) (at 0 0 0) (at 1 1 1) (hit (at 0 1 1) 2 1 2 (Face.Plus Z) 3)
+    ∷ finds Plain (counts 2 2 2) (0 ∷ 0 ∷ 0 ∷ 0 ∷ 0 ∷ 0 ∷ 0 ∷ 2 ∷ []) (at 0 0 0) (at 1 1 1) (hit (at 1 1 1) 2 1 2 (Face.Plus X) 4)
+    ∷ finds Plain (counts 2 2 2) (0 ∷ 0 ∷ 0 ∷ 0 ∷ 0 ∷ 2 ∷ 0 ∷ 0 ∷ []) (at 1 1 1) (at 0 0 0) (hit (at 1 0 1) 2 1 2 (Face.Minus Y) 2)
+    ∷ finds Plain (counts 2 2 2) (0 ∷ 2 ∷ 0 ∷ 0 ∷ 0 ∷ 0 ∷ 0 ∷ 0 ∷ []) (at 1 1 1) (at 0 0 0) (hit (at 1 0 0) 2 1 2 (Face.Minus Z) 3)
+    ∷ finds Plain (counts 2 2 2) (2 ∷ 0 ∷ 0 ∷ 0 ∷ 0 ∷ 0 ∷ 0 ∷ 0 ∷ []) (at 1 1 1) (at 0 0 0) (hit (at 0 0 0) 2 1 2 (Face.Minus X) 4)
+    -- one long step over all three: the face crossed last
+    ∷ finds Adaptive (counts 2 2 2) (0 ∷ 0 ∷ 0 ∷ 0 ∷ 0 ∷ 0 ∷ 0 ∷ 2 ∷ []) (at 0 0 0) (at 1 1 1) (hit (at 1 1 1) 2 1 2 (Face.Plus X) 2)
+    ∷ finds Adaptive (counts 2 2 2) (2 ∷ 0 ∷ 0 ∷ 0 ∷ 0 ∷ 0 ∷ 0 ∷ 0 ∷ []) (at 1 1 1) (at 0 0 0) (hit (at 0 0 0) 2 1 2 (Face.Minus X) 2)
     -- complete marks, both clear, the adaptive walk reads fewer
     ∷ finds Plain (counts 3 2 1) (0 ∷ 0 ∷ 0 ∷ 0 ∷ 0 ∷ 0 ∷ []) (at 0 0 0) (at 2 1 0) (clear 4)
     ∷ finds Adaptive (counts 3 2 1) (0 ∷ 0 ∷ 0 ∷ 0 ∷ 0 ∷ 0 ∷ []) (at 0 0 0) (at 2 1 0) (clear 3)
@@ -160,9 +173,9 @@ table =
     ∷ finds Adaptive (counts 2 3 1) (0 ∷ 0 ∷ 0 ∷ 0 ∷ 0 ∷ 0 ∷ []) (at 0 0 0) (at 1 2 0) (clear 3)
     ∷ finds Adaptive (counts 1 2 3) (0 ∷ 0 ∷ 0 ∷ 0 ∷ 0 ∷ 0 ∷ []) (at 0 0 0) (at 0 1 2) (clear 3)
     -- missing marks: a long step lands on the hit
-    ∷ finds Plain (counts 6 3 1) long-bytes (at 0 0 0) (at 5 2 0) (hit (at 2 1 0) 2 3 10 4)
-    ∷ finds Adaptive (counts 6 3 1) long-bytes (at 0 0 0) (at 5 2 0) (hit (at 2 1 0) 2 3 10 3)
+    ∷ finds Plain (counts 6 3 1) long-bytes (at 0 0 0) (at 5 2 0) (hit (at 2 1 0) 2 3 10 (Face.Plus X) 4)
+    ∷ finds Adaptive (counts 6 3 1) long-bytes (at 0 0 0) (at 5 2 0) (hit (at 2 1 0) 2 3 10 (Face.Plus X) 3)
     -- missing marks: the adaptive walk is clear and reads more than the plain one
-    ∷ finds Plain (counts 3 2 1) (0 ∷ 0 ∷ 0 ∷ 0 ∷ 2 ∷ 0 ∷ []) (at 0 1 0) (at 2 0 0) (hit (at 1 1 0) 2 1 4 2)
+    ∷ finds Plain (counts 3 2 1) (0 ∷ 0 ∷ 0 ∷ 0 ∷ 2 ∷ 0 ∷ []) (at 0 1 0) (at 2 0 0) (hit (at 1 1 0) 2 1 4 (Face.Plus X) 2)
     ∷ finds Adaptive (counts 3 2 1) (0 ∷ 0 ∷ 0 ∷ 0 ∷ 2 ∷ 0 ∷ []) (at 0 1 0) (at 2 0 0) (clear 3)
     ∷ sight-rows

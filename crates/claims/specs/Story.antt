@@ -1,15 +1,20 @@
 -- Demand 3: the plain and the adaptive walk tell one story. Claims about the two first-hit calls, by their contracts: for every grid, every two
 -- ends, and all answers that meet the contracts on the same inputs. Assumes nothing.
-use Prim.Native.Nat.{ℕ, suc, _+_, _*_, _≤_, _<_}
+use Prim.Native.Nat.{ℕ, suc, _+_, _-_, _*_, _≤_, _<_}
 use mathlib.Core.Path.{_≡_}
 use mathlib.Core.Bool.{true, false}
-use mathlib.Core.Logic.{_⊎_}
+use mathlib.Core.Logic.{_⊎_, _↔_}
 use mathlib.Core.List.{List, [], _∷_}
 use lib.ListN.{length, getD}
+use Rattle.cells.specs.declared.Axis.{Axis}
+use Rattle.cells.specs.declared.Axis.the-variants.{Y}
 use Rattle.cells.specs.declared.Cell.{Cell}
 use Rattle.cells.specs.declared.Counts.{Counts}
+use Rattle.cells.specs.declared.Face.{Face}
+use Rattle.cells.specs.declared.Face.the-variants as Face
 use Rattle.cells.specs.declared.Refusal.{Refusal}
 use Rattle.cells.specs.declared.Verdict.the-variants.{Fine}
+use Rattle.cells.specs.Faces.{back-across}
 use Rattle.lines.specs.Steps.{total}
 use Rattle.lines.specs.Preference.{rule-1}
 use Rattle.lines.specs.Lines.{differences, longest, six-cell, cell-26}
@@ -27,8 +32,8 @@ use Rattle.grids.specs.Inside.{InGrid}
 use Rattle.walks.specs.Answers.{entered-at, last-of, Finds}
 use Rattle.claims.specs.Example.{counts, at, example-counts, example-cells, marked-cells}
 
--- the first answer is the plain walk's, the second the adaptive one's: the same cell, code and place, or both clear, or both refuse alike; and the
--- adaptive walk reads no more cells
+-- the first answer is the plain walk's, the second the adaptive one's: the same cell, code and place, the entry face with it, or both clear, or both
+-- refuse alike; and the adaptive walk reads no more cells
 pub data SameStory : FirstHit → FirstHit → Type 0 where
   hits : {h k : Hit} → h .cell ≡ k .cell → h .code ≡ k .code → h .place ≡ k .place → k .reads ≤ h .reads → SameStory (FirstHit.Hit h) (FirstHit.Hit k)
   clears : {r s : ℕ} → s ≤ r → SameStory (FirstHit.Clear r) (FirstHit.Clear s)
@@ -122,6 +127,23 @@ pub record AdaptiveStep (n : Counts) (l : List ℕ) (p q : Cell) : Type 0 where
       ((byte-of n l (six-cell rule-1 p q s) ≡ 0 → ⊥) ⊎ ((m : ℕ) → m ≤ longest (differences p q) → cell-26 p q m ≡ six-cell rule-1 p q s → ⊥)) →
       next-cell Adaptive n l p q (six-cell rule-1 p q s) ≡ six-cell rule-1 p q (suc s)
 
+-- 12. The entry face of a hit, by either walk: none exactly where the cell is P. Else it lies across an axis, and there
+pub record CameInBy (p q : Cell) (h : Hit) (a : Axis) : Type 0 where
+  -- it is the face of that axis, with one of the two signs
+  pub face : (h .place .face ≡ Face.Plus a) ⊎ (h .place .face ≡ Face.Minus a)
+  -- one step back across it stands the cell of the 6-line before the hit's
+  pub number : ℕ
+  pub most : suc number ≤ total (differences p q)
+  pub cell : h .cell ≡ six-cell rule-1 p q (suc number)
+  pub before : back-across (h .place .face) (h .cell) ≡ six-cell rule-1 p q number
+  -- the place is that of this crossing: 2i - 1 over 2D, i the cell's steps from P on the axis, D the difference of the ends on it
+  pub num : h .place .num ≡ 2 * differences p (h .cell) a - 1
+  pub den : h .place .den ≡ 2 * differences p q a
+
+pub record HitFace (n : Counts) (l : List ℕ) (p q : Cell) : Type 0 where
+  pub none : (w : Walker) (h : Hit) → Finds w n l p q (FirstHit.Hit h) → (h .place .face ≡ Face.None) ↔ (h .cell ≡ p)
+  pub crossed : (w : Walker) (h : Hit) → Finds w n l p q (FirstHit.Hit h) → (h .cell ≡ p → ⊥) → (a : Axis) × CameInBy p q h a
+
 -- ---- wrong walks, on named inputs
 
 -- nothing in the way, 3 by 2 by 1; and one near cell there, at P
@@ -135,9 +157,13 @@ near-bytes = 1 ∷ 0 ∷ 0 ∷ 0 ∷ 0 ∷ 0 ∷ []
 abbrev pub long-bytes : List ℕ
 long-bytes = 0 ∷ 0 ∷ 0 ∷ 0 ∷ 0 ∷ 0 ∷ 0 ∷ 0 ∷ 2 ∷ 0 ∷ 0 ∷ 0 ∷ 0 ∷ 0 ∷ 0 ∷ 0 ∷ 0 ∷ 0 ∷ []
 
--- the hit there with the place of the first face crossed, y at 1 over 4, instead of x at 3 over 10
-abbrev pub first-face : Hit
-first-face = record { cell = at 2 1 0; code = 2; place = record { num = 1; den = 4 }; reads = 3 }
+-- the hit there, entered by x at 3 over 10; the first face that the long step crosses is that of y, at 1 over 4
+abbrev pub long-hit : (num den : ℕ) → Face → Hit
+long-hit num den face = record { cell = at 2 1 0; code = 2; place = record { num = num; den = den; face = face }; reads = 3 }
+
+-- the hit in the program's venue, marked, which is entered by +y; and the hit at P there
+abbrev pub hit-by : (num den : ℕ) → Face → (reads : ℕ) → Hit
+hit-by num den face reads = record { cell = at 1 1 0; code = 2; place = record { num = num; den = den; face = face }; reads = reads }
 
 pub record WrongWalks : Type 0 where
   pub plain-refuses : (r : Refusal) → Finds Plain example-counts example-cells (at 0 0 0) (at 3 1 0) (FirstHit.Refused r) → ⊥
@@ -149,4 +175,10 @@ pub record WrongWalks : Type 0 where
   pub adaptive-always-clear : (reads : ℕ) → Finds Adaptive example-counts marked-cells (at 0 0 0) (at 3 1 0) (FirstHit.Clear reads) → ⊥
   pub reads-made-up : (reads : ℕ) → Finds Adaptive example-counts example-cells (at 0 0 0) (at 3 1 0) (FirstHit.Clear reads) → reads ≡ 4
   pub long-at-any-clear : Finds Adaptive (counts 3 2 1) near-bytes (at 0 0 0) (at 2 1 0) (FirstHit.Clear 3) → ⊥
-  pub place-of-first-face : Finds Adaptive (counts 6 3 1) long-bytes (at 0 0 0) (at 5 2 0) (FirstHit.Hit first-face) → ⊥
+  pub place-of-first-face : (face : Face) → Finds Adaptive (counts 6 3 1) long-bytes (at 0 0 0) (at 5 2 0) (FirstHit.Hit (long-hit 1 4 face)) → ⊥
+  pub face-of-first-face : (num den : ℕ) →
+      Finds Adaptive (counts 6 3 1) long-bytes (at 0 0 0) (at 5 2 0) (FirstHit.Hit (long-hit num den (Face.Plus Y))) → ⊥
+  pub sign-turned : (w : Walker) (num den reads : ℕ) →
+      Finds w example-counts marked-cells (at 0 0 0) (at 3 1 0) (FirstHit.Hit (hit-by num den (Face.Minus Y) reads)) → ⊥
+  pub face-at-p : (w : Walker) (num den reads : ℕ) (face : Face) → (face ≡ Face.None → ⊥) →
+      Finds w example-counts marked-cells (at 1 1 0) (at 3 1 0) (FirstHit.Hit (hit-by num den face reads)) → ⊥

@@ -8,8 +8,9 @@ use lib.IntN.{pos}
 use lib.ListN.{length}
 use denote.Ref.{RefT}
 use Rattle.buffers.specs.Numbers.{AllBytes}
+use Rattle.cells.specs.declared.Face.the-variants as Face
 use Rattle.cells.specs.declared.Refusal.the-variants.{Bytes, Room, OffSurvey, Record}
-use Rattle.cells.specs.declared.Axis.the-variants.{X}
+use Rattle.cells.specs.declared.Axis.the-variants.{X, Y}
 use Rattle.cells.specs.declared.End.the-variants.{P}
 use Rattle.cells.specs.declared.Verdict.the-variants as Verdict
 use Rattle.cells.specs.declared.Verdict.the-variants.{Fine}
@@ -77,7 +78,7 @@ lent l = record { ptr = (0, 0); name = 0; now = l }
 
 -- the hit of both walks in the program's venue, marked
 abbrev pub the-hit : Hit
-the-hit = record { cell = at 1 1 0; code = 2; place = record { num = 1; den = 2 }; reads = 3 }
+the-hit = record { cell = at 1 1 0; code = 2; place = record { num = 1; den = 2; face = Face.Plus Y }; reads = 3 }
 
 pub record OfGrids : Type 0 where
   -- cells that touch by a corner, and the number of a refusal

@@ -198,7 +198,7 @@ pub fn answer_of(cells: &[u8], k: Route, r: Stop) -> FirstHit
     }
     let cell = grids::cell_at(k.n, spot.at as u32);
     let made = tripod::measured(k.p, cell);
-    let place = places::place_after(k.d, made);
+    let place = places::place_after(k.p, k.q, k.d, made);
     FirstHit::Hit(Hit {
         cell: cell,
         code: code,

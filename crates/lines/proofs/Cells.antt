@@ -1,29 +1,31 @@
 -- The 6-line and the 26-line as cells: step space carried over to the lattice, for every two ends and any order of preference. Assumes nothing.
 use mathlib.Core.Path.{_≡_, refl, sym, ap, ap₂, _∙_, fun-ext}
-use mathlib.Core.Bool.{true}
+use mathlib.Core.Bool.{Bool, true, false, cond}
 use Prim.Native.Nat.{ℕ, zero, suc, _+_, _-_, _*_, _≤_, _<_}
 use native.Mathlib.Omega.{arith}
-use lib.IntN.{ℤ, pos, negsuc, _-ℤ_}
+use lib.IntN.{ℤ, pos, negsuc, _+ℤ_, _-ℤ_}
 use lib.Signed.{leZ}
 use lib.ListN.{length, getD}
 use Rattle.cells.specs.declared.Cell.{Cell}
+use Rattle.cells.specs.declared.Face.the-variants as Face
+use Rattle.cells.specs.Faces.{put-on, back-across}
 use Rattle.cells.specs.Tabulate.{tabulate}
 use Rattle.cells.specs.Touching.{on, apart, differ, Touches}
 use Rattle.cells.proofs.Tabulate.{tabulate-length, tabulate-at}
 use Rattle.cells.proofs.Touching.{and-both}
 use Rattle.cells.proofs.Signed.{up, dn, one-sided, diff-is, abs-is, leZ-true}
-use Rattle.lines.specs.Steps.{Axis, X, Y, Z, Steps, total}
+use Rattle.lines.specs.Steps.{Axis, X, Y, Z, Steps, total, same}
 use Rattle.lines.specs.Crossings.{Course, upper, next, place}
 use Rattle.lines.specs.Preference.{Preference, rule-1}
 use Rattle.lines.specs.Towards.{towards}
-use Rattle.lines.specs.Lines.{differences, cell-of, centres, six-cell, six-line, longest, place-26, cell-26, line-26, in-limit, InLimit, number-26}
+use Rattle.lines.specs.Lines.{differences, cell-of, face-along, centres, six-cell, six-line, longest, place-26, cell-26, line-26, in-limit, InLimit, number-26}
 use Rattle.lines.specs.Segment.{Share, InClosed, InOpen}
 use Rattle.lines.proofs.Steps.{bump, total-bump, same-self, Cmp, here, other, cmp}
 use Rattle.lines.proofs.Merge.{Next, Rule}
 use Rattle.lines.proofs.Fractions.{Before, Good, InClosedSteps, InOpenSteps, next-rule, place-start, place-total}
 use Rattle.lines.proofs.Fractions.{place-suc, place-on, place-end, start-touched, entered-touched, none-left-out}
 use Rattle.lines.proofs.Centres.{centres-good, longest-most, is-place-26, skipped-26, moved-start, moved-end, moved-longest, moved-grows, moved-by-one}
-use Rattle.lines.proofs.Towards.{towards-start, towards-end, towards-apart, Passed, open-passed, passed-closed, centre-open}
+use Rattle.lines.proofs.Towards.{towards-start, towards-end, towards-apart, towards-back, Passed, open-passed, passed-closed, centre-open}
 
 -- ---- cells by axis
 
@@ -38,6 +40,38 @@ cell-on p q t Z = refl
 -- two places of a line are as far apart as their steps
 pub cells-apart : (p q : Cell) (s t : Steps) (a : Axis) → apart (on (cell-of p q s) a) (on (cell-of p q t) a) ≡ (s a - t a) + (t a - s a)
 cells-apart p q s t a = ap₂ apart (cell-on p q s a) (cell-on p q t a) ∙ towards-apart (on p a) (on q a) (s a) (t a)
+
+-- the steps from P to a place of the line
+pub steps-made : (p q : Cell) (t : Steps) → differences p (cell-of p q t) ≡ t
+steps-made p q t = fun-ext (λ a. ap₂ apart (sym (towards-start (on p a) (on q a))) (cell-on p q t a) ∙ towards-apart (on p a) (on q a) 0 (t a)
+    ∙ less-nothing (t a))
+  where
+    less-nothing : (i : ℕ) → (0 - i) + (i - 0) ≡ i
+    less-nothing i = omega arith
+
+-- the face of an axis, crossed back from the place that lies one step along this axis, leads to the place itself
+pub stepped-back : (p q : Cell) (t : Steps) (n : Axis) → back-across (face-along p q n) (cell-of p q (bump t n)) ≡ cell-of p q t
+stepped-back p q t n = go (leZ (on p n) (on q n)) (towards-back (on p n) (on q n) (t n))
+  where
+    c : Cell
+    c = cell-of p q (bump t n)
+
+    here-on : on c n ≡ towards (on p n) (on q n) (t n + 1)
+    here-on = cell-on p q (bump t n) n ∙ ap (λ k. towards (on p n) (on q n) (t n + k)) (same-self n)
+
+    others : (a : Axis) → same n a ≡ 0 → on c a ≡ on (cell-of p q t) a
+    others a e = cell-on p q (bump t n) a ∙ ap (towards (on p a) (on q a)) (omega (arith, e)) ∙ sym (cell-on p q t a)
+
+    put : (n : Axis) (v : ℤ) → v ≡ on (cell-of p q t) n → ((a : Axis) → same n a ≡ 0 → on c a ≡ on (cell-of p q t) a) → put-on c n v ≡ cell-of p q t
+    put X v e o = λ i. record { x = e i; y = o Y refl i; z = o Z refl i }
+    put Y v e o = λ i. record { x = o X refl i; y = e i; z = o Z refl i }
+    put Z v e o = λ i. record { x = o X refl i; y = o Y refl i; z = e i }
+
+    go : (b : Bool) →
+        cond b (towards (on p n) (on q n) (t n + 1) -ℤ pos 1) (towards (on p n) (on q n) (t n + 1) +ℤ pos 1) ≡ towards (on p n) (on q n) (t n) →
+        back-across (cond b (Face.Plus n) (Face.Minus n)) c ≡ cell-of p q t
+    go true e = put n _ (ap (λ v. v -ℤ pos 1) here-on ∙ e ∙ sym (cell-on p q t n)) others
+    go false e = put n _ (ap (λ v. v +ℤ pos 1) here-on ∙ e ∙ sym (cell-on p q t n)) others
 
 pub cell-start : (p q : Cell) (t : Steps) → ((a : Axis) → t a ≡ 0) → cell-of p q t ≡ p
 cell-start p q t z = same-cell (cell-of p q t) p (λ a. cell-on p q t a ∙ ap (towards (on p a) (on q a)) (z a) ∙ towards-start (on p a) (on q a))
@@ -114,6 +148,10 @@ module _ (r : Preference) (p q : Cell) where
       one : {a b : Axis} → Cmp a b → (place C n b ≤ bump (place C n) a b) × (bump (place C n) a b ≤ place C n b + 1)
       one {a} here = omega (arith, same-self a)
       one (other e f) = omega arith
+
+  -- one step back across the face by which cell suc n is entered lies cell n
+  pub six-back : (n : ℕ) → back-across (face-along p q (next C (place C n))) (six-cell r p q (suc n)) ≡ six-cell r p q n
+  six-back n = rw (six-is n, six-is (suc n), place-suc C n) (stepped-back p q (place C n) (next C (place C n)))
 
   -- ---- law 2
 

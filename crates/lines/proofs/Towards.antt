@@ -2,11 +2,11 @@
 -- are looked at. Assumes nothing.
 use mathlib.Core.Path.{_≡_, refl, ap}
 use mathlib.Core.Logic.{_⊎_, inl, inr, ⊎-elim, _↔_}
-use mathlib.Core.Bool.{Bool, true, false}
+use mathlib.Core.Bool.{Bool, true, false, cond}
 use Prim.Native.Nat.{ℕ, _+_, _-_, _*_, _≤_, _<_}
 use native.Mathlib.Omega.{arith, by-contra}
 use native.Mathlib.Nat.{mul-le-mul-left}
-use lib.IntN.{ℤ, pos, _-ℤ_, _*ℤ_}
+use lib.IntN.{ℤ, pos, _+ℤ_, _-ℤ_, _*ℤ_}
 use lib.Signed.{leZ, _≤ℤ_, _<ℤ_}
 use Rattle.cells.specs.Touching.{apart}
 use Rattle.cells.proofs.Signed.{up, dn, same-number, one-sided, sum-is, diff-is, times-up, times-dn, abs-is, leZ-true, leZ-false, ≤ℤ-is, <ℤ-is}
@@ -71,6 +71,15 @@ towards-apart p q i j =
     let f = one-sided (d -ℤ c) in
     let g = abs-is (d -ℤ c) in
     ⊎-elim (λ w. omega (arith, w .steps i, w .steps j)) (λ w. omega (arith, w .steps i, w .steps j)) (along p q)
+
+-- one cell back, against the way: from i + 1 cells towards q to i of them
+pub towards-back : (p q : ℤ) (i : ℕ) → cond (leZ p q) (towards p q (i + 1) -ℤ pos 1) (towards p q (i + 1) +ℤ pos 1) ≡ towards p q i
+towards-back p q i = go (leZ p q)
+  where
+    go : (t : Bool) → cond t (cond t (p +ℤ pos (i + 1)) (p -ℤ pos (i + 1)) -ℤ pos 1) (cond t (p +ℤ pos (i + 1)) (p -ℤ pos (i + 1)) +ℤ pos 1) ≡
+        cond t (p +ℤ pos i) (p -ℤ pos i)
+    go true = same-number _ _ (omega (arith, diff-is (p +ℤ pos (i + 1)) (pos 1), sum-is p (pos (i + 1)), sum-is p (pos i)))
+    go false = same-number _ _ (omega (arith, sum-is (p -ℤ pos (i + 1)) (pos 1), diff-is p (pos (i + 1)), diff-is p (pos i)))
 
 -- ---- the segment among the cells of one axis
 

@@ -6,12 +6,13 @@ use mathlib.Core.List.{List}
 use lib.IntN.{ℤ, pos, negsuc}
 use lib.Signed.{leZ}
 use Rattle.cells.specs.declared.Cell.{Cell}
+use Rattle.cells.specs.declared.Face.{Face}
 use Rattle.cells.specs.Tabulate.{tabulate}
 use Rattle.cells.specs.Touching.{on, apart}
 use Rattle.lines.specs.Steps.{Axis, X, Y, Z, Steps, total}
 use Rattle.lines.specs.Crossings.{Course, place}
 use Rattle.lines.specs.Preference.{Preference}
-use Rattle.lines.specs.Towards.{towards}
+use Rattle.lines.specs.Towards.{towards, face-towards}
 
 -- SCOPE L1: A, B and C, by axis
 abbrev pub differences : Cell → Cell → Steps
@@ -20,6 +21,10 @@ differences p q a = apart (on p a) (on q a)
 -- SCOPE L1: the cell of a place, on each axis so many cells from P on the way to Q
 abbrev pub cell-of : Cell → Cell → Steps → Cell
 cell-of p q t = record { x = towards (p .x) (q .x) (t X); y = towards (p .y) (q .y) (t Y); z = towards (p .z) (q .z) (t Z) }
+
+-- SCOPE W8: the face that a line from P to Q crosses along an axis
+abbrev pub face-along : Cell → Cell → Axis → Face
+face-along p q a = face-towards (on p a) (on q a) a
 
 -- SCOPE L3: how many faces are crossed on each axis, and at which fractions. Crossing i counts from 0: it is face i + 1.
 abbrev pub centres : Preference → Steps → Course

@@ -1,4 +1,5 @@
 pub mod Refusals
+pub mod Faces
 pub mod Flattening
 pub mod Inputs
 pub mod LineCalls

@@ -16,6 +16,7 @@ use Rattle.survey.specs.Quotient.{as-f64}
 use Rattle.survey.specs.Survey.{LooksUp}
 use Rattle.sight.specs.Sight.{Sees}
 use Rattle.oatmarten.specs.Refusals.{accepted, flat-refusal}
+use Rattle.oatmarten.specs.Faces.{face-number}
 use Rattle.oatmarten.specs.Flattening.{Flattens}
 
 abbrev pub flat-found : Lookup → OatFound
@@ -34,6 +35,7 @@ unblocked said =
       z = pos 0;
       code = 0;
       reads = 0;
+      face = pos 0;
     }
 
 -- a sight: blocked 1 where something is in the way, 0 where it is clear
@@ -48,6 +50,7 @@ flat-sight (Sight.Blocked b) =
       z = b .cell .z;
       code = b .code;
       reads = b .reads;
+      face = face-number (b .face);
     }
 flat-sight Sight.Clear = unblocked accepted
 flat-sight (Sight.Refused r) = unblocked (flat-refusal r)

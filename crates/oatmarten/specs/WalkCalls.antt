@@ -11,6 +11,7 @@ use Rattle.walks.specs.Answers.{Finds}
 use Rattle.oatmarten.specs.declared.refusals.OatSaid.{OatSaid}
 use Rattle.oatmarten.specs.declared.walk_calls.OatHit.{OatHit}
 use Rattle.oatmarten.specs.Refusals.{accepted, flat-refusal}
+use Rattle.oatmarten.specs.Faces.{face-number}
 use Rattle.oatmarten.specs.Flattening.{Flattens}
 
 -- a walk that hit nothing, or that was not made
@@ -25,6 +26,7 @@ no-hit said many =
       code = 0;
       num = 0;
       den = 0;
+      face = pos 0;
       reads = many;
     }
 
@@ -40,6 +42,7 @@ flat-hit (FirstHit.Hit h) =
       code = h .code;
       num = h .place .num;
       den = h .place .den;
+      face = face-number (h .place .face);
       reads = h .reads;
     }
 flat-hit (FirstHit.Clear many) = no-hit accepted many

@@ -1,5 +1,6 @@
 // The calls for C: each hands its inputs to the proved call and flattens the answer into a struct of numbers.
 mod refusals; // what every answer begins with: a refusal as three numbers
+mod faces; // an entry face as one number
 mod inputs; // the structs that go into a call
 mod grid_calls;
 mod line_calls;

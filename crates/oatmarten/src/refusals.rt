@@ -31,7 +31,7 @@ fn end_code(e: End) -> u32
     }
 }
 
-fn axis_code(a: Axis) -> u32
+pub(crate) fn axis_code(a: Axis) -> u32
     ensures { λ r. ⌜ r ≡ axis-number a ⌝ }
 {
     match a {

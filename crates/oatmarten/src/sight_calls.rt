@@ -2,6 +2,7 @@
 ghost use mathlib.Core.Path.{_≡_};
 ghost use Rattle.oatmarten.specs.Inputs.{as-counts, as-placement, as-point};
 ghost use Rattle.oatmarten.specs.SightCalls.{flat-found, unblocked, flat-sight, FlatLooksUp, FlatSees};
+use crate::faces::face_code;
 use crate::inputs::OatCounts;
 use crate::inputs::OatPlacement;
 use crate::inputs::OatPoint;
@@ -59,7 +60,7 @@ pub extern "C" fn oat_cell_of(n: OatCounts, at: OatPlacement, p: OatPoint) -> Oa
     flat_found(survey::cell_of(grid, place, surveyed))
 }
 
-// The sight answer; blocked: 0 clear, 1 something in the way at a cell, with the share of the way to it.
+// The sight answer; blocked: 0 clear, 1 something in the way at a cell, with the share of the way to it and the entry face.
 #[repr(C)]
 pub struct OatSight {
     pub said: OatSaid,
@@ -70,6 +71,7 @@ pub struct OatSight {
     pub z: i32,
     pub code: u32,
     pub reads: u32,
+    pub face: i32,
 }
 
 // A sight with nothing in the way, or that was refused.
@@ -85,6 +87,7 @@ fn unblocked(said: OatSaid) -> OatSight
         z: 0,
         code: 0,
         reads: 0,
+        face: 0,
     }
 }
 
@@ -92,6 +95,7 @@ fn flat_blocked(b: Block) -> OatSight
     ensures { λ r. ⌜ r ≡ flat-sight (Sight.Blocked b) ⌝ }
 {
     let c = b.cell;
+    let face = b.face;
     OatSight {
         said: ACCEPTED,
         blocked: 1,
@@ -101,6 +105,7 @@ fn flat_blocked(b: Block) -> OatSight
         z: c.z,
         code: b.code as u32,
         reads: b.reads,
+        face: face_code(face),
     }
 }
 

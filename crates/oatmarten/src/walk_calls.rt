@@ -3,6 +3,7 @@ ghost use mathlib.Core.Path.{_≡_};
 ghost use Rattle.walks.specs.declared.Walker.the-variants.{Plain, Adaptive};
 ghost use Rattle.oatmarten.specs.Inputs.{as-cell, as-counts};
 ghost use Rattle.oatmarten.specs.WalkCalls.{no-hit, flat-hit, FlatFinds};
+use crate::faces::face_code;
 use crate::inputs::OatCell;
 use crate::inputs::OatCounts;
 use crate::inputs::cell;
@@ -13,7 +14,7 @@ use crate::refusals::flatten;
 use walks::FirstHit;
 use walks::Hit;
 
-// The answer of a first-hit call; hit: 0 clear, 1 a hit at a cell, with its code and its place num over den.
+// The answer of a first-hit call; hit: 0 clear, 1 a hit at a cell, with its code, its place num over den and its entry face.
 #[repr(C)]
 pub struct OatHit {
     pub said: OatSaid,
@@ -24,6 +25,7 @@ pub struct OatHit {
     pub code: u32,
     pub num: u32,
     pub den: u32,
+    pub face: i32,
     pub reads: u32,
 }
 
@@ -40,6 +42,7 @@ fn no_hit(said: OatSaid, many: u32) -> OatHit
         code: 0,
         num: 0,
         den: 0,
+        face: 0,
         reads: many,
     }
 }
@@ -49,6 +52,7 @@ fn flat_block(h: Hit) -> OatHit
 {
     let c = h.cell;
     let place = h.place;
+    let face = place.face;
     OatHit {
         said: ACCEPTED,
         hit: 1,
@@ -58,6 +62,7 @@ fn flat_block(h: Hit) -> OatHit
         code: h.code as u32,
         num: place.num,
         den: place.den,
+        face: face_code(face),
         reads: h.reads,
     }
 }

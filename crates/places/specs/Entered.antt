@@ -1,9 +1,12 @@
--- How the code finds the place of a hit, from the steps made: of the crossings last made on each axis, the one that is last in the order. No
+-- How the code finds the place of a hit and its entry face, from the steps made: of the crossings last made on each axis, the one that is last in the order. No
 -- promise rests on this file: SCOPE's place is `place-of` of `walks`, and this is equal to it (`proofs/Entering.antt`). Assumes nothing.
 use Prim.Native.Nat.{ℕ, _-_, _*_}
 use mathlib.Core.Bool.{Bool, cond, _&&_}
 use lib.Dec.{ltb, leb, eqb}
+use Rattle.cells.specs.declared.Cell.{Cell}
+use Rattle.cells.specs.declared.Face.the-variants as Face
 use Rattle.lines.specs.Steps.{Axis, X, Y, Z, Steps, total}
+use Rattle.lines.specs.Lines.{face-along}
 use Rattle.walks.specs.declared.Place.{Place}
 
 -- SCOPE L3: 2i-1, the upper number of the crossing last made, over face i; 0 where there is none
@@ -23,10 +26,14 @@ x-is-last D t =
 abbrev pub last-axis : Steps → Steps → Axis
 last-axis D t = cond (x-is-last D t) X (cond (behind (numerator (t Z)) (D Z) (numerator (t Y)) (D Y)) Z Y)
 
--- SCOPE W5: the fraction of the crossing last made along an axis
-abbrev pub place-along : Steps → Steps → Axis → Place
-place-along D t a = record { num = numerator (t a); den = 2 * D a }
+-- SCOPE W5, W8: the fraction and the face of the crossing last made along an axis
+abbrev pub place-along : Cell → Cell → Steps → Steps → Axis → Place
+place-along p q D t a = record { num = numerator (t a); den = 2 * D a; face = face-along p q a }
 
--- SCOPE W5: the place of a hit, from the steps t made: 0 over 1 where there are none, else the fraction of the last crossing
-unfoldable pub entered : Steps → Steps → Place
-entered D t = cond (eqb (total t) 0) (record { num = 0; den = 1 }) (place-along D t (last-axis D t))
+-- the place where no step was made
+abbrev pub place-of-p : Place
+place-of-p = record { num = 0; den = 1; face = Face.None }
+
+-- SCOPE W5, W8: the place of a hit, from the steps t made: that of P where there are none, else that of the last crossing
+unfoldable pub entered : Cell → Cell → Steps → Steps → Place
+entered p q D t = cond (eqb (total t) 0) place-of-p (place-along p q D t (last-axis D t))

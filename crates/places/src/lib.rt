@@ -1,10 +1,14 @@
-// The place of a hit, worked out once, where a walk stopped.
+// The place of a hit with its entry face, worked out once, where a walk stopped.
 ghost use mathlib.Core.Path.{_≡_};
 ghost use mathlib.Core.Bool.{_&&_};
 ghost use Prim.Native.Nat.{_≤_};
+ghost use Rattle.lines.specs.Towards.{face-towards};
+ghost use Rattle.lines.specs.Lines.{face-along};
 ghost use Rattle.tripod.specs.Tripod.{steps, Short};
 ghost use Rattle.places.specs.Entered.{numerator, behind, last-axis, entered};
 use cells::Axis;
+use cells::Cell;
+use cells::Face;
 use tripod::Diffs;
 use walks::Place;
 
@@ -50,16 +54,47 @@ fn both(s: bool, t: bool) -> bool
     if s { t } else { false }
 }
 
-// The place of a hit after t steps of d.
-pub fn place_after(d: Diffs, t: Diffs) -> Place
+// The face that is crossed from p towards q, on axis n.
+fn face_towards(p: i32, q: i32, n: Axis) -> Face
+    ensures { λ r. ⌜ r ≡ face-towards p q n ⌝ }
+{
+    if p <= q {
+        Face::Plus(n)
+    } else {
+        Face::Minus(n)
+    }
+}
+
+// The face that the line from p to q crosses along n.
+fn face_along(p: Cell, q: Cell, n: Axis) -> Face
+    ensures { λ r. ⌜ r ≡ face-along p q n ⌝ }
+{
+    match n {
+        Axis::X => face_towards(p.x, q.x, n),
+        Axis::Y => face_towards(p.y, q.y, n),
+        Axis::Z => face_towards(p.z, q.z, n),
+    }
+}
+
+// The place of a hit on the line from p to q, after t steps of d.
+pub fn place_after(p: Cell, q: Cell, d: Diffs, t: Diffs) -> Place
     requires { ⌜ Short d × Short t ⌝ }
-    ensures { λ r. ⌜ r ≡ entered (steps d) (steps t) ⌝ }
+    ensures { λ r. ⌜ r ≡ entered p q (steps d) (steps t) ⌝ }
 {
     if t.total() == 0 {
-        return Place { num: 0, den: 1 };
+        return Place {
+            num: 0,
+            den: 1,
+            face: Face::None,
+        };
     }
     let n = last_made(d, t);
     let num = numerator_of(t.along(n));
     let den = 2 * d.along(n);
-    Place { num: num, den: den }
+    let face = face_along(p, q, n);
+    Place {
+        num: num,
+        den: den,
+        face: face,
+    }
 }

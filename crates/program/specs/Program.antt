@@ -72,10 +72,10 @@ after-refusal k number = cond (eqb number 10 || eqb number 11) Over (On (k + 1))
 abbrev pub pair-refused : (k : ℕ) → Refusal → Said
 pair-refused k r = record { text = pair-refused-line k (told r .number); next = after-refusal k (told r .number) }
 
--- SCOPE T8: the line of one walk, a hit or clear; none where it is refused, and no walk of a pair is (claim `FiveOrLines`)
+-- SCOPE T8, T15: the line of one walk, a hit or clear; none where it is refused, and no walk of a pair is (claim `FiveOrLines`)
 unfoldable pub walk-line : (k letter : ℕ) → FirstHit → List ℕ
 walk-line k letter (FirstHit.Clear reads) = clear-line k letter reads
-walk-line k letter (FirstHit.Hit h) = hit-line k letter (h .cell) (h .code) (h .reads)
+walk-line k letter (FirstHit.Hit h) = hit-line k letter (h .cell) (h .code) (h .reads) (h .place .face)
 walk-line k letter (FirstHit.Refused r) = []
 
 -- `P` and `A`

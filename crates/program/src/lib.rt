@@ -114,7 +114,9 @@ fn walk_line(text: &mut [u8], at: usize, k: u64, letter: u8, a: FirstHit) -> usi
         FirstHit::Clear(reads) => texts::put_clear(text, at, k, letter, reads),
         FirstHit::Hit(h) => {
             let c = h.cell;
-            texts::put_hit(text, at, k, letter, c, h.code, h.reads)
+            let place = h.place;
+            let face = place.face;
+            texts::put_hit(text, at, k, letter, c, h.code, h.reads, face)
         }
         FirstHit::Refused(_) => at,
     }

@@ -13,6 +13,7 @@ use cells::Axis;
 use cells::Cell;
 use cells::Counts;
 use cells::End;
+use cells::Face;
 use cells::Refusal;
 use cells::Verdict;
 use survey::Lookup;
@@ -20,12 +21,13 @@ use survey::Placement;
 use survey::Point;
 use walks::FirstHit;
 
-// What is in the way: the share of the way to it, its cell and code, and how many cells were read.
+// What is in the way: the share of the way to it, its cell and code, how many cells were read, and the face by which the line came in.
 pub struct Block {
     pub share: f64,
     pub cell: Cell,
     pub code: u8,
     pub reads: u32,
+    pub face: Face,
 }
 
 // The sight answer.
@@ -52,11 +54,13 @@ fn sight_of(h: FirstHit) -> Sight
         FirstHit::Hit(hit) => {
             let cell = hit.cell;
             let place = hit.place;
+            let face = place.face;
             Sight::Blocked(Block {
                 share: share(place.num, place.den),
                 cell: cell,
                 code: hit.code,
                 reads: hit.reads,
+                face: face,
             })
         }
     }

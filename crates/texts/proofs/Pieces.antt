@@ -7,7 +7,8 @@ use native.Mathlib.Omega.{arith}
 use lib.ListN.{length, drop, length-append}
 use Rattle.buffers.proofs.Over.{over-front, then-over}
 use Rattle.cells.specs.declared.Cell.{Cell}
-use Rattle.texts.specs.Text.{decimal, hit-word, clear-word, refused-word, venue-word, parted, ended, cell-fields}
+use Rattle.cells.specs.declared.Face.{Face}
+use Rattle.texts.specs.Text.{decimal, face-word, hit-word, clear-word, refused-word, venue-word, parted, ended, cell-fields}
 use Rattle.texts.specs.Text.{hit-line, clear-line, pair-refused-line, venue-refused-line, Puts}
 
 pub then-puts : {p q s : List ℕ} {at b c : ℕ} {m l : List ℕ} → b ≤ length s → Puts p at s b m → Puts q b m c l → Puts (p ++ q) at s c l
@@ -34,11 +35,11 @@ front-holds {p} {s} h = h .holds ∙ over-front p s
 
 -- ---- the lines, piece by piece
 
-pub hit-pieces : (k letter : ℕ) (c : Cell) (code reads : ℕ)
+pub hit-pieces : (k letter : ℕ) (c : Cell) (code reads : ℕ) (face : Face)
     → parted (decimal k) ++ parted (letter ∷ []) ++ parted hit-word
-    ++ cell-fields c ++ parted (decimal code) ++ ended (decimal reads) ≡ hit-line k letter c code reads
+    ++ cell-fields c ++ parted (decimal code) ++ parted (decimal reads) ++ ended (face-word face) ≡ hit-line k letter c code reads face
 unfolding hit-line
-hit-pieces k letter c code reads = simp append-assoc
+hit-pieces k letter c code reads face = simp append-assoc
 
 pub clear-pieces : (k letter reads : ℕ)
     → parted (decimal k) ++ parted (letter ∷ []) ++ (parted clear-word ++ ended (decimal reads)) ≡ clear-line k letter reads

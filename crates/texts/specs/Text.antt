@@ -1,4 +1,4 @@
--- SCOPE T4, T5, T8, T9: the program's lines as bytes. Assumes nothing.
+-- SCOPE T4, T5, T8, T9, T15: the program's lines as bytes. Assumes nothing.
 use Prim.Native.Nat.{ℕ, zero, suc, _+_, _/_, _%_}
 use mathlib.Core.Bool.{cond}
 use mathlib.Core.Path.{_≡_}
@@ -7,7 +7,11 @@ use lib.Dec.{ltb}
 use lib.IntN.{ℤ, pos, negsuc}
 use lib.ListN.{length}
 use Rattle.buffers.specs.Over.{over}
+use Rattle.cells.specs.declared.Axis.{Axis}
+use Rattle.cells.specs.declared.Axis.the-variants.{X, Y, Z}
 use Rattle.cells.specs.declared.Cell.{Cell}
+use Rattle.cells.specs.declared.Face.{Face}
+use Rattle.cells.specs.declared.Face.the-variants as Face
 
 -- ---- fields
 
@@ -25,14 +29,30 @@ unfoldable pub decimal : ℕ → List ℕ
 unfolding decimal-in
 decimal n = decimal-in (suc n) n
 
--- `-`, before a number below 0
+-- `-`, before a number below 0, and before the axis of a move to smaller numbers
 abbrev pub minus : ℕ
 minus = 45
+
+-- `+`, before the axis of a move to larger numbers
+abbrev pub plus : ℕ
+plus = 43
 
 -- a whole number: one below 0 is a minus and then its size
 unfoldable pub signed-decimal : ℤ → List ℕ
 signed-decimal (pos n) = decimal n
 signed-decimal (negsuc n) = minus ∷ decimal (suc n)
+
+-- `x`, `y`, `z`
+abbrev pub axis-letter : Axis → ℕ
+axis-letter X = 120
+axis-letter Y = 121
+axis-letter Z = 122
+
+-- SCOPE T15: an entry face, `0` where there is none
+abbrev pub face-word : Face → List ℕ
+face-word Face.None = 48 ∷ []
+face-word (Face.Plus a) = plus ∷ axis-letter a ∷ []
+face-word (Face.Minus a) = minus ∷ axis-letter a ∷ []
 
 -- `hit`
 abbrev pub hit-word : List ℕ
@@ -77,12 +97,12 @@ line f (g ∷ fields) = parted f ++ line g fields
 abbrev pub walk-fields : (k letter : ℕ) → List (List ℕ) → List ℕ
 walk-fields k letter fields = line (decimal k) ((letter ∷ []) ∷ fields)
 
--- `K LETTER hit x y z code reads`
-unfoldable pub hit-line : (k letter : ℕ) (c : Cell) (code reads : ℕ) → List ℕ
+-- `K LETTER hit x y z code reads face`
+unfoldable pub hit-line : (k letter : ℕ) (c : Cell) (code reads : ℕ) (face : Face) → List ℕ
 unfolding signed-decimal
-hit-line k letter c code reads =
+hit-line k letter c code reads face =
     walk-fields k letter
-    (hit-word ∷ signed-decimal (c .x) ∷ signed-decimal (c .y) ∷ signed-decimal (c .z) ∷ decimal code ∷ decimal reads ∷ [])
+    (hit-word ∷ signed-decimal (c .x) ∷ signed-decimal (c .y) ∷ signed-decimal (c .z) ∷ decimal code ∷ decimal reads ∷ face-word face ∷ [])
 
 -- `K LETTER clear reads`
 unfoldable pub clear-line : (k letter reads : ℕ) → List ℕ
@@ -98,7 +118,7 @@ venue-refused-line number = line venue-word (refused-word ∷ decimal number ∷
 
 -- ---- contracts
 
--- room for every line: none is longer than that of a hit, at most 135 bytes with twenty digits for each number
+-- room for every line: none is longer than that of a hit, at most 138 bytes with twenty digits for each number
 abbrev pub line-room : ℕ
 line-room = 160
 

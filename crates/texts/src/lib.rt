@@ -4,9 +4,11 @@ ghost use mathlib.Core.List.{[], _∷_, _++_};
 ghost use Prim.Native.Nat.{_+_, _≤_, _<_};
 ghost use lib.IntN.{natAbs};
 ghost use lib.ListN.{length};
-ghost use Rattle.texts.specs.Text.{decimal, signed-decimal, parted, ended, cell-fields};
+ghost use Rattle.texts.specs.Text.{decimal, signed-decimal, axis-letter, face-word, parted, ended, cell-fields};
 ghost use Rattle.texts.specs.Text.{line-room, hit-line, clear-line, pair-refused-line, venue-refused-line, Puts};
+use cells::Axis;
 use cells::Cell;
+use cells::Face;
 
 const SPACE: u8 = 32;
 
@@ -71,6 +73,39 @@ fn put_cell(out: &mut [u8], at: usize, c: Cell) -> usize
     put_signed(out, after_y, c.z, SPACE)
 }
 
+// The letter of an axis.
+fn axis_letter(n: Axis) -> u8
+    ensures { λ r. ⌜ r ≡ axis-letter n ⌝ }
+{
+    match n {
+        Axis::X => b'x',
+        Axis::Y => b'y',
+        Axis::Z => b'z',
+    }
+}
+
+// The sign of a move and the letter of its axis, which end a line.
+fn put_move(out: &mut [u8], at: usize, sign: u8, n: Axis) -> usize
+    requires { ⌜ at + 2 < length (now out) ⌝ }
+    ensures { λ r. ⌜ Puts (ended (sign ∷ axis-letter n ∷ [])) at (now (out .entry)) r (now (out .exit)) ⌝ }
+{
+    let word = [sign, axis_letter(n)];
+    put_word(out, at, &word, LINE_FEED)
+}
+
+// The entry face, which ends a line.
+fn put_face(out: &mut [u8], at: usize, f: Face) -> usize
+    requires { ⌜ at + 2 < length (now out) ⌝ }
+    ensures { λ r. ⌜ Puts (ended (face-word f)) at (now (out .entry)) r (now (out .exit)) ⌝ }
+    ensures { λ r. ⌜ r ≤ at + 3 ⌝ }
+{
+    match f {
+        Face::None => put_word(out, at, b"0", LINE_FEED),
+        Face::Plus(n) => put_move(out, at, b'+', n),
+        Face::Minus(n) => put_move(out, at, b'-', n),
+    }
+}
+
 // What the line of a walk begins with: `K LETTER `.
 fn put_walk(out: &mut [u8], at: usize, k: u64, letter: u8) -> usize
     requires { ⌜ at + 22 < length (now out) ⌝ }
@@ -94,7 +129,7 @@ fn put_last(out: &mut [u8], at: usize, word: &[u8], n: u32) -> usize
 
 // ---- lines
 
-// `K LETTER hit x y z code reads`.
+// `K LETTER hit x y z code reads face`.
 pub fn put_hit(
     out: &mut [u8],
     at: usize,
@@ -103,16 +138,18 @@ pub fn put_hit(
     c: Cell,
     code: u8,
     reads: u32,
+    face: Face,
 ) -> usize
     requires { ⌜ at + line-room ≤ length (now out) ⌝ }
-    ensures { λ r. ⌜ Puts (hit-line k letter c code reads) at (now (out .entry)) r (now (out .exit)) ⌝ }
-    ensures { λ r. ⌜ r ≤ at + 135 ⌝ }
+    ensures { λ r. ⌜ Puts (hit-line k letter c code reads face) at (now (out .entry)) r (now (out .exit)) ⌝ }
+    ensures { λ r. ⌜ r ≤ at + 138 ⌝ }
 {
     let said = put_walk(out, at, k, letter);
     let hit = put_word(out, said, b"hit", SPACE);
     let cell = put_cell(out, hit, c);
     let coded = put_number(out, cell, code as u64, SPACE);
-    put_number(out, coded, reads as u64, LINE_FEED)
+    let counted = put_number(out, coded, reads as u64, SPACE);
+    put_face(out, counted, face)
 }
 
 // `K LETTER clear reads`.

@@ -1,19 +1,32 @@
--- The place of a hit: the fractions at which the 6-line enters its cells never fall. Assumes nothing.
-use mathlib.Core.Path.{_≡_, ap, _∙_, subst}
-use mathlib.Core.Logic.{⊎-elim}
-use Prim.Native.Nat.{ℕ, zero, suc, _+_, _*_, _≤_, _<_}
+-- The place of a hit: the fractions at which the 6-line enters its cells never fall, and across the face lies the cell before. Assumes nothing.
+use mathlib.Core.Path.{_≡_, refl, sym, ap, _∙_, subst}
+use mathlib.Core.Bool.{Bool, true, false, cond}
+use mathlib.Core.Logic.{_⊎_, inl, inr, ⊎-elim}
+use Prim.Native.Nat.{ℕ, zero, suc, _+_, _-_, _*_, _≤_, _<_}
 use native.Mathlib.Omega.{arith}
 use native.Mathlib.Nat.{eq-or-lt-of-le}
+use lib.Signed.{leZ}
 use Rattle.cells.specs.declared.Cell.{Cell}
+use Rattle.cells.specs.declared.Face.{Face}
+use Rattle.cells.specs.declared.Face.the-variants as Face
+use Rattle.cells.specs.Faces.{back-across}
+use Rattle.cells.specs.Touching.{on}
 use Rattle.lines.specs.Steps.{Axis, Steps, total}
 use Rattle.lines.specs.Crossings.{Course, next, place}
 use Rattle.lines.specs.Preference.{rule-1}
-use Rattle.lines.specs.Lines.{differences, centres}
+use Rattle.lines.specs.Lines.{differences, face-along, centres, six-cell}
 use Rattle.lines.proofs.Steps.{same-self}
 use Rattle.lines.proofs.Merge.{OnLine, Next, Rule, fewer-is-below}
 use Rattle.lines.proofs.Fractions.{Before, laws, place-on, place-suc, place-total, next-rule}
 use Rattle.lines.proofs.Centres.{centres-good}
+use Rattle.lines.proofs.Cells.{six-is, six-back, steps-made}
 use Rattle.walks.specs.Answers.{entered-at}
+
+-- how many faces are named: 0 or 1
+faces : Face → ℕ
+faces Face.None = 0
+faces (Face.Plus a) = 1
+faces (Face.Minus a) = 1
 
 module _ (p q : Cell) where
   abbrev D : Steps
@@ -23,7 +36,7 @@ module _ (p q : Cell) where
   C = centres rule-1 D
 
   -- the axis along which cell suc s is entered
-  abbrev enters : ℕ → Axis
+  abbrev pub enters : ℕ → Axis
   enters s = next C (place C s)
 
   one-more : (s : ℕ) → place C (suc s) (enters s) ≡ place C s (enters s) + 1
@@ -52,3 +65,29 @@ module _ (p q : Cell) where
       (λ e. subst (λ k. entered-at p q (suc s) .num * entered-at p q (suc k) .den ≤ entered-at p q (suc k) .num * entered-at p q (suc s) .den) e (omega arith))
       (λ lt. rw (num-is s, num-is t) (earlier s t lt (omega arith)))
       (eq-or-lt-of-le {n = s} {m = t} (omega arith))
+
+  -- ---- the face
+
+  -- it is that of the axis along which the cell is entered
+  pub face-is : (s : ℕ) → (entered-at p q (suc s) .face ≡ Face.Plus (enters s)) ⊎ (entered-at p q (suc s) .face ≡ Face.Minus (enters s))
+  face-is s = by (leZ (on p (enters s)) (on q (enters s)))
+    where
+      by : (b : Bool) → (cond b (Face.Plus (enters s)) (Face.Minus (enters s)) ≡ Face.Plus (enters s))
+          ⊎ (cond b (Face.Plus (enters s)) (Face.Minus (enters s)) ≡ Face.Minus (enters s))
+      by true = inl refl
+      by false = inr refl
+
+  -- so there is one
+  pub some-face : (s : ℕ) → entered-at p q (suc s) .face ≡ Face.None → ⊥
+  unfolding faces
+  some-face s e =
+      ⊎-elim (λ f. let z : _≡_ {A = ℕ} 1 0 = ap faces (sym f ∙ e) in omega arith) (λ f. let z : _≡_ {A = ℕ} 1 0 = ap faces (sym f ∙ e) in omega arith)
+      (face-is s)
+
+  -- one step back across it stands the cell before
+  pub face-back : (s : ℕ) → back-across (entered-at p q (suc s) .face) (six-cell rule-1 p q (suc s)) ≡ six-cell rule-1 p q s
+  face-back = six-back rule-1 p q
+
+  -- the place's two numbers, by the cell's steps from P
+  pub num-made : (s : ℕ) → entered-at p q (suc s) .num ≡ 2 * differences p (six-cell rule-1 p q (suc s)) (enters s) - 1
+  num-made s = ap (λ t. 2 * t (enters s) - 1) (sym (ap (differences p) (six-is rule-1 p q (suc s)) ∙ steps-made p q (place C (suc s))))

@@ -1,4 +1,4 @@
--- SCOPE W4, W5, W6: the answer of a first-hit call, from its walk, with a hit's place and the reads; refusals 2, 3, then 5 (P before Q; x, y, z).
+-- SCOPE W4, W5, W6, W8: the answer of a first-hit call, from its walk, with a hit's place, entry face and reads; refusals 2, 3, then 5 (P before Q; x, y, z).
 -- Assumes nothing.
 use Prim.Native.Nat.{ℕ, zero, suc, _-_, _*_}
 use mathlib.Core.Path.{_≡_}
@@ -10,11 +10,12 @@ use lib.ListN.{length}
 use Rattle.cells.specs.declared.Axis.{Axis}
 use Rattle.cells.specs.declared.Cell.{Cell}
 use Rattle.cells.specs.declared.Counts.{Counts}
+use Rattle.cells.specs.declared.Face.the-variants as Face
 use Rattle.cells.specs.Checks.{by-verdict}
 use Rattle.cells.specs.Refusals.{Told, told}
 use Rattle.lines.specs.Crossings.{Course, next, place}
 use Rattle.lines.specs.Preference.{rule-1}
-use Rattle.lines.specs.Lines.{differences, centres, six-cell}
+use Rattle.lines.specs.Lines.{differences, face-along, centres, six-cell}
 use Rattle.grids.specs.Grid.{byte-of}
 use Rattle.walks.specs.declared.Walker.{Walker}
 use Rattle.walks.specs.declared.Place.{Place}
@@ -26,14 +27,14 @@ use Rattle.grids.specs.Inside.{walk-check}
 
 -- ---- the place of a hit
 
--- SCOPE W5: the place of a cell, by its number in the 6-line. P has 0 over 1; cell s + 1 has the fraction of the crossing that leads there, on
--- the axis along which cell s steps on
+-- SCOPE W5, W8: the place of a cell, by its number in the 6-line. P has 0 over 1, and no face; cell s + 1 has the fraction and the face of the
+-- crossing that leads there, on the axis along which cell s steps on
 abbrev pub entered-at : Cell → Cell → ℕ → Place
-entered-at p q zero = record { num = 0; den = 1 }
+entered-at p q zero = record { num = 0; den = 1; face = Face.None }
 entered-at p q (suc s) =
     let c : Course = centres rule-1 (differences p q) in
     let a : Axis = next c (place c s) in
-    record { num = 2 * place c (suc s) a - 1; den = 2 * differences p q a }
+    record { num = 2 * place c (suc s) a - 1; den = 2 * differences p q a; face = face-along p q a }
 
 -- by the cell's number in the 6-line (a walk's cell always has one: `six-found`)
 abbrev pub place-by : Cell → Cell → Option ℕ → Place

@@ -1,5 +1,6 @@
 // Theory only: the plain and the adaptive walk stand in specs/, the laws about them in proofs/. The types are the answer of a first-hit call.
 use cells::Cell;
+use cells::Face;
 use cells::Refusal;
 
 // Which of the two walks.
@@ -8,10 +9,11 @@ pub enum Walker {
     Adaptive,
 }
 
-// The place of a hit: the fraction of the way at which the line enters the cell, not reduced.
+// The place of a hit: the fraction of the way at which the line enters the cell, not reduced, and the face by which it does.
 pub struct Place {
     pub num: u32,
     pub den: u32,
+    pub face: Face,
 }
 
 // The first solid cell of a walk.

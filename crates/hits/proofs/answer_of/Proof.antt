@@ -71,7 +71,7 @@ unfolding answer-from
 returns-2 c =
     let s = c .before .before .before .before .before .before .before .before .before .before in
     let m = c .before .measured .ensures .0 ∙ ap (differences (s .args .k .p)) (cell-is (c .before .before)) in
-    let place = c .place-after .ensures ∙ ap (entered (steps (s .args .k .d))) m in
+    let place = c .place-after .ensures ∙ ap (entered (s .args .k .p) (s .args .k .q) (steps (s .args .k .d))) m in
     rw (solid-is (c .before .before .before .before .before .before) ∙ not-false _ (c .before .before .before .before .before .if1 .left))
     (λ i. FirstHit.Hit (record {
       cell = cell-is (c .before .before) i;

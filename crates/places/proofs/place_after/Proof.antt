@@ -4,6 +4,7 @@ use Prim.Native.Nat.{_*_}
 use native.Mathlib.Omega.{arith}
 use borrow.Author.Needs.{needs}
 use borrow.Author.Tests.{eq-eqb, ne-eqb}
+use Rattle.lines.specs.Lines.{face-along}
 use Rattle.tripod.specs.Tripod.{steps}
 use Rattle.tripod.proofs.Laws.{short-at}
 use Rattle.places.specs.Entered.{numerator, entered}
@@ -36,15 +37,20 @@ mul-den c =
     let s = c .before .before .before .before .before .before in
     record { fits = omega (arith, c .along2 .ensures, short-at (s .args .d) (s .pre .0) (c .before .before .before .last-made .result)) }
 
+face-along-requires : tie.Need-face-along-requires
+face-along-requires c κs = search needs
+
 returns-2 : tie.Need-returns-2
 unfolding entered
 returns-2 c =
-    let s = c .before .before .before .before .before .before in
-    let n = c .before .before .before .last-made .ensures in
-    let num = c .before .numerator-of .ensures ∙ ap numerator (c .before .before .along .ensures ∙ ap (steps (s .args .t)) n) in
-    let den = c .along2 .ensures ∙ ap (steps (s .args .d)) n in
-    rw (ne-eqb _ _ (λ e. c .before .before .before .before .if1 .left (c .before .before .before .before .before .total .ensures ∙ e)))
-    (λ i. record { num = num i; den = 2 * den i })
+    let s = c .before .before .before .before .before .before .before in
+    let made = c .before .before .before .before in
+    let n = made .last-made .ensures in
+    let num = c .before .before .numerator-of .ensures ∙ ap numerator (c .before .before .before .along .ensures ∙ ap (steps (s .args .t)) n) in
+    let den = c .before .along2 .ensures ∙ ap (steps (s .args .d)) n in
+    let face = c .face-along .ensures ∙ ap (face-along (s .args .p) (s .args .q)) n in
+    rw (ne-eqb _ _ (λ e. made .before .if1 .left (made .before .before .total .ensures ∙ e)))
+    (λ i. record { num = num i; den = 2 * den i; face = face i })
 
 pub place-after-spec : {M : Type 1} → statement M
 place-after-spec =
@@ -57,4 +63,5 @@ place-after-spec =
     numerator-of-requires
     along-requires-2
     mul-den
+    face-along-requires
     returns-2)

@@ -37,7 +37,7 @@ returns-2 : tie.Need-returns-2
 unfolding walk-line
 returns-2 c =
     let put = c .before .before .put-hit .ensures in
-    rw (c .before .before .before .before .before .before .a2 .given .1) (put .0, omega (arith, put .1))
+    rw (c .before .before .before .before .before .before .before .a2 .given .1) (put .0, omega (arith, put .1))
 
 returns-3 : tie.Need-returns-3
 unfolding walk-line

@@ -1,4 +1,4 @@
--- `texts::put_hit` meets its contract: what the line begins with, the word, the cell, the code, and the number that ends it. Assumes nothing.
+-- `texts::put_hit` meets its contract: what the line begins with, the word, the cell, the code, the reads, and the face that ends it. Assumes nothing.
 use native.Mathlib.Omega.{arith}
 use Rattle.texts.proofs.Pieces.{then-puts, ends-line, hit-pieces}
 use borrow.Author.Needs.{needs}
@@ -23,12 +23,16 @@ put-number-requires c κs = search needs
 put-number-requires-2 : tie.Need-put-number-requires-2
 put-number-requires-2 c κs = search needs
 
+put-face-requires : tie.Need-put-face-requires
+put-face-requires c κs = search needs
+
 same-length : tie.Need-same-length
 same-length c = search needs
 
 returns : tie.Need-returns
 returns c =
-    let numbered = c .before .before in
+    let faced = c .before .before in
+    let numbered = faced .before .before .before .before in
     let coded = numbered .before .before .before .before in
     let celled = coded .before .before .before .before in
     let worded = celled .before .before .before .before in
@@ -39,16 +43,19 @@ returns c =
     let after-walk = walked .put-walk .ensures .1 in
     let after-word = worded .put-word .ensures .says in
     let after-cell = celled .put-cell .ensures .1 in
-    let after-code = coded .put-number .ensures .1 in (
-      ends-line (hit-pieces (a .k) (a .letter) (a .c) (a .code) (a .reads))
+    let after-code = coded .put-number .ensures .1 in
+    let after-reads = numbered .put-number2 .ensures .1 in (
+      ends-line (hit-pieces (a .k) (a .letter) (a .c) (a .code) (a .reads) (a .face))
           (omega arith)
+          (then-puts (omega arith)
           (then-puts (omega arith)
           (then-puts (omega arith)
           (then-puts (omega arith) (walked .put-walk .ensures .0) (worded .put-word .ensures))
           (celled .put-cell .ensures .0))
           (coded .put-number .ensures .0))
-          (numbered .put-number2 .ensures .0),
-      omega (arith, numbered .put-number2 .ensures .1),
+          (numbered .put-number2 .ensures .0))
+          (faced .put-face .ensures .0),
+      omega (arith, faced .put-face .ensures .1),
     )
 
 pub put-hit-spec : {M : Type 1} → statement M
@@ -61,5 +68,6 @@ put-hit-spec =
     put-cell-requires
     put-number-requires
     put-number-requires-2
+    put-face-requires
     same-length
     returns)
