@@ -30,21 +30,40 @@ uint64_t loop_hits(hit_call *call, size_t rounds, uint32_t nx, uint32_t ny, uint
     return sum;
 }
 
+static inline oat_point centre(oat_cell c) { return (oat_point){c.x + 0.5, c.y + 0.5, c.z + 0.5}; }
+
 /* from the centre of P to the centre of Q, where a cell is a metre */
 uint64_t loop_sights(sight_call *call, size_t rounds, uint32_t nx, uint32_t ny, uint32_t nz, const uint8_t *cells, const oat_cell *ends, size_t segments) {
     uint64_t sum = 0;
     oat_counts n = {nx, ny, nz};
     oat_placement at = {.edge = 1};
     while (rounds--) for (size_t s = 0; s < segments; s++) {
-        oat_cell p = ends[2 * s], q = ends[2 * s + 1];
-        oat_point camera = {p.x + 0.5, p.y + 0.5, p.z + 0.5}, ball = {q.x + 0.5, q.y + 0.5, q.z + 0.5};
-        __auto_type a = call(n, cells, (size_t)nx * ny * nz, at, camera, ball);
+        __auto_type a = call(n, cells, (size_t)nx * ny * nz, at, centre(ends[2 * s]), centre(ends[2 * s + 1]));
         sum = mixed(sum, REFUSAL(a) + ((uint64_t)a.reads << 32));
         sum = mixed(sum, (uint64_t)a.blocked << 40 | CELL(a) << 8 | a.code);
         sum = mixed(sum, ((union { double value; uint64_t bits; }){a.share}).bits);
     }
     return sum;
 }
+
+/* the faces, for comparing. They have sums of their own: a header before revision 3 has no face, and what else an answer says is added up above as
+   it was then */
+#if OAT_REVISION >= 3
+uint64_t sum_faces(hit_call *call, uint32_t nx, uint32_t ny, uint32_t nz, const uint8_t *cells, const oat_cell *ends, size_t segments) {
+    uint64_t sum = 0;
+    for (size_t s = 0; s < segments; s++)
+        sum = mixed(sum, (uint32_t)call((oat_counts){nx, ny, nz}, cells, (size_t)nx * ny * nz, ends[2 * s], ends[2 * s + 1]).face);
+    return sum;
+}
+
+uint64_t sum_sight_faces(sight_call *call, uint32_t nx, uint32_t ny, uint32_t nz, const uint8_t *cells, const oat_cell *ends, size_t segments) {
+    uint64_t sum = 0;
+    oat_placement at = {.edge = 1};
+    for (size_t s = 0; s < segments; s++)
+        sum = mixed(sum, (uint32_t)call((oat_counts){nx, ny, nz}, cells, (size_t)nx * ny * nz, at, centre(ends[2 * s]), centre(ends[2 * s + 1])).face);
+    return sum;
+}
+#endif
 
 uint64_t loop_lists(list_call *call, size_t rounds, const oat_cell *ends, size_t segments, int32_t *out, size_t room) {
     uint64_t sum = 0;

@@ -68,17 +68,20 @@ oat_listed BY(line26)(oat_cell p, oat_cell q, int32_t *out, size_t room) {
 
 /* ---- first hits */
 
-/* of the crossings last made (i of a and so on), the last one: at (2i-1)/(2a), ties y, z, x */
+/* of the crossings last made (i of a and so on), the last one: at (2i-1)/(2a), ties y, z, x. Its face is told by p and the cell: w's units would
+   have to be kept through the walk */
 static oat_hit BY(found)(oat_counts n, const uint8_t *cells, const uint8_t *at, oat_cell p, way w, uint32_t reads) {
     if (*at < OAT_SOLID_LEAST) return (oat_hit){.reads = reads};
     uint32_t index = (uint32_t)(at - cells), row = index / n.nx;
     int x = (int)(index - row * n.nx), z = (int)(row / n.ny), y = (int)(row - (uint32_t)z * n.ny);
     oat_hit h = {.hit = 1, .x = x, .y = y, .z = z, .code = *at, .num = 0, .den = 1, .reads = reads};
-    int i = apart(p.x, x), j = apart(p.y, y), k = apart(p.z, z), num = -1, den = 1;
-    if (j) num = 2 * j - 1, den = 2 * w.b;
-    if (k && (num < 0 || num * 2 * w.c <= (2 * k - 1) * den)) num = 2 * k - 1, den = 2 * w.c;
-    if (i && (num < 0 || num * 2 * w.a <= (2 * i - 1) * den)) num = 2 * i - 1, den = 2 * w.a;
-    if (num > 0) h.num = (uint32_t)num, h.den = (uint32_t)den;
+    int i = apart(p.x, x), j = apart(p.y, y), k = apart(p.z, z), num = -1, den = 1, face = OAT_FACE_NONE;
+    if (j) num = 2 * j - 1, den = 2 * w.b, face = p.y < y ? OAT_FACE_PLUS_Y : OAT_FACE_MINUS_Y;
+    if (k && (num < 0 || num * 2 * w.c <= (2 * k - 1) * den))
+        num = 2 * k - 1, den = 2 * w.c, face = p.z < z ? OAT_FACE_PLUS_Z : OAT_FACE_MINUS_Z;
+    if (i && (num < 0 || num * 2 * w.a <= (2 * i - 1) * den))
+        num = 2 * i - 1, den = 2 * w.a, face = p.x < x ? OAT_FACE_PLUS_X : OAT_FACE_MINUS_X;
+    if (num > 0) h.num = (uint32_t)num, h.den = (uint32_t)den, h.face = face;
     return h;
 }
 

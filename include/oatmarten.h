@@ -1,4 +1,4 @@
-/* Oatmarten: exact sight lines through a voxel grid. The C interface, revision 2 (OAT_REVISION).
+/* Oatmarten: exact sight lines through a voxel grid. The C interface, revision 3 (OAT_REVISION).
 
    Link with liboatmarten.a (x86-64 Linux). docs/C.md has a whole program, docs/SCOPE.md the exact rules, docs/TRUST.md says what is proved
    and what is not.
@@ -28,7 +28,7 @@ extern "C" {
 #endif
 
 /* Grows by one when a struct, a call or a number of this header changes. */
-#define OAT_REVISION 2
+#define OAT_REVISION 3
 
 /* The field `refusal`, with what it names. Where more than one applies, each call below says the order of its tests; ends are looked at P
    before Q, axes in the order x, y, z. */
@@ -56,6 +56,19 @@ enum oat_axis { OAT_AXIS_NONE = 0, OAT_AXIS_X = 1, OAT_AXIS_Y = 2, OAT_AXIS_Z = 
 /* The byte of a cell: clear; near, which is not solid, but no long step of the adaptive walk starts there; or solid, OAT_SOLID_LEAST to
    255, which is its material code. Two cells touch where they share a face, an edge or a corner. */
 enum oat_byte { OAT_CLEAR = 0, OAT_NEAR = 1, OAT_SOLID_LEAST = 2 };
+
+/* The field `face`: which side of the solid cell the line came in by, told by the way in which the line moves. OAT_FACE_PLUS_X: it moves to
+   larger x and comes in by the cell's low-x side; OAT_FACE_MINUS_X: it moves to smaller x and comes in by the high-x side; y and z
+   likewise. OAT_FACE_NONE: the solid cell is the start p itself, so the line came in by no side. Opposite moves have opposite numbers. */
+enum oat_face {
+    OAT_FACE_NONE = 0,
+    OAT_FACE_PLUS_X = 1,
+    OAT_FACE_MINUS_X = -1,
+    OAT_FACE_PLUS_Y = 2,
+    OAT_FACE_MINUS_Y = -2,
+    OAT_FACE_PLUS_Z = 3,
+    OAT_FACE_MINUS_Z = -3
+};
 
 #define OAT_COUNT_MOST 1024          /* cells along an axis of a grid */
 #define OAT_COORDINATE_LEAST (-8192) /* of an end of a line list */
@@ -168,13 +181,14 @@ typedef struct {
 /* The first hit of a walk. */
 typedef struct {
     oat_said said;
-    uint32_t hit;   /* 1: a solid cell was met; 0: none, and the fields up to den are 0 */
+    uint32_t hit;   /* 1: a solid cell was met; 0: none, and the fields up to face are 0 */
     int32_t x;      /* the cell that was met */
     int32_t y;
     int32_t z;
     uint32_t code;  /* its material code, 2 to 255 */
     uint32_t num;   /* num/den of the way from P's centre to Q's the line enters it; 0/1 where it is P; not reduced */
     uint32_t den;
+    int32_t face;   /* enum oat_face: the side by which the line enters it, at num/den of the way; OAT_FACE_NONE where it is P */
     uint32_t reads; /* cells of the walk, its last included */
 } oat_hit;
 
@@ -188,6 +202,7 @@ typedef struct {
     int32_t z;
     uint32_t code;    /* its material code, 2 to 255 */
     uint32_t reads;   /* cells of the walk, its last included */
+    int32_t face;     /* enum oat_face: the side by which the line enters that cell; OAT_FACE_NONE where it is the camera's */
 } oat_sight_answer;
 
 /* ---- lines: refusals 1, then 6. A, B, C are the differences of p and q in x, y, z, without sign; M is the largest. The line from q to p
@@ -216,13 +231,13 @@ oat_complete_answer oat_complete(oat_counts n, const uint8_t *cells, size_t byte
 /* Where layer z lies: nx*ny bytes. Nothing is copied. */
 oat_part oat_layer(oat_counts n, const uint8_t *cells, size_t bytes, int32_t z);
 
-/* The first solid cell along the 6-line from p to q. Both ends are tested, p first: where p is solid it is the hit, at 0/1. Asks for no
-   marks. */
+/* The first solid cell along the 6-line from p to q. Both ends are tested, p first: where p is solid it is the hit, at 0/1 and by no side.
+   Asks for no marks. */
 oat_hit oat_plain(oat_counts n, const uint8_t *cells, size_t bytes, oat_cell p, oat_cell q);
 
 /* The same with long steps over clear cells: from a clear cell of the 26-line to the next cell of the 26-line; from every other cell to
-   the next of the 6-line. Where the marks are complete it gives the answer of oat_plain, with no more reads; where they are not, it may
-   miss a solid cell, and never makes one up. */
+   the next of the 6-line. A cell that a long step leads to has the place and the side by which the 6-line enters it. Where the marks are
+   complete it gives the answer of oat_plain, with no more reads; where they are not, it may miss a solid cell, and never makes one up. */
 oat_hit oat_adaptive(oat_counts n, const uint8_t *cells, size_t bytes, oat_cell p, oat_cell q);
 
 /* ---- surveyed points */

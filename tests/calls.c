@@ -221,6 +221,19 @@ static void layer(void) {
     say_stray(got.said, got.said.refusal ? got.offset + got.length : 0);
 }
 
+static const char *face_word(i32 face) {
+    switch (face) {
+    case OAT_FACE_NONE: return "0";
+    case OAT_FACE_PLUS_X: return "+x";
+    case OAT_FACE_MINUS_X: return "-x";
+    case OAT_FACE_PLUS_Y: return "+y";
+    case OAT_FACE_MINUS_Y: return "-y";
+    case OAT_FACE_PLUS_Z: return "+z";
+    case OAT_FACE_MINUS_Z: return "-z";
+    default: return "?";
+    }
+}
+
 static void first_hit(oat_hit walk(oat_counts, const u8 *, size, oat_cell, oat_cell)) {
     grid g = lend_grid();
     oat_cell p = take_cell(), q = take_cell();
@@ -230,9 +243,10 @@ static void first_hit(oat_hit walk(oat_counts, const u8 *, size, oat_cell, oat_c
     oat_hit got = walk(g.n, g.cells.at, g.cells.bytes, p, q);
     take_back(g.cells);
     if (got.said.refusal) say_refused(got.said);
-    else if (got.hit == 1) say("hit %d %d %d %u %u %u %u", got.x, got.y, got.z, got.code, got.num, got.den, got.reads);
+    else if (got.hit == 1)
+        say("hit %d %d %d %u %u %u %s %u", got.x, got.y, got.z, got.code, got.num, got.den, face_word(got.face), got.reads);
     else say(got.hit ? "?" : "clear %u", got.reads);
-    u64 values = got.hit == 1 ? 0 : (u32)(got.x | got.y | got.z) | got.code | got.num | got.den;
+    u64 values = got.hit == 1 ? 0 : (u32)(got.x | got.y | got.z | got.face) | got.code | got.num | got.den;
     if (got.said.refusal) values |= got.hit | got.reads;
     if (values) say(" stray %lu", values);
     say_stray(got.said, 0);
@@ -273,9 +287,10 @@ static void sight(void) {
     oat_sight_answer got = oat_sight(g.n, g.cells.at, g.cells.bytes, at, camera, ball);
     take_back(g.cells);
     if (got.said.refusal) say_refused(got.said);
-    else if (got.blocked == 1) say("blocked %lu %d %d %d %u %u", bits_of(got.share), got.x, got.y, got.z, got.code, got.reads);
+    else if (got.blocked == 1)
+        say("blocked %lu %d %d %d %u %u %s", bits_of(got.share), got.x, got.y, got.z, got.code, got.reads, face_word(got.face));
     else say(got.blocked ? "?" : "clear");
-    u64 values = got.blocked == 1 ? 0 : bits_of(got.share) | (u32)(got.x | got.y | got.z) | got.code | got.reads;
+    u64 values = got.blocked == 1 ? 0 : bits_of(got.share) | (u32)(got.x | got.y | got.z | got.face) | got.code | got.reads;
     if (got.said.refusal) values |= got.blocked;
     if (values) say(" stray %lu", values);
     say_stray(got.said, 0);

@@ -42,11 +42,22 @@ int main(void) {
     SHOW(oat_hit, oat_adaptive(n, cells, sizeof cells, p, q));
     SHOW(oat_hit, oat_plain(n, cells, sizeof cells, p, (oat_cell){.x = 0, .y = 0, .z = 7}));
 
+    /* that cell by each of its sides, then as the start, then not met */
+    const oat_cell ways[][2] = {
+        {{.x = 0, .y = 6, .z = 3}, {.x = 8, .y = 6, .z = 3}}, {{.x = 8, .y = 6, .z = 3}, {.x = 0, .y = 6, .z = 3}},
+        {{.x = 2, .y = 0, .z = 3}, {.x = 2, .y = 7, .z = 3}}, {{.x = 2, .y = 7, .z = 3}, {.x = 2, .y = 0, .z = 3}},
+        {{.x = 2, .y = 6, .z = 0}, {.x = 2, .y = 6, .z = 6}}, {{.x = 2, .y = 6, .z = 6}, {.x = 2, .y = 6, .z = 0}},
+        {{.x = 2, .y = 6, .z = 3}, {.x = 0, .y = 0, .z = 0}}, {{.x = 0, .y = 0, .z = 0}, {.x = 8, .y = 0, .z = 0}},
+    };
+    for (size_t k = 0; k < sizeof ways / sizeof *ways; k++) SHOW(oat_hit, oat_plain(n, cells, sizeof cells, ways[k][0], ways[k][1]));
+
     /* surveyed points */
     SHOW(oat_found, oat_cell_of(n, at, ball));
     SHOW(oat_found, oat_cell_of(n, (oat_placement){.ox = 0, .oy = 0, .oz = 0, .edge = 0}, ball));
     SHOW(oat_found, oat_cell_of(n, at, (oat_point){.x = -9, .y = 1 / 0.0, .z = 3}));
     SHOW(oat_sight_answer, oat_sight(n, cells, sizeof cells, at, camera, ball));
+    SHOW(oat_sight_answer, oat_sight(n, cells, sizeof cells, at, (oat_point){.x = -8.75, .y = 23.25, .z = 6.25},
+                                     (oat_point){.x = -8.75, .y = 23.25, .z = 3.25}));
     SHOW(oat_sight_answer, oat_sight(n, cells, sizeof cells, at, camera, (oat_point){.x = -9.75, .y = 23.75, .z = 6.5}));
 
     /* records */
