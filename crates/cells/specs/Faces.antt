@@ -13,7 +13,7 @@ put-on c X v = record { x = v; y = c .y; z = c .z }
 put-on c Y v = record { x = c .x; y = v; z = c .z }
 put-on c Z v = record { x = c .x; y = c .y; z = v }
 
--- the cell from which the line came: one step back across the face, to smaller numbers where the move was to larger ones
+-- the cell from which the line came: one step back across the face, to smaller numbers where the move was to larger ones; with no face the cell itself
 abbrev pub back-across : Face → Cell → Cell
 back-across Face.None c = c
 back-across (Face.Plus a) c = put-on c a (on c a -ℤ pos 1)

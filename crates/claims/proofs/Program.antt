@@ -47,10 +47,10 @@ use Rattle.program.specs.declared.Next.{Next}
 use Rattle.program.specs.declared.Next.the-variants.{On, Over}
 use Rattle.program.specs.declared.Step.{Step}
 use Rattle.program.specs.Program.{Said, venue-most, pair-most, beyond, venue-said, pair-said, then-on, pairs, after-venue, output, frame, frame-length}
-use Rattle.program.specs.Program.{after-frame, Says, text-room, after-refusal, answers, walk-lines, said-of-walks}
+use Rattle.program.specs.Program.{after-frame, Says, text-room, after-refusal, answers, walk-line, walk-lines, said-of-walks}
 use Rattle.program.proofs.Frames.{venue-framed, venue-on, venue-taken, read-framed, cells-framed, pair-framed, pair-on, after-same, less-left, beyond-is}
 use Rattle.claims.specs.Program.{Pairs, last, next, Runs, ends, begins, Writes, OneStep, example-input}
-use Rattle.claims.specs.Program.{WrongPrograms, Walked, AllWalked, going-on, FiveOrLines}
+use Rattle.claims.specs.Program.{WrongPrograms, Walked, AllWalked, going-on, FiveOrLines, LineOf}
 use Rattle.texts.specs.Text.{pair-refused-line}
 use Rattle.claims.proofs.Starred.{example-writes}
 use denote.Ref.{RefT}
@@ -302,6 +302,10 @@ one-step entry = record { venue = λ frame r t x y. one; pair = λ n cells k fra
 -- the end is no number
 over-not-on : (k : ℕ) {next : Next} → next ≡ Over → next ≡ On k → ⊥
 over-not-on k e f = let g : On k ≡ Over = sym f ∙ e in let z : _≡_ {A = ℕ} 0 1 = cc in omega arith
+
+pub line-of : (k letter : ℕ) → LineOf k letter
+unfolding walk-line
+line-of k letter = record { hit = λ h. refl; clear = λ reads. refl }
 
 pub wrong-programs : WrongPrograms
 unfolding pair-said beyond pair-read pair-check venue-said venue-read venue-check whole-check

@@ -13,4 +13,4 @@ use Rattle.claims.specs.ProgramRows.{more-program-rows}
 pub more-programs-hold : Every more-program-rows
 unfolding beyond output decimal hit-line clear-line pair-refused-line venue-refused-line shape whole-check venue-version venue-head venue-check
     venue-read venue-cells signed pair-version pair-length pair-check pair-read first-hit
-more-programs-hold = refl and refl and refl and refl and refl and refl and refl and refl and refl and refl and refl and refl and refl and no-more
+more-programs-hold = refl and refl and refl and refl and refl and refl and refl and refl and refl and refl and refl and refl and refl and refl and no-more

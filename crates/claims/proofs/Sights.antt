@@ -123,7 +123,7 @@ module _ (n : Counts) (l : List ℕ) (at : Placement) (camera ball : Point) wher
   pub blocked-as-hit : BlockedAsHit n l at camera ball
   blocked-as-hit =
       record {
-        hit-by = λ b sees.
+        as-hit = λ b sees.
             let k = looked-by (not-blocked b) sees in
             let (h, is, same) = walk-blocked _ b (k .walk) in
             record {

@@ -18,6 +18,7 @@ use Rattle.cells.specs.declared.Verdict.{Verdict}
 use Rattle.cells.specs.declared.Verdict.the-variants as Verdict
 use Rattle.cells.specs.Checks.{by-verdict}
 use Rattle.cells.specs.Faces.{back-across}
+use Rattle.cells.proofs.Signed.{up}
 use Rattle.lines.specs.Steps.{X, Y, Z, total}
 use Rattle.lines.specs.Preference.{rule-1}
 use Rattle.lines.specs.Lines.{differences, longest, six-cell, cell-26, number-26}
@@ -43,10 +44,11 @@ use Rattle.walks.proofs.Find.{same-is-cell}
 use Rattle.walks.proofs.Safe.{complete-safe}
 use Rattle.walks.proofs.Numbers.{adaptive-next, Way, face, long, way}
 use Rattle.walks.proofs.Long.{go-long, go-face}
-use Rattle.walks.proofs.Places.{enters, never-falls, face-is, some-face, face-back, num-made}
+use Rattle.walks.proofs.Places.{enters, never-falls, face-is, some-face, face-leads-back, num-made}
 use Rattle.walks.proofs.Story.{first-hit-is, walk-stops, end-below, no-earlier, not-invented, ends-alike, reads-no-more}
 use Rattle.walks.proofs.Story.{plain-clear, plain-clear-reads, adaptive-clear-most, adaptive-clear-least}
 use Rattle.survey.proofs.Tests.{neither}
+use Rattle.oatmarten.specs.Faces.{face-number}
 use Rattle.claims.specs.Story.{SameStory, hits, clears, refusals, OneStory, NeverInvented, NothingInTheWay, Reads, WalksEnd}
 use Rattle.claims.specs.Story.{FirstSolid, HitInside, MarkedFirst, HitOnce, WrongWalks, OnTheLine, HitPlace, CameInBy, HitFace, StepByStep}
 use Rattle.claims.specs.Story.{AdaptiveStep, long-hit}
@@ -190,7 +192,7 @@ module _ (n : Counts) (l : List ℕ) (p q : Cell) where
               number = s;
               most = on .most;
               cell = on .cell;
-              before = ap₂ (λ k c. back-across (k .face) c) (on .place) (on .cell) ∙ face-back p q s;
+              before = ap₂ (λ k c. back-across (k .face) c) (on .place) (on .cell) ∙ face-leads-back p q s;
               num = ap (λ k. k .num) (on .place) ∙ num-made p q s ∙ ap (λ c. 2 * differences p c a - 1) (sym (on .cell));
               den = ap (λ k. k .den) (on .place);
             },
@@ -355,16 +357,6 @@ marked-first n l exit = record {
 
 -- ---- wrong walks
 
--- a number for each face
-face-number : Face → ℕ
-face-number Face.None = 0
-face-number (Face.Plus X) = 1
-face-number (Face.Plus Y) = 2
-face-number (Face.Plus Z) = 3
-face-number (Face.Minus X) = 4
-face-number (Face.Minus Y) = 5
-face-number (Face.Minus Z) = 6
-
 -- what a walk that hits says of the face
 face-or : FirstHit → Face
 face-or (FirstHit.Hit h) = h .place .face
@@ -383,7 +375,7 @@ by-y Plain = refl
 by-y Adaptive = refl
 
 pub wrong-walks : WrongWalks
-unfolding first-hit kind reads-or hit-or face-or face-number
+unfolding first-hit kind reads-or hit-or face-or
 wrong-walks =
     record {
       plain-refuses = λ r h. absurd (let z : _≡_ {A = ℕ} 2 0 = ap kind (h .says) in omega arith);
@@ -395,7 +387,7 @@ wrong-walks =
       reads-made-up = λ reads h. ap (reads-or 0) (h .says);
       long-at-any-clear = λ h. absurd (let z : _≡_ {A = ℕ} 3 4 = ap (reads-or 0) (h .says) in omega arith);
       place-of-first-face = λ face h. absurd (let z : _≡_ {A = ℕ} 1 3 = ap (λ a. hit-or (long-hit 0 1 face) a .place .num) (h .says) in omega arith);
-      face-of-first-face = λ num den h. absurd (let z : _≡_ {A = ℕ} 2 1 = ap (λ a. face-number (face-or a)) (h .says) in omega arith);
-      sign-turned = λ w num den reads h. absurd (let z : _≡_ {A = ℕ} 5 2 = ap face-number (ap face-or (h .says) ∙ by-y w) in omega arith);
+      face-of-first-face = λ num den face other h. other (ap face-or (h .says));
+      sign-turned = λ w num den reads h. absurd (let z : _≡_ {A = ℕ} 0 2 = ap (λ f. up (face-number f)) (ap face-or (h .says) ∙ by-y w) in omega arith);
       face-at-p = λ w num den reads face other h. other (ap face-or (h .says) ∙ at-p w);
     }

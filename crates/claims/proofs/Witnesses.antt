@@ -86,6 +86,7 @@ of-points =
       looked-up = record { says = refl };
       off-survey = refl;
       seen = record { says = refl };
+      blocked = record { says = refl };
     }
 
 -- a list whose numbers are all below 256

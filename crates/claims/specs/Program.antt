@@ -9,14 +9,15 @@ use denote.Ref.{RefT}
 use Rattle.records.specs.declared.venues.Venue.{Venue}
 use Rattle.records.specs.declared.venues.VenueRead.the-variants.{Read}
 use Rattle.records.specs.Venues.{ReadsVenue, GivesCells}
+use Rattle.walks.specs.declared.Hit.{Hit}
 use Rattle.walks.specs.declared.FirstHit.{FirstHit}
 use Rattle.walks.specs.declared.FirstHit.the-variants as FirstHit
 use Rattle.records.specs.declared.pairs.Pair.{Pair}
 use Rattle.records.specs.declared.pairs.PairRead.the-variants as PairRead
-use Rattle.texts.specs.Text.{pair-refused-line}
+use Rattle.texts.specs.Text.{hit-line, clear-line, pair-refused-line}
 use Rattle.program.specs.declared.Next.the-variants.{On, Over}
 use Rattle.program.specs.declared.Step.{Step}
-use Rattle.program.specs.Program.{Said, venue-most, pair-most, venue-said, answers, walk-lines, pair-said, output, frame, after-frame, Says}
+use Rattle.program.specs.Program.{Said, venue-most, pair-most, venue-said, answers, walk-line, walk-lines, pair-said, output, frame, after-frame, Says}
 use Rattle.claims.specs.Example.{marked-cells}
 use Rattle.claims.specs.Records.{example-venue, example-pair}
 use Rattle.records.specs.Pairs.{ReadsPair}
@@ -73,6 +74,11 @@ pub record FiveOrLines (bytes cells : RefT (List ℕ)) (t : List ℕ) (v : Venue
       (pair-said (v .counts) (cells .now) k t ≡ going-on k (pair-refused-line k 5))
       ⊎ ((pair-said (v .counts) (cells .now) k t ≡ going-on k (walk-lines k found)) × AllWalked found)
 
+-- What the line of a walk has: a hit's cell, code, reads and entry face, or the reads of a clear one.
+pub record LineOf (k letter : ℕ) : Type 0 where
+  pub hit : (h : Hit) → walk-line k letter (FirstHit.Hit h) ≡ hit-line k letter (h .cell) (h .code) (h .reads) (h .place .face)
+  pub clear : (reads : ℕ) → walk-line k letter (FirstHit.Clear reads) ≡ clear-line k letter reads
+
 -- ---- named inputs and outputs
 
 -- SCOPE's input
@@ -88,8 +94,11 @@ abbrev pub example-output : List ℕ
 example-output = plain-line ++ (49 ∷ 32 ∷ 65 ∷ 32 ∷ 99 ∷ 108 ∷ 101 ∷ 97 ∷ 114 ∷ 32 ∷ 52 ∷ 10 ∷ [])
 
 -- SCOPE T14: the same venue, marked, and the same pair
+abbrev pub marked-venue : List ℕ
+marked-venue = 0 ∷ 0 ∷ 0 ∷ 15 ∷ 1 ∷ 0 ∷ 4 ∷ 0 ∷ 2 ∷ 0 ∷ 1 ∷ marked-cells
+
 abbrev pub marked-input : List ℕ
-marked-input = (0 ∷ 0 ∷ 0 ∷ 15 ∷ 1 ∷ 0 ∷ 4 ∷ 0 ∷ 2 ∷ 0 ∷ 1 ∷ marked-cells) ++ example-pair
+marked-input = marked-venue ++ example-pair
 
 -- SCOPE T14: its whole output, with `1 A hit 1 1 0 2 3 +y`
 abbrev pub marked-output : List ℕ

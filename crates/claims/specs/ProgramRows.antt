@@ -4,6 +4,7 @@ use Prim.Native.Nat.{ℕ}
 use mathlib.Core.List.{List, [], _∷_, _++_}
 use lib.ListN.{replicate}
 use Rattle.claims.specs.Records.{example-venue, example-pair, version-2}
+use Rattle.claims.specs.Program.{marked-venue}
 use Rattle.claims.specs.Starred.{Row, writes}
 
 -- ---- records
@@ -22,6 +23,13 @@ off-pair = 0 ∷ 0 ∷ 0 ∷ 13 ∷ 1 ∷ 0 ∷ 0 ∷ 0 ∷ 0 ∷ 0 ∷ 0 ∷ 0 
 -- the example's pair, called version 2
 abbrev pub other-version : List ℕ
 other-version = 0 ∷ 0 ∷ 0 ∷ 13 ∷ 2 ∷ 0 ∷ 0 ∷ 0 ∷ 0 ∷ 0 ∷ 0 ∷ 0 ∷ 3 ∷ 0 ∷ 1 ∷ 0 ∷ 0 ∷ []
+
+-- from (3,1,0) to (0,1,0), and from the solid cell (1,1,0) to (3,1,0)
+abbrev pub back-pair : List ℕ
+back-pair = 0 ∷ 0 ∷ 0 ∷ 13 ∷ 1 ∷ 0 ∷ 3 ∷ 0 ∷ 1 ∷ 0 ∷ 0 ∷ 0 ∷ 0 ∷ 0 ∷ 1 ∷ 0 ∷ 0 ∷ []
+
+abbrev pub solid-pair : List ℕ
+solid-pair = 0 ∷ 0 ∷ 0 ∷ 13 ∷ 1 ∷ 0 ∷ 1 ∷ 0 ∷ 1 ∷ 0 ∷ 0 ∷ 0 ∷ 3 ∷ 0 ∷ 1 ∷ 0 ∷ 0 ∷ []
 
 -- a whole record of version 1 and length 12
 abbrev pub twelve-long : List ℕ
@@ -65,6 +73,17 @@ second-lines =
     (50 ∷ 32 ∷ 80 ∷ 32 ∷ 104 ∷ 105 ∷ 116 ∷ 32 ∷ 49 ∷ 32 ∷ 49 ∷ 32 ∷ 48 ∷ 32 ∷ 50 ∷ 32 ∷ 51 ∷ 32 ∷ 43 ∷ 121 ∷ 10 ∷ [])
     ++ (50 ∷ 32 ∷ 65 ∷ 32 ∷ 99 ∷ 108 ∷ 101 ∷ 97 ∷ 114 ∷ 32 ∷ 52 ∷ 10 ∷ [])
 
+-- ` hit 1 1 0 2 `, between the walk's letter and the reads
+abbrev pub post : List ℕ
+post = 32 ∷ 104 ∷ 105 ∷ 116 ∷ 32 ∷ 49 ∷ 32 ∷ 49 ∷ 32 ∷ 48 ∷ 32 ∷ 50 ∷ 32 ∷ []
+
+-- `3 -x`, and `1 0`: the reads and the face, each with its line feed
+abbrev pub by-minus-x : List ℕ
+by-minus-x = 51 ∷ 32 ∷ 45 ∷ 120 ∷ 10 ∷ []
+
+abbrev pub at-start : List ℕ
+at-start = 49 ∷ 32 ∷ 48 ∷ 10 ∷ []
+
 -- ---- the rows
 
 abbrev pub more-program-rows : List Row
@@ -82,6 +101,9 @@ more-program-rows =
     ∷ writes (example-venue ++ (0 ∷ [])) (49 ∷ refused ++ ten)
     -- after 5 it goes on and counts on; after 11 it ends, though a pair follows
     ∷ writes (example-venue ++ off-pair ++ example-pair ++ other-version ++ example-pair) ((49 ∷ refused ++ five) ++ second-lines ++ (51 ∷ refused ++ eleven))
+    -- a hit by -x, and a hit at P, by both walks
+    ∷ writes (marked-venue ++ back-pair ++ solid-pair)
+    ((49 ∷ 32 ∷ 80 ∷ post ++ by-minus-x) ++ (49 ∷ 32 ∷ 65 ∷ post ++ by-minus-x) ++ (50 ∷ 32 ∷ 80 ∷ post ++ at-start) ++ (50 ∷ 32 ∷ 65 ∷ post ++ at-start))
     -- after 10 it ends too; a pair cut short in its length is refused 10
     ∷ writes (example-venue ++ off-pair ++ twelve-long ++ example-pair) ((49 ∷ refused ++ five) ++ (50 ∷ refused ++ ten))
     ∷ writes (example-venue ++ (0 ∷ 0 ∷ 0 ∷ [])) (49 ∷ refused ++ ten)

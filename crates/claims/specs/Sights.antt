@@ -77,7 +77,7 @@ module _ (n : Counts) (l : List ℕ) (at : Placement) where
     pub its-share : b .share ≡ share-of (hit .place .num) (hit .place .den)
 
   pub record BlockedAsHit (camera ball : Point) : Type 0 where
-    pub hit-by : (b : Block) → Sees n l at camera ball (Blocked b) → BlockedBy camera ball b
+    pub as-hit : (b : Block) → Sees n l at camera ball (Blocked b) → BlockedBy camera ball b
 
 -- ---- wrong answers, on the program's venue with its marks: a camera and a ball in the middles of (0,0,0) and (3,1,0)
 

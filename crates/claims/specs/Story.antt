@@ -7,7 +7,7 @@ use mathlib.Core.Logic.{_⊎_, _↔_}
 use mathlib.Core.List.{List, [], _∷_}
 use lib.ListN.{length, getD}
 use Rattle.cells.specs.declared.Axis.{Axis}
-use Rattle.cells.specs.declared.Axis.the-variants.{Y}
+use Rattle.cells.specs.declared.Axis.the-variants.{X, Y}
 use Rattle.cells.specs.declared.Cell.{Cell}
 use Rattle.cells.specs.declared.Counts.{Counts}
 use Rattle.cells.specs.declared.Face.{Face}
@@ -127,7 +127,7 @@ pub record AdaptiveStep (n : Counts) (l : List ℕ) (p q : Cell) : Type 0 where
       ((byte-of n l (six-cell rule-1 p q s) ≡ 0 → ⊥) ⊎ ((m : ℕ) → m ≤ longest (differences p q) → cell-26 p q m ≡ six-cell rule-1 p q s → ⊥)) →
       next-cell Adaptive n l p q (six-cell rule-1 p q s) ≡ six-cell rule-1 p q (suc s)
 
--- 12. The entry face of a hit, by either walk: none exactly where the cell is P. Else it lies across an axis, and there
+-- the entry face of a hit lies across axis a
 pub record CameInBy (p q : Cell) (h : Hit) (a : Axis) : Type 0 where
   -- it is the face of that axis, with one of the two signs
   pub face : (h .place .face ≡ Face.Plus a) ⊎ (h .place .face ≡ Face.Minus a)
@@ -140,6 +140,7 @@ pub record CameInBy (p q : Cell) (h : Hit) (a : Axis) : Type 0 where
   pub num : h .place .num ≡ 2 * differences p (h .cell) a - 1
   pub den : h .place .den ≡ 2 * differences p q a
 
+-- 12. The entry face of a hit, by either walk: none exactly where the cell is P, else as said.
 pub record HitFace (n : Counts) (l : List ℕ) (p q : Cell) : Type 0 where
   pub none : (w : Walker) (h : Hit) → Finds w n l p q (FirstHit.Hit h) → (h .place .face ≡ Face.None) ↔ (h .cell ≡ p)
   pub crossed : (w : Walker) (h : Hit) → Finds w n l p q (FirstHit.Hit h) → (h .cell ≡ p → ⊥) → (a : Axis) × CameInBy p q h a
@@ -162,8 +163,8 @@ abbrev pub long-hit : (num den : ℕ) → Face → Hit
 long-hit num den face = record { cell = at 2 1 0; code = 2; place = record { num = num; den = den; face = face }; reads = 3 }
 
 -- the hit in the program's venue, marked, which is entered by +y; and the hit at P there
-abbrev pub hit-by : (num den : ℕ) → Face → (reads : ℕ) → Hit
-hit-by num den face reads = record { cell = at 1 1 0; code = 2; place = record { num = num; den = den; face = face }; reads = reads }
+abbrev pub post-hit : (num den : ℕ) → Face → (reads : ℕ) → Hit
+post-hit num den face reads = record { cell = at 1 1 0; code = 2; place = record { num = num; den = den; face = face }; reads = reads }
 
 pub record WrongWalks : Type 0 where
   pub plain-refuses : (r : Refusal) → Finds Plain example-counts example-cells (at 0 0 0) (at 3 1 0) (FirstHit.Refused r) → ⊥
@@ -176,9 +177,10 @@ pub record WrongWalks : Type 0 where
   pub reads-made-up : (reads : ℕ) → Finds Adaptive example-counts example-cells (at 0 0 0) (at 3 1 0) (FirstHit.Clear reads) → reads ≡ 4
   pub long-at-any-clear : Finds Adaptive (counts 3 2 1) near-bytes (at 0 0 0) (at 2 1 0) (FirstHit.Clear 3) → ⊥
   pub place-of-first-face : (face : Face) → Finds Adaptive (counts 6 3 1) long-bytes (at 0 0 0) (at 5 2 0) (FirstHit.Hit (long-hit 1 4 face)) → ⊥
-  pub face-of-first-face : (num den : ℕ) →
-      Finds Adaptive (counts 6 3 1) long-bytes (at 0 0 0) (at 5 2 0) (FirstHit.Hit (long-hit num den (Face.Plus Y))) → ⊥
+  -- the first face's axis, y, or any face but +x
+  pub face-of-first-face : (num den : ℕ) (face : Face) → (face ≡ Face.Plus X → ⊥) →
+      Finds Adaptive (counts 6 3 1) long-bytes (at 0 0 0) (at 5 2 0) (FirstHit.Hit (long-hit num den face)) → ⊥
   pub sign-turned : (w : Walker) (num den reads : ℕ) →
-      Finds w example-counts marked-cells (at 0 0 0) (at 3 1 0) (FirstHit.Hit (hit-by num den (Face.Minus Y) reads)) → ⊥
+      Finds w example-counts marked-cells (at 0 0 0) (at 3 1 0) (FirstHit.Hit (post-hit num den (Face.Minus Y) reads)) → ⊥
   pub face-at-p : (w : Walker) (num den reads : ℕ) (face : Face) → (face ≡ Face.None → ⊥) →
-      Finds w example-counts marked-cells (at 1 1 0) (at 3 1 0) (FirstHit.Hit (hit-by num den face reads)) → ⊥
+      Finds w example-counts marked-cells (at 1 1 0) (at 3 1 0) (FirstHit.Hit (post-hit num den face reads)) → ⊥

@@ -34,7 +34,7 @@ use Rattle.walks.specs.Answers.{Finds}
 use Rattle.survey.specs.declared.Lookup.the-variants as Lookup
 use Rattle.survey.specs.Survey.{Tested, quotients, look-up, LooksUp}
 use Rattle.sight.specs.declared.Sight.the-variants as Sight
-use Rattle.sight.specs.Sight.{Sees}
+use Rattle.sight.specs.Sight.{share-of, Sees}
 use Rattle.records.specs.declared.venues.VenueRead.the-variants as VenueRead
 use Rattle.records.specs.declared.pairs.PairRead.the-variants as PairRead
 use Rattle.records.specs.declared.writing.Written.the-variants as Written
@@ -110,6 +110,10 @@ pub record OfPoints : Type 0 where
   -- a clear sight over complete marks
   pub seen : Sees (counts 3 2 1) all-clear (placement (metres 0) (metres 1)) (point (halves 1) (halves 1) (halves 1))
       (point (halves 5) (halves 3) (halves 1)) Sight.Clear
+  -- a blocked one, in the program's venue, marked
+  pub blocked : Sees example-counts marked-cells (placement (metres 0) (metres 1)) (point (halves 1) (halves 1) (halves 1))
+      (point (halves 7) (halves 3) (halves 1))
+      (Sight.Blocked (record { share = share-of 1 2; cell = at 1 1 0; code = 2; reads = 3; face = Face.Plus Y }))
 
 pub record OfRecords : Type 0 where
   pub bytes : AllBytes example-venue

@@ -34,8 +34,9 @@ module _ (bytes : ℕ) (k : Route) (plan : Planned bytes k) (l : List ℕ) where
   pub stop-answers : (e many : ℕ) (r : Stop) → e ≤ total D → Stopped k e many r → answer-from l k r ≡ answer-at (k .n) l (k .p) (k .q) e many
   unfolding answer-from
   stop-answers e many r le h =
-      ap₂ (λ c b. cond (solid b) (FirstHit.Hit
-      (record { cell = c; code = b; place = entered (k .p) (k .q) (steps (k .d)) (differences (k .p) c); reads = r .reads })) (FirstHit.Clear (r .reads))) cell byte
+      ap₂ (λ c b. cond (solid b)
+      (FirstHit.Hit (record { cell = c; code = b; place = entered (k .p) (k .q) (steps (k .d)) (differences (k .p) c); reads = r .reads }))
+      (FirstHit.Clear (r .reads))) cell byte
       ∙ ap₂ (λ a m. cond (solid (byte-of (k .n) l f)) (FirstHit.Hit (record { cell = f; code = byte-of (k .n) l f; place = a; reads = m }))
       (FirstHit.Clear m)) entering (h .reads)
     where

@@ -21,5 +21,10 @@ unfolding entered
 answer-from l k r =
     let c : Cell = cell-at (k .n) (natAbs (r .spot .at)) in
     cond (solid (byte-of-spot l (r .spot)))
-    (FirstHit.Hit (record { cell = c; code = byte-of-spot l (r .spot); place = entered (k .p) (k .q) (steps (k .d)) (differences (k .p) c); reads = r .reads }))
+    (FirstHit.Hit (record {
+      cell = c;
+      code = byte-of-spot l (r .spot);
+      place = entered (k .p) (k .q) (steps (k .d)) (differences (k .p) c);
+      reads = r .reads;
+    }))
     (FirstHit.Clear (r .reads))

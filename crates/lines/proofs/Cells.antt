@@ -18,7 +18,8 @@ use Rattle.lines.specs.Steps.{Axis, X, Y, Z, Steps, total, same}
 use Rattle.lines.specs.Crossings.{Course, upper, next, place}
 use Rattle.lines.specs.Preference.{Preference, rule-1}
 use Rattle.lines.specs.Towards.{towards}
-use Rattle.lines.specs.Lines.{differences, cell-of, face-along, centres, six-cell, six-line, longest, place-26, cell-26, line-26, in-limit, InLimit, number-26}
+use Rattle.lines.specs.Lines.{differences, cell-of, face-along, centres, six-cell, six-line, longest}
+use Rattle.lines.specs.Lines.{place-26, cell-26, line-26, in-limit, InLimit, number-26}
 use Rattle.lines.specs.Segment.{Share, InClosed, InOpen}
 use Rattle.lines.proofs.Steps.{bump, total-bump, same-self, Cmp, here, other, cmp}
 use Rattle.lines.proofs.Merge.{Next, Rule}

@@ -15,7 +15,7 @@ use Rattle.lines.specs.Lines.{differences, centres}
 use Rattle.lines.proofs.Fractions.{Before, before-true, place-total, entered-by-last}
 use Rattle.lines.proofs.Centres.{centres-good}
 use Rattle.walks.specs.Answers.{entered-at}
-use Rattle.places.specs.Entered.{numerator, behind, last-axis, place-along, place-of-p, entered}
+use Rattle.places.specs.Entered.{numerator, behind, last-axis, place-along, place-at-p, entered}
 
 -- the upper number of crossing i, counted from 0
 numerator-suc : (i : ℕ) → numerator (suc i) ≡ 1 + 2 * i
@@ -109,12 +109,12 @@ pub entered-is : (p q : Cell) (s : ℕ) → s ≤ total (differences p q) →
 unfolding entered
 entered-is p q zero le =
     let c = centres rule-1 (differences p q) in
-    ap (λ b. cond b place-of-p (place-along p q (differences p q) (place c 0) (last-axis (differences p q) (place c 0))))
+    ap (λ b. cond b place-at-p (place-along p q (differences p q) (place c 0) (last-axis (differences p q) (place c 0))))
     (eq-eqb (total (place c 0)) 0 (place-total c 0))
 entered-is p q (suc s) le =
     let c = centres rule-1 (differences p q) in
     let t = place c (suc s) in
-    ap (λ b. cond b place-of-p (place-along p q (differences p q) t (last-axis (differences p q) t)))
+    ap (λ b. cond b place-at-p (place-along p q (differences p q) t (last-axis (differences p q) t)))
     (ne-eqb (total t) 0 (λ e. omega (arith, place-total c (suc s))))
     ∙ ap (place-along p q (differences p q) t) (last-axis-is (differences p q) t (next c (place c s))
     (entered-by-last c (centres-good rule-1 (differences p q)) s (omega arith)))

@@ -1,5 +1,5 @@
--- How the code finds the place of a hit and its entry face, from the steps made: of the crossings last made on each axis, the one that is last in the order. No
--- promise rests on this file: SCOPE's place is `place-of` of `walks`, and this is equal to it (`proofs/Entering.antt`). Assumes nothing.
+-- How the code finds the place of a hit and its face, from the steps made: of the crossings last made on each axis, the one that is last in the order.
+-- No promise rests on this file: SCOPE's place is `place-of` of `walks`, and this is equal to it (`proofs/Entering.antt`). Assumes nothing.
 use Prim.Native.Nat.{ℕ, _-_, _*_}
 use mathlib.Core.Bool.{Bool, cond, _&&_}
 use lib.Dec.{ltb, leb, eqb}
@@ -31,9 +31,9 @@ abbrev pub place-along : Cell → Cell → Steps → Steps → Axis → Place
 place-along p q D t a = record { num = numerator (t a); den = 2 * D a; face = face-along p q a }
 
 -- the place where no step was made
-abbrev pub place-of-p : Place
-place-of-p = record { num = 0; den = 1; face = Face.None }
+abbrev pub place-at-p : Place
+place-at-p = record { num = 0; den = 1; face = Face.None }
 
 -- SCOPE W5, W8: the place of a hit, from the steps t made: that of P where there are none, else that of the last crossing
 unfoldable pub entered : Cell → Cell → Steps → Steps → Place
-entered p q D t = cond (eqb (total t) 0) place-of-p (place-along p q D t (last-axis D t))
+entered p q D t = cond (eqb (total t) 0) place-at-p (place-along p q D t (last-axis D t))

@@ -32,7 +32,8 @@ share-of num den = div binary64 (as-f64 num) (as-f64 den)
 -- SCOPE S8, S10: the sight answer, from what the adaptive walk says
 abbrev pub sight-of : FirstHit → Sight
 sight-of (FirstHit.Clear reads) = Clear
-sight-of (FirstHit.Hit h) = Blocked (record { share = share-of (h .place .num) (h .place .den); cell = h .cell; code = h .code; reads = h .reads; face = h .place .face })
+sight-of (FirstHit.Hit h) =
+    Blocked (record { share = share-of (h .place .num) (h .place .den); cell = h .cell; code = h .code; reads = h .reads; face = h .place .face })
 sight-of (FirstHit.Refused r) = Refused r
 
 -- SCOPE S10, S11: from the two lookups: a refusal, the camera's before the ball's, or what the adaptive walk finds

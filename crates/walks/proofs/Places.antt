@@ -85,8 +85,8 @@ module _ (p q : Cell) where
       (face-is s)
 
   -- one step back across it stands the cell before
-  pub face-back : (s : ℕ) → back-across (entered-at p q (suc s) .face) (six-cell rule-1 p q (suc s)) ≡ six-cell rule-1 p q s
-  face-back = six-back rule-1 p q
+  pub face-leads-back : (s : ℕ) → back-across (entered-at p q (suc s) .face) (six-cell rule-1 p q (suc s)) ≡ six-cell rule-1 p q s
+  face-leads-back = six-back rule-1 p q
 
   -- the place's two numbers, by the cell's steps from P
   pub num-made : (s : ℕ) → entered-at p q (suc s) .num ≡ 2 * differences p (six-cell rule-1 p q (suc s)) (enters s) - 1

@@ -1,5 +1,5 @@
--- SCOPE W4, W5, W6, W8: the answer of a first-hit call, from its walk, with a hit's place, entry face and reads; refusals 2, 3, then 5 (P before Q; x, y, z).
--- Assumes nothing.
+-- SCOPE W4, W5, W6, W8: the answer of a first-hit call, from its walk, with a hit's place and face and the reads; refusals 2, 3, then 5 (P before Q;
+-- x, y, z). Assumes nothing.
 use Prim.Native.Nat.{ℕ, zero, suc, _-_, _*_}
 use mathlib.Core.Path.{_≡_}
 use mathlib.Core.Bool.{cond}
@@ -27,8 +27,8 @@ use Rattle.grids.specs.Inside.{walk-check}
 
 -- ---- the place of a hit
 
--- SCOPE W5, W8: the place of a cell, by its number in the 6-line. P has 0 over 1, and no face; cell s + 1 has the fraction and the face of the
--- crossing that leads there, on the axis along which cell s steps on
+-- SCOPE W5, W8: place and face of a cell, by its number in the 6-line. P has 0 over 1, and no face; cell s + 1 has those of the crossing that leads
+-- there, on the axis along which cell s steps on
 abbrev pub entered-at : Cell → Cell → ℕ → Place
 entered-at p q zero = record { num = 0; den = 1; face = Face.None }
 entered-at p q (suc s) =

@@ -9,7 +9,7 @@ pub enum Walker {
     Adaptive,
 }
 
-// The place of a hit: the fraction of the way at which the line enters the cell, not reduced, and the face by which it does.
+// By which crossing the line enters the cell of a hit: its place, the fraction num over den of the way, not reduced; and its face.
 pub struct Place {
     pub num: u32,
     pub den: u32,

@@ -50,7 +50,9 @@ below : (c : tie.After-axis-code2) → c .axis-code2 .result < 2 ^ 31
 below c = omega (arith, few (c .before .before .f2 .given .0 .0) (c .axis-code2 .ensures))
 
 fits : (c : tie.After-axis-code2) → SFits w32 (pos 0 -ℤ pos (c .axis-code2 .result))
-fits c = small-diff (pos 0) (pos (c .axis-code2 .result)) (nat-small 0 (omega arith)) (nat-small _ (omega (arith, few (c .before .before .f2 .given .0 .0) (c .axis-code2 .ensures))))
+fits c =
+    small-diff (pos 0) (pos (c .axis-code2 .result)) (nat-small 0 (omega arith))
+    (nat-small _ (omega (arith, few (c .before .before .f2 .given .0 .0) (c .axis-code2 .ensures))))
 
 sub-result : tie.Need-sub-result
 sub-result c = rw (nat-held _ (below c)) (fits c)
@@ -59,7 +61,9 @@ returns : tie.Need-returns
 returns c = rw (c .enum-told .given .1)
 
 returns-2 : tie.Need-returns-2
-returns-2 c = rw (c .before .before .f .given .1) (nat-held _ (omega (arith, few (c .before .before .f .given .0 .0) (c .axis-code .ensures))) ∙ ap pos (c .axis-code .ensures))
+returns-2 c =
+    rw (c .before .before .f .given .1)
+    (nat-held _ (omega (arith, few (c .before .before .f .given .0 .0) (c .axis-code .ensures))) ∙ ap pos (c .axis-code .ensures))
 
 returns-3 : tie.Need-returns-3
 returns-3 c =
