@@ -1,88 +1,76 @@
 -- `oatmarten::faces::face_code` meets its contract: an axis's number is at most 3, and its negative fits too. Assumes nothing.
-use mathlib.Core.Path.{_≡_, refl, ap, _∙_}
+use mathlib.Core.Path.{_≡_, refl, sym, ap, _∙_}
+use mathlib.Core.Bool.{true, false}
 use Prim.Native.Nat.{ℕ, _^_, _≤_, _<_}
 use native.Mathlib.Omega.{arith}
-use lib.IntN.{pos, negℤ, _-ℤ_}
+use lib.IntN.{pos, _-ℤ_}
 use mir.Syntax.{w32}
-use mir.Val.{SFits}
+use mir.Val.{SFits, toZ}
 use borrow.Author.Needs.{needs}
-use Rattle.cells.specs.declared.Axis.{Axis}
 use Rattle.cells.specs.declared.Axis.the-variants.{X, Y, Z}
+use Rattle.cells.specs.declared.Face.{Face}
+use Rattle.cells.specs.declared.Face.the-variants as Face
 use Rattle.cells.proofs.Machine.{nat-held, nat-fits, nat-small, small-diff, held, held-is}
-use Rattle.oatmarten.specs.Refusals.{axis-number}
+use Rattle.oatmarten.specs.Faces.{face-axis, falls, face-number}
 use Rattle.oatmarten.proofs.faces.face_code.Statement.{statement}
 use Rattle.oatmarten.proofs.faces.face_code.Tie as tie
 
--- an axis's number, and a number equal to one, is small
-few : (a : Axis) {n : ℕ} → n ≡ axis-number a → n ≤ 3
-few X e = omega arith
-few Y e = omega arith
-few Z e = omega arith
+few : (f : Face) → face-axis f ≤ 3
+few Face.None = omega arith
+few (Face.Plus X) = omega arith
+few (Face.Plus Y) = omega arith
+few (Face.Plus Z) = omega arith
+few (Face.Minus X) = omega arith
+few (Face.Minus Y) = omega arith
+few (Face.Minus Z) = omega arith
 
-less-from-0 : (a : Axis) → pos 0 -ℤ pos (axis-number a) ≡ negℤ (pos (axis-number a))
-less-from-0 X = refl
-less-from-0 Y = refl
-less-from-0 Z = refl
+-- the two signs
+falling : (f : Face) → falls f ≡ true → pos 0 -ℤ pos (face-axis f) ≡ face-number f
+falling Face.None h = absurd (let z : _≡_ {A = ℕ} 0 1 = cc in omega arith)
+falling (Face.Plus a) h = absurd (let z : _≡_ {A = ℕ} 0 1 = cc in omega arith)
+falling (Face.Minus X) h = refl
+falling (Face.Minus Y) h = refl
+falling (Face.Minus Z) h = refl
 
-enum-told : tie.Need-enum-told
-enum-told c = search needs
+rising : (f : Face) → falls f ≡ false → pos (face-axis f) ≡ face-number f
+rising Face.None h = refl
+rising (Face.Plus a) h = refl
+rising (Face.Minus a) h = absurd (let z : _≡_ {A = ℕ} 0 1 = cc in omega arith)
 
-enum-known-f : tie.Need-enum-known-f
-enum-known-f c = search needs
+-- the axis's number is small, and so is its negative
+small : (f : Face) {n : ℕ} → n ≡ face-axis f → n < 2 ^ 30
+small f e = omega (arith, few f, e)
 
-axis-code-requires : tie.Need-axis-code-requires
-axis-code-requires c κs = search needs
+fits : (f : Face) {n : ℕ} → n ≡ face-axis f → SFits w32 (pos 0 -ℤ pos n)
+fits f {n} e = small-diff (pos 0) (pos n) (nat-small 0 (omega arith)) (nat-small n (small f e))
 
-cast-result : tie.Need-cast-result
-cast-result c = nat-fits _ (omega (arith, few (c .before .before .f .given .0 .0) (c .axis-code .ensures)))
+as-is : (f : Face) {n : ℕ} → n ≡ face-axis f → toZ w32 n ≡ pos n
+as-is f {n} e = nat-held n (omega (arith, small f e))
 
-enum-known-f-2 : tie.Need-enum-known-f-2
-enum-known-f-2 c = search needs
+face-axis-requires : tie.Need-face-axis-requires
+face-axis-requires c κs = search needs
 
-axis-code-requires-2 : tie.Need-axis-code-requires-2
-axis-code-requires-2 c κs = search needs
+cast-n : tie.Need-cast-n
+cast-n c = nat-fits _ (omega (arith, small (c .before .args .f) (c .face-axis .ensures)))
 
-cast-result-2 : tie.Need-cast-result-2
-cast-result-2 c = nat-fits _ (omega (arith, few (c .before .before .f2 .given .0 .0) (c .axis-code2 .ensures)))
-
--- the number of the second case is read back as it is, and its negative fits
-below : (c : tie.After-axis-code2) → c .axis-code2 .result < 2 ^ 31
-below c = omega (arith, few (c .before .before .f2 .given .0 .0) (c .axis-code2 .ensures))
-
-fits : (c : tie.After-axis-code2) → SFits w32 (pos 0 -ℤ pos (c .axis-code2 .result))
-fits c =
-    small-diff (pos 0) (pos (c .axis-code2 .result)) (nat-small 0 (omega arith))
-    (nat-small _ (omega (arith, few (c .before .before .f2 .given .0 .0) (c .axis-code2 .ensures))))
+falls-requires : tie.Need-falls-requires
+falls-requires c κs = search needs
 
 sub-result : tie.Need-sub-result
-sub-result c = rw (nat-held _ (below c)) (fits c)
+sub-result c = let e = c .before .before .face-axis .ensures in let f = c .before .before .before .args .f in rw (as-is f e) (fits f e)
 
 returns : tie.Need-returns
-returns c = rw (c .enum-told .given .1)
+returns c =
+    let e = c .before .before .face-axis .ensures in
+    let f = c .before .before .before .args .f in
+    ap (λ v. held (pos 0 -ℤ v)) (as-is f e) ∙ held-is _ (fits f e) ∙ ap (λ n. pos 0 -ℤ pos n) e
+    ∙ falling f (sym (c .before .falls .ensures) ∙ c .if1 .taken)
 
 returns-2 : tie.Need-returns-2
 returns-2 c =
-    rw (c .before .before .f .given .1)
-    (nat-held _ (omega (arith, few (c .before .before .f .given .0 .0) (c .axis-code .ensures))) ∙ ap pos (c .axis-code .ensures))
-
-returns-3 : tie.Need-returns-3
-returns-3 c =
-    rw (c .before .before .f2 .given .1)
-    (ap (λ v. held (pos 0 -ℤ v)) (nat-held _ (below c))
-    ∙ held-is _ (fits c) ∙ ap (λ n. pos 0 -ℤ pos n) (c .axis-code2 .ensures) ∙ less-from-0 (c .before .before .f2 .given .0 .0))
+    let e = c .before .before .face-axis .ensures in
+    let f = c .before .before .before .args .f in
+    as-is f e ∙ ap pos e ∙ rising f (sym (c .before .falls .ensures) ∙ c .if1 .left)
 
 pub face-code-spec : {M : Type 1} → statement M
-face-code-spec =
-    tie.close
-    (tie.spec
-    enum-told
-    enum-known-f
-    axis-code-requires
-    cast-result
-    enum-known-f-2
-    axis-code-requires-2
-    cast-result-2
-    sub-result
-    returns
-    returns-2
-    returns-3)
+face-code-spec = tie.close (tie.spec face-axis-requires cast-n falls-requires sub-result returns returns-2)
