@@ -8,6 +8,7 @@ use Rattle.cells.specs.declared.Face.the-variants as Face
 use Rattle.lines.specs.Steps.{Axis, X, Y, Z, Steps, total}
 use Rattle.lines.specs.Lines.{face-along}
 use Rattle.walks.specs.declared.Place.{Place}
+use Rattle.places.specs.declared.Last.{Last}
 
 -- SCOPE L3: 2i-1, the upper number of the crossing last made, over face i; 0 where there is none
 abbrev pub numerator : ℕ → ℕ
@@ -22,9 +23,20 @@ abbrev pub x-is-last : Steps → Steps → Bool
 x-is-last D t =
     behind (numerator (t X)) (D X) (numerator (t Y)) (D Y) && behind (numerator (t X)) (D X) (numerator (t Z)) (D Z)
 
+-- and where it is not, it is that of z, or of y
+abbrev pub z-is-last : Steps → Steps → Bool
+z-is-last D t = behind (numerator (t Z)) (D Z) (numerator (t Y)) (D Y)
+
+abbrev pub last-made : Steps → Steps → Last
+last-made D t = record { x = x-is-last D t; z = z-is-last D t }
+
+-- of what x, y and z have, that of the axis crossed last
+abbrev pub of-last : {A : Type 0} → Last → A → A → A → A
+of-last w a b c = cond (w .x) a (cond (w .z) c b)
+
 -- the axis of the last crossing made: of equal fractions x, then z, then y
 abbrev pub last-axis : Steps → Steps → Axis
-last-axis D t = cond (x-is-last D t) X (cond (behind (numerator (t Z)) (D Z) (numerator (t Y)) (D Y)) Z Y)
+last-axis D t = of-last (last-made D t) X Y Z
 
 -- SCOPE W5, W8: the fraction and the face of the crossing last made along an axis
 abbrev pub place-along : Cell → Cell → Steps → Steps → Axis → Place

@@ -1,11 +1,14 @@
-// The place of a hit with its entry face, worked out once, where a walk stopped.
+// The place of a hit with its entry face, worked out once, where a walk stopped. Which axis was crossed last cannot be foreseen: what depends on it is
+// chosen number by number, so that no branch is taken on it.
 ghost use mathlib.Core.Path.{_≡_};
-ghost use mathlib.Core.Bool.{_&&_};
+ghost use mathlib.Core.Bool.{cond, _&&_};
 ghost use Prim.Native.Nat.{_≤_};
-ghost use Rattle.lines.specs.Towards.{face-towards};
+ghost use lib.Signed.{leZ};
+ghost use Rattle.cells.specs.declared.Face.the-variants as Face;
+ghost use Rattle.lines.specs.Steps.{X, Y, Z};
 ghost use Rattle.lines.specs.Lines.{face-along};
 ghost use Rattle.tripod.specs.Tripod.{steps, Short};
-ghost use Rattle.places.specs.Entered.{numerator, behind, last-axis, entered};
+ghost use Rattle.places.specs.Entered.{numerator, behind, last-made, of-last, entered};
 use cells::Axis;
 use cells::Cell;
 use cells::Face;
@@ -28,52 +31,90 @@ fn is_behind(i: u32, a: u32, j: u32, b: u32) -> bool
     if i == 0 { false } else { j * a <= i * b }
 }
 
-// Of the crossings last made on each axis, the axis of the last.
-fn last_made(d: Diffs, t: Diffs) -> Axis
-    requires { ⌜ Short d × Short t ⌝ }
-    ensures { λ r. ⌜ r ≡ last-axis (steps d) (steps t) ⌝ }
-{
-    let i = numerator_of(t.a);
-    let j = numerator_of(t.b);
-    let k = numerator_of(t.c);
-    let y_before = is_behind(i, d.a, j, d.b);
-    let z_before = is_behind(i, d.a, k, d.c);
-    if both(y_before, z_before) {
-        return Axis::X;
-    }
-    if is_behind(k, d.c, j, d.b) {
-        Axis::Z
-    } else {
-        Axis::Y
-    }
-}
-
 fn both(s: bool, t: bool) -> bool
     ensures { λ r. ⌜ r ≡ (s && t) ⌝ }
 {
     if s { t } else { false }
 }
 
-// The face that is crossed from p towards q, on axis n.
-fn face_towards(p: i32, q: i32, n: Axis) -> Face
-    ensures { λ r. ⌜ r ≡ face-towards p q n ⌝ }
+// Which axis was crossed last: x; or else z where it comes after y; or else y.
+pub struct Last {
+    pub x: bool,
+    pub z: bool,
+}
+
+// Of the crossings last made on each axis, the last.
+fn last_made(d: Diffs, t: Diffs) -> Last
+    requires { ⌜ Short d × Short t ⌝ }
+    ensures { λ r. ⌜ r ≡ last-made (steps d) (steps t) ⌝ }
 {
-    if p <= q {
+    let i = numerator_of(t.a);
+    let j = numerator_of(t.b);
+    let k = numerator_of(t.c);
+    let y_before = is_behind(i, d.a, j, d.b);
+    let z_before = is_behind(i, d.a, k, d.c);
+    let x = both(y_before, z_before);
+    let z = is_behind(k, d.c, j, d.b);
+    Last { x: x, z: z }
+}
+
+// Of a number for each axis, that of the axis crossed last.
+fn of_last(w: Last, a: u32, b: u32, c: u32) -> u32
+    ensures { λ r. ⌜ r ≡ of-last w a b c ⌝ }
+{
+    let x = w.x;
+    let z = w.z;
+    if x { a } else { if z { c } else { b } }
+}
+
+// The same of an answer for each axis.
+fn so_of_last(w: Last, a: bool, b: bool, c: bool) -> bool
+    ensures { λ r. ⌜ r ≡ of-last w a b c ⌝ }
+{
+    let x = w.x;
+    let z = w.z;
+    if x { a } else { if z { c } else { b } }
+}
+
+// The axis itself.
+fn last_axis(w: Last) -> Axis
+    ensures { λ r. ⌜ r ≡ of-last w X Y Z ⌝ }
+{
+    let x = w.x;
+    let z = w.z;
+    if x {
+        Axis::X
+    } else {
+        if z { Axis::Z } else { Axis::Y }
+    }
+}
+
+// Whether a coordinate moves to larger numbers.
+fn rises(p: i32, q: i32) -> bool
+    ensures { λ r. ⌜ r ≡ leZ p q ⌝ }
+{
+    p <= q
+}
+
+// The face of axis n, by the sign of the move.
+fn face_of(rising: bool, n: Axis) -> Face
+    ensures { λ r. ⌜ r ≡ cond rising (Face.Plus n) (Face.Minus n) ⌝ }
+{
+    if rising {
         Face::Plus(n)
     } else {
         Face::Minus(n)
     }
 }
 
-// The face that the line from p to q crosses along n.
-fn face_along(p: Cell, q: Cell, n: Axis) -> Face
-    ensures { λ r. ⌜ r ≡ face-along p q n ⌝ }
+// The face that the line from p to q crosses along the axis crossed last.
+fn last_face(p: Cell, q: Cell, w: Last) -> Face
+    ensures { λ r. ⌜ r ≡ face-along p q (of-last w X Y Z) ⌝ }
 {
-    match n {
-        Axis::X => face_towards(p.x, q.x, n),
-        Axis::Y => face_towards(p.y, q.y, n),
-        Axis::Z => face_towards(p.z, q.z, n),
-    }
+    let along_x = rises(p.x, q.x);
+    let along_y = rises(p.y, q.y);
+    let along_z = rises(p.z, q.z);
+    face_of(so_of_last(w, along_x, along_y, along_z), last_axis(w))
 }
 
 // The place of a hit on the line from p to q, after t steps of d.
@@ -88,10 +129,10 @@ pub fn place_after(p: Cell, q: Cell, d: Diffs, t: Diffs) -> Place
             face: Face::None,
         };
     }
-    let n = last_made(d, t);
-    let num = numerator_of(t.along(n));
-    let den = 2 * d.along(n);
-    let face = face_along(p, q, n);
+    let w = last_made(d, t);
+    let num = numerator_of(of_last(w, t.a, t.b, t.c));
+    let den = 2 * of_last(w, d.a, d.b, d.c);
+    let face = last_face(p, q, w);
     Place {
         num: num,
         den: den,
