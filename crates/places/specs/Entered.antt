@@ -27,6 +27,7 @@ x-is-last D t =
 abbrev pub z-is-last : Steps → Steps → Bool
 z-is-last D t = behind (numerator (t Z)) (D Z) (numerator (t Y)) (D Y)
 
+-- which axis was crossed last, by these two answers
 abbrev pub last-made : Steps → Steps → Last
 last-made D t = record { x = x-is-last D t; z = z-is-last D t }
 

@@ -14,7 +14,7 @@ use Rattle.cells.specs.Touching.{on}
 use Rattle.lines.specs.Steps.{Axis, Steps, total}
 use Rattle.lines.specs.Crossings.{Course, next, place}
 use Rattle.lines.specs.Preference.{rule-1}
-use Rattle.lines.specs.Lines.{differences, face-along, centres, six-cell}
+use Rattle.lines.specs.Lines.{differences, centres, six-cell}
 use Rattle.lines.proofs.Steps.{same-self}
 use Rattle.lines.proofs.Merge.{OnLine, Next, Rule, fewer-is-below}
 use Rattle.lines.proofs.Fractions.{Before, laws, place-on, place-suc, place-total, next-rule}
@@ -88,6 +88,6 @@ module _ (p q : Cell) where
   pub face-leads-back : (s : ℕ) → back-across (entered-at p q (suc s) .face) (six-cell rule-1 p q (suc s)) ≡ six-cell rule-1 p q s
   face-leads-back = six-back rule-1 p q
 
-  -- the place's two numbers, by the cell's steps from P
+  -- the place's upper number, by the cell's steps from P
   pub num-made : (s : ℕ) → entered-at p q (suc s) .num ≡ 2 * differences p (six-cell rule-1 p q (suc s)) (enters s) - 1
   num-made s = ap (λ t. 2 * t (enters s) - 1) (sym (ap (differences p) (six-is rule-1 p q (suc s)) ∙ steps-made p q (place C (suc s))))

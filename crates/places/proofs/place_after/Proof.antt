@@ -1,14 +1,13 @@
 -- `places::place_after` meets its contract: with no step made the cell is P, else what is chosen is that of the axis crossed last. Assumes nothing.
 use mathlib.Core.Path.{_≡_, sym, ap, _∙_}
-use Prim.Native.Nat.{ℕ, _*_, _≤_}
+use Prim.Native.Nat.{ℕ, _*_}
 use native.Mathlib.Omega.{arith}
 use borrow.Author.Needs.{needs}
 use borrow.Author.Tests.{eq-eqb, ne-eqb}
-use Rattle.cells.specs.declared.Axis.{Axis}
 use Rattle.lines.specs.Lines.{face-along}
 use Rattle.lines.specs.Steps.{X, Y, Z}
 use Rattle.tripod.specs.declared.Diffs.{Diffs}
-use Rattle.tripod.specs.Tripod.{steps, Short}
+use Rattle.tripod.specs.Tripod.{steps}
 use Rattle.tripod.proofs.Laws.{short-at}
 use Rattle.places.specs.declared.Last.{Last}
 use Rattle.places.specs.Entered.{numerator, last-made, of-last, entered}
@@ -36,7 +35,8 @@ of-last-requires c κs = search needs
 numerator-of-requires : tie.Need-numerator-of-requires
 numerator-of-requires c κs =
     let s = c .before .before .before .before in
-    omega (arith, chosen (s .args .t) (c .before .last-made .result) (c .of-last .ensures), short-at (s .args .t) (s .pre .1) (of-last (c .before .last-made .result) X Y Z))
+    let w = c .before .last-made .result in
+    omega (arith, chosen (s .args .t) w (c .of-last .ensures), short-at (s .args .t) (s .pre .1) (of-last w X Y Z))
 
 of-last-requires-2 : tie.Need-of-last-requires-2
 of-last-requires-2 c κs = search needs
@@ -45,7 +45,8 @@ mul-den : tie.Need-mul-den
 mul-den c =
     let made = c .before .before .before in
     let s = made .before .before .before in
-    record { fits = omega (arith, chosen (s .args .d) (made .last-made .result) (c .of-last2 .ensures), short-at (s .args .d) (s .pre .0) (of-last (made .last-made .result) X Y Z)) }
+    let w = made .last-made .result in
+    record { fits = omega (arith, chosen (s .args .d) w (c .of-last2 .ensures), short-at (s .args .d) (s .pre .0) (of-last w X Y Z)) }
 
 last-face-requires : tie.Need-last-face-requires
 last-face-requires c κs = search needs
