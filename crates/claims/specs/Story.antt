@@ -127,7 +127,7 @@ pub record AdaptiveStep (n : Counts) (l : List ℕ) (p q : Cell) : Type 0 where
       ((byte-of n l (six-cell rule-1 p q s) ≡ 0 → ⊥) ⊎ ((m : ℕ) → m ≤ longest (differences p q) → cell-26 p q m ≡ six-cell rule-1 p q s → ⊥)) →
       next-cell Adaptive n l p q (six-cell rule-1 p q s) ≡ six-cell rule-1 p q (suc s)
 
--- the entry face of a hit lies across axis a
+-- the entry face of a hit lies across axis a, and is that of the crossing at the hit's place
 pub record CameInBy (p q : Cell) (h : Hit) (a : Axis) : Type 0 where
   -- it is the face of that axis, with one of the two signs
   pub face : (h .place .face ≡ Face.Plus a) ⊎ (h .place .face ≡ Face.Minus a)
@@ -140,7 +140,7 @@ pub record CameInBy (p q : Cell) (h : Hit) (a : Axis) : Type 0 where
   pub num : h .place .num ≡ 2 * differences p (h .cell) a - 1
   pub den : h .place .den ≡ 2 * differences p q a
 
--- 12. The entry face of a hit, by either walk: none exactly where the cell is P, else as said.
+-- 12. The entry face of a hit, by either walk: none exactly where the cell is P; else it lies across an axis, as `CameInBy` says.
 pub record HitFace (n : Counts) (l : List ℕ) (p q : Cell) : Type 0 where
   pub none : (w : Walker) (h : Hit) → Finds w n l p q (FirstHit.Hit h) → (h .place .face ≡ Face.None) ↔ (h .cell ≡ p)
   pub crossed : (w : Walker) (h : Hit) → Finds w n l p q (FirstHit.Hit h) → (h .cell ≡ p → ⊥) → (a : Axis) × CameInBy p q h a
