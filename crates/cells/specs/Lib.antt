@@ -3,6 +3,7 @@ pub mod Checks
 pub mod Tests
 pub mod Touching
 pub mod Faces
+pub mod Manners
 pub mod Small
 pub mod Tabulate
 pub mod Parts

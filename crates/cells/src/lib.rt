@@ -1,4 +1,6 @@
-// The shared words: axes, ends, cells, counts, entry faces, the four parts of a placement, and the refusals.
+// The shared words: axes, ends, cells, counts, entry faces, how a walk is made, the four parts of a placement, and the refusals.
+ghost use mathlib.Core.Path.{_≡_};
+ghost use Rattle.cells.specs.Manners.{is-tested, usual};
 ghost use Rattle.cells.specs.Refusals.{NumberOf};
 
 // The three axes.
@@ -35,6 +37,41 @@ pub struct Counts {
     pub nx: u32,
     pub ny: u32,
     pub nz: u32,
+}
+
+// Whether a walk tests the cell that it starts from.
+pub enum Start {
+    // solid there is no hit, and counts as near
+    Untested,
+    // like every other cell
+    Tested,
+}
+
+// How a walk is made, as its caller names it.
+pub struct Manner {
+    pub start: Start,
+}
+
+impl Manner {
+    // Where a caller asks for nothing else: a camera is not blocked by its own housing.
+    pub fn usual() -> Manner
+        ensures { λ r. ⌜ r ≡ usual ⌝ }
+    {
+        Manner {
+            start: Start::Untested,
+        }
+    }
+
+    // Whether the start is tested.
+    pub fn tests_start(self) -> bool
+        ensures { λ r. ⌜ r ≡ is-tested (self .start) ⌝ }
+    {
+        let start = self.start;
+        match start {
+            Start::Untested => false,
+            Start::Tested => true,
+        }
+    }
 }
 
 // The four parts of a placement: its origin's three values and the cell edge.

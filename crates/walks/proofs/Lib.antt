@@ -1,10 +1,12 @@
 pub mod Find
 pub mod Runs
 pub mod Numbers
+pub mod Testing
 pub mod Inside
 pub mod Places
 pub mod Safe
 pub mod Story
 pub mod Progress
 pub mod Long
+pub mod Modes
 pub mod Told

@@ -13,6 +13,7 @@ use lib.ListN.{length}
 use borrow.Author.Tests.{eq-eqb, ne-eqb}
 use Rattle.cells.specs.declared.Cell.{Cell}
 use Rattle.cells.specs.declared.Counts.{Counts}
+use Rattle.cells.specs.declared.Manner.{Manner}
 use Rattle.cells.specs.Touching.{Touches}
 use Rattle.lines.specs.Steps.{X, Y, Z}
 use Rattle.lines.specs.Preference.{rule-1}
@@ -25,7 +26,7 @@ use Rattle.walks.specs.declared.Walker.the-variants.{Plain, Adaptive}
 use Rattle.walks.specs.Walks.{is-cell, number-of, six-count, count-26, after, long-or-plain, next-plain, next-adaptive, hit-at, walk, next-cell, walk-of}
 use Rattle.walks.specs.Answers.{last-of}
 use Rattle.walks.proofs.Find.{found, found-is, same-is-cell, other-is-not}
-use Rattle.walks.specs.Numbers.{stop, ends, visits, Rises, last-number, go-by, go, solid-at, step, end-of, reads-of}
+use Rattle.walks.specs.Numbers.{stop, ends, visits, Rises, last-number, go-by, go, hits-at, step, end-of, reads-of}
 use Rattle.walks.proofs.Runs.{not-stopped, by-one}
 
 module _ (p q : Cell) where
@@ -35,19 +36,26 @@ module _ (p q : Cell) where
   abbrev N : ℕ
   N = last-number p q
 
-  -- Q is the last cell alone
-  is-q : (s : ℕ) → is-cell (f s) q ≡ eqb s N
-  is-q s =
-      elim (decLt s N) [
+  -- a cell of the line is the one of its number alone
+  is-numbered : (w : Cell) (m : ℕ) → f m ≡ w → (s : ℕ) → is-cell (f s) w ≡ eqb s m
+  is-numbered w m is s =
+      elim (decLt s m) [
         | yes lt ↦ differs (λ e. omega arith)
-        | no ge ↦ elim (decLt N s) [ yes gt ↦ differs (λ e. omega arith) | no le ↦ same (omega arith) ]
+        | no ge ↦ elim (decLt m s) [ yes gt ↦ differs (λ e. omega arith) | no le ↦ same (omega arith) ]
       ]
     where
-      differs : (s ≡ N → ⊥) → is-cell (f s) q ≡ eqb s N
-      differs ne = other-is-not (f s) q (λ e. ne (six-different rule-1 p q s N (e ∙ sym (six-end rule-1 p q)))) ∙ sym (ne-eqb s N ne)
+      differs : (s ≡ m → ⊥) → is-cell (f s) w ≡ eqb s m
+      differs ne = other-is-not (f s) w (λ e. ne (six-different rule-1 p q s m (e ∙ sym is))) ∙ sym (ne-eqb s m ne)
 
-      same : s ≡ N → is-cell (f s) q ≡ eqb s N
-      same e = same-is-cell (f s) q (ap f e ∙ six-end rule-1 p q) ∙ sym (eq-eqb s N e)
+      same : s ≡ m → is-cell (f s) w ≡ eqb s m
+      same e = same-is-cell (f s) w (ap f e ∙ is) ∙ sym (eq-eqb s m e)
+
+  -- P is the first and Q is the last
+  pub is-p : (s : ℕ) → is-cell (f s) p ≡ eqb s 0
+  is-p = is-numbered p 0 (six-start rule-1 p q)
+
+  is-q : (s : ℕ) → is-cell (f s) q ≡ eqb s N
+  is-q = is-numbered q N (six-end rule-1 p q)
 
   pub six-found : (s : ℕ) → s ≤ N → number-of f (six-count p q) (f s) ≡ some s
   six-found s le = found f (six-count p q) s (f s) (λ i j a b. six-different rule-1 p q i j) (omega arith) refl
@@ -124,54 +132,54 @@ module _ (n : Counts) (l : List ℕ) (p q : Cell) where
 
 -- ---- a walk by cells is a walk by numbers
 
-module _ (n : Counts) (l : List ℕ) (p q : Cell) (next : Cell → Cell) (g : ℕ → ℕ) (rises : Rises (last-number p q) g)
+module _ (how : Manner) (n : Counts) (l : List ℕ) (p q : Cell) (next : Cell → Cell) (g : ℕ → ℕ) (rises : Rises (last-number p q) g)
     (steps : (s : ℕ) → s < last-number p q → next (six-cell rule-1 p q s) ≡ six-cell rule-1 p q (g s)) where
   abbrev F : ℕ → Cell
   F = six-cell rule-1 p q
 
   abbrev stops : ℕ → Bool
-  stops s = stop (solid-at n l p q) (last-number p q) s
+  stops s = stop (hits-at how n l p q) (last-number p q) s
 
   -- the number of its cells, and its last cell
   pub record Followed (s fuel : ℕ) : Type 0 where
-    pub long : length (walk (hit-at n l) next q fuel (F s)) ≡ visits (solid-at n l p q) (last-number p q) g fuel s
-    pub last : (c : Cell) → last-of c (walk (hit-at n l) next q fuel (F s)) ≡ F (ends (solid-at n l p q) (last-number p q) g fuel s)
+    pub long : length (walk (hit-at how n l p) next q fuel (F s)) ≡ visits (hits-at how n l p q) (last-number p q) g fuel s
+    pub last : (c : Cell) → last-of c (walk (hit-at how n l p) next q fuel (F s)) ≡ F (ends (hits-at how n l p q) (last-number p q) g fuel s)
 
   pub followed : (fuel s : ℕ) → s ≤ last-number p q → last-number p q < s + fuel → Followed s fuel
   unfolding walk visits ends
   followed zero s le enough = absurd (omega arith)
   followed (suc fuel) s le enough =
-      let e : (hit-at n l (F s) || is-cell (F s) q) ≡ stops s = ap (λ b. solid-at n l p q s || b) (is-q p q s) in
+      let e : (hit-at how n l p (F s) || is-cell (F s) q) ≡ stops s = ap (λ b. hits-at how n l p q s || b) (is-q p q s) in
       let r = turn (stops s) refl (λ lt. followed fuel (g s) (rises .most s lt) (omega (arith, rises .up s lt))) in
       record {
-        long = subst (λ t. length (F s ∷ cond t [] (walk (hit-at n l) next q fuel (next (F s)))) ≡ suc
-            (cond (stops s) 0 (visits (solid-at n l p q) (last-number p q) g fuel (g s)))) (sym e) (r .0);
-        last = λ c. subst (λ t. last-of (F s) (cond t [] (walk (hit-at n l) next q fuel (next (F s)))) ≡ F
-            (cond (stops s) s (ends (solid-at n l p q) (last-number p q) g fuel (g s)))) (sym e) (r .1);
+        long = subst (λ t. length (F s ∷ cond t [] (walk (hit-at how n l p) next q fuel (next (F s)))) ≡ suc
+            (cond (stops s) 0 (visits (hits-at how n l p q) (last-number p q) g fuel (g s)))) (sym e) (r .0);
+        last = λ c. subst (λ t. last-of (F s) (cond t [] (walk (hit-at how n l p) next q fuel (next (F s)))) ≡ F
+            (cond (stops s) s (ends (hits-at how n l p q) (last-number p q) g fuel (g s)))) (sym e) (r .1);
       }
     where
       turn :
           (u : Bool) → stops s ≡ u → (s < last-number p q → Followed (g s) fuel) →
-          (length (F s ∷ cond u [] (walk (hit-at n l) next q fuel (next (F s)))) ≡ suc (cond u 0 (visits (solid-at n l p q) (last-number p q) g fuel (g s)))) ×
-          (last-of (F s) (cond u [] (walk (hit-at n l) next q fuel (next (F s)))) ≡ F (cond u s (ends (solid-at n l p q) (last-number p q) g fuel (g s))))
+          (length (F s ∷ cond u [] (walk (hit-at how n l p) next q fuel (next (F s)))) ≡ suc (cond u 0 (visits (hits-at how n l p q) (last-number p q) g fuel (g s)))) ×
+          (last-of (F s) (cond u [] (walk (hit-at how n l p) next q fuel (next (F s)))) ≡ F (cond u s (ends (hits-at how n l p q) (last-number p q) g fuel (g s))))
       turn true h ih = (refl, refl)
       turn false h ih =
-          let ne : s ≢ last-number p q = not-stopped (solid-at n l p q s) s (last-number p q) h .1 in
+          let ne : s ≢ last-number p q = not-stopped (hits-at how n l p q s) s (last-number p q) h .1 in
           let lt : s < last-number p q = omega arith in
           let r = ih lt in (
-            ap suc (ap (λ w. length (walk (hit-at n l) next q fuel w)) (steps s lt) ∙ r .long),
-            ap (λ w. last-of (F s) (walk (hit-at n l) next q fuel w)) (steps s lt) ∙ r .last (F s),
+            ap suc (ap (λ w. length (walk (hit-at how n l p) next q fuel w)) (steps s lt) ∙ r .long),
+            ap (λ w. last-of (F s) (walk (hit-at how n l p) next q fuel w)) (steps s lt) ∙ r .last (F s),
           )
 
   -- the whole walk, from P on
   whole : Followed 0 (six-count p q)
   whole = followed (six-count p q) 0 (omega arith) (omega arith)
 
-  pub whole-long : length (walk (hit-at n l) next q (six-count p q) p) ≡ visits (solid-at n l p q) (last-number p q) g (six-count p q) 0
-  whole-long = ap (λ w. length (walk (hit-at n l) next q (six-count p q) w)) (sym (six-start rule-1 p q)) ∙ whole .long
+  pub whole-long : length (walk (hit-at how n l p) next q (six-count p q) p) ≡ visits (hits-at how n l p q) (last-number p q) g (six-count p q) 0
+  whole-long = ap (λ w. length (walk (hit-at how n l p) next q (six-count p q) w)) (sym (six-start rule-1 p q)) ∙ whole .long
 
-  pub whole-last : (c : Cell) → last-of c (walk (hit-at n l) next q (six-count p q) p) ≡ F (ends (solid-at n l p q) (last-number p q) g (six-count p q) 0)
-  whole-last c = ap (λ w. last-of c (walk (hit-at n l) next q (six-count p q) w)) (sym (six-start rule-1 p q)) ∙ whole .last c
+  pub whole-last : (c : Cell) → last-of c (walk (hit-at how n l p) next q (six-count p q) p) ≡ F (ends (hits-at how n l p q) (last-number p q) g (six-count p q) 0)
+  whole-last c = ap (λ w. last-of c (walk (hit-at how n l p) next q (six-count p q) w)) (sym (six-start rule-1 p q)) ∙ whole .last c
 
 -- each walk goes by its own step from number to number: the number where it ends, and its reads
 module _ (n : Counts) (l : List ℕ) (p q : Cell) where
@@ -183,10 +191,11 @@ module _ (n : Counts) (l : List ℕ) (p q : Cell) where
   step-next Plain = plain-next p q
   step-next Adaptive = adaptive-next n l p q
 
-  pub walk-length : (k : Walker) → length (walk-of k n l p q) ≡ reads-of n l p q k
+module _ (how : Manner) (n : Counts) (l : List ℕ) (p q : Cell) where
+  pub walk-length : (k : Walker) → length (walk-of k how n l p q) ≡ reads-of how n l p q k
   unfolding walk-of
-  walk-length k = whole-long n l p q (next-cell k n l p q) (step n l p q k) (step-rises k) (step-next k)
+  walk-length k = whole-long how n l p q (next-cell k n l p q) (step n l p q k) (step-rises n l p q k) (step-next n l p q k)
 
-  pub walk-last : (k : Walker) (c : Cell) → last-of c (walk-of k n l p q) ≡ six-cell rule-1 p q (end-of n l p q k)
+  pub walk-last : (k : Walker) (c : Cell) → last-of c (walk-of k how n l p q) ≡ six-cell rule-1 p q (end-of how n l p q k)
   unfolding walk-of
-  walk-last k = whole-last n l p q (next-cell k n l p q) (step n l p q k) (step-rises k) (step-next k)
+  walk-last k = whole-last how n l p q (next-cell k n l p q) (step n l p q k) (step-rises n l p q k) (step-next n l p q k)

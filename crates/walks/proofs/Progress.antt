@@ -8,40 +8,40 @@ use native.Mathlib.Omega.{arith}
 use Rattle.walks.specs.Numbers.{stop, ends, visits, Rises, OnWay}
 use Rattle.walks.proofs.Runs.{not-stopped}
 
-module _ (solid : ℕ → Bool) (N : ℕ) (go : ℕ → ℕ) where
+module _ (hits : ℕ → Bool) (N : ℕ) (go : ℕ → ℕ) where
   -- one turn of the definitions
-  ends-by : (fuel s : ℕ) {b : Bool} → stop solid N s ≡ b → ends solid N go (suc fuel) s ≡ cond b s (ends solid N go fuel (go s))
+  ends-by : (fuel s : ℕ) {b : Bool} → stop hits N s ≡ b → ends hits N go (suc fuel) s ≡ cond b s (ends hits N go fuel (go s))
   unfolding ends
-  ends-by fuel s h = ap (λ b. cond b s (ends solid N go fuel (go s))) h
+  ends-by fuel s h = ap (λ b. cond b s (ends hits N go fuel (go s))) h
 
-  visits-by : (fuel s : ℕ) {b : Bool} → stop solid N s ≡ b → visits solid N go (suc fuel) s ≡ suc (cond b 0 (visits solid N go fuel (go s)))
+  visits-by : (fuel s : ℕ) {b : Bool} → stop hits N s ≡ b → visits hits N go (suc fuel) s ≡ suc (cond b 0 (visits hits N go fuel (go s)))
   unfolding visits
-  visits-by fuel s h = ap (λ b. suc (cond b 0 (visits solid N go fuel (go s)))) h
+  visits-by fuel s h = ap (λ b. suc (cond b 0 (visits hits N go fuel (go s)))) h
 
-  pub on-start : OnWay solid N go 0 0
+  pub on-start : OnWay hits N go 0 0
   on-start = record { fuel = N + 1; most = omega arith; few = omega arith; enough = omega arith; end = refl; reads = omega arith }
 
   -- where it stops, it ends
-  pub on-stop : (s r : ℕ) → OnWay solid N go s r → stop solid N s ≡ true → (s ≡ ends solid N go (N + 1) 0) × (r + 1 ≡ visits solid N go (N + 1) 0)
+  pub on-stop : (s r : ℕ) → OnWay hits N go s r → stop hits N s ≡ true → (s ≡ ends hits N go (N + 1) 0) × (r + 1 ≡ visits hits N go (N + 1) 0)
   on-stop s r w h = by (w .fuel) (w .enough) (w .end) (w .reads)
     where
-      by : (fuel : ℕ) → N < s + fuel → ends solid N go fuel s ≡ ends solid N go (N + 1) 0 →
-          r + visits solid N go fuel s ≡ visits solid N go (N + 1) 0 → (s ≡ ends solid N go (N + 1) 0) × (r + 1 ≡ visits solid N go (N + 1) 0)
+      by : (fuel : ℕ) → N < s + fuel → ends hits N go fuel s ≡ ends hits N go (N + 1) 0 →
+          r + visits hits N go fuel s ≡ visits hits N go (N + 1) 0 → (s ≡ ends hits N go (N + 1) 0) × (r + 1 ≡ visits hits N go (N + 1) 0)
       by zero enough e v = absurd (omega (arith, w .most))
       by (suc fuel) enough e v = (sym (ends-by fuel s h) ∙ e, ap (λ k. r + k) (sym (visits-by fuel s h)) ∙ v)
 
   -- else it goes on
-  pub on-turn : Rises N go → (s r : ℕ) → OnWay solid N go s r → stop solid N s ≡ false → OnWay solid N go (go s) (r + 1)
+  pub on-turn : Rises N go → (s r : ℕ) → OnWay hits N go s r → stop hits N s ≡ false → OnWay hits N go (go s) (r + 1)
   on-turn rises s r w h = by (w .fuel) (w .enough) (w .end) (w .reads)
     where
       ne : s ≢ N
-      ne = not-stopped (solid s) s N h .1
+      ne = not-stopped (hits s) s N h .1
 
       lt : s < N
       lt = omega (arith, w .most, ne)
 
-      by : (fuel : ℕ) → N < s + fuel → ends solid N go fuel s ≡ ends solid N go (N + 1) 0 →
-          r + visits solid N go fuel s ≡ visits solid N go (N + 1) 0 → OnWay solid N go (go s) (r + 1)
+      by : (fuel : ℕ) → N < s + fuel → ends hits N go fuel s ≡ ends hits N go (N + 1) 0 →
+          r + visits hits N go fuel s ≡ visits hits N go (N + 1) 0 → OnWay hits N go (go s) (r + 1)
       by zero enough e v = absurd (omega (arith, w .most))
       by (suc fuel) enough e v =
           record {

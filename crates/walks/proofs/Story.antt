@@ -9,6 +9,7 @@ use native.Mathlib.Decide.{decLt}
 use lib.ListN.{length}
 use Rattle.cells.specs.declared.Cell.{Cell}
 use Rattle.cells.specs.declared.Counts.{Counts}
+use Rattle.cells.specs.declared.Manner.{Manner}
 use Rattle.cells.specs.Touching.{Touches}
 use Rattle.lines.specs.Steps.{Axis, same}
 use Rattle.lines.specs.Crossings.{next, place}
@@ -27,107 +28,109 @@ use Rattle.walks.specs.Walks.{hit-at, six-count, walk-of}
 use Rattle.walks.specs.Answers.{place-by, place-of, last-of, answer-of, first-hit}
 use Rattle.grids.specs.Inside.{walk-check, InGrid}
 use Rattle.walks.specs.Safe.{NoClearTouches}
-use Rattle.walks.specs.Numbers.{stop, last-number, go, solid-at, step, end-of, reads-of, answer-at}
+use Rattle.walks.specs.Numbers.{stop, last-number, go, hits-at, step, end-of, reads-of, answer-at}
 use Rattle.walks.proofs.Runs.{stopped, ended, Ended, by-one, visits-all, at-least, plain-first, never-earlier, never-invented, same-end, no-more-visits}
 use Rattle.walks.proofs.Numbers.{six-found, go-rises, skipped, way, Way, face, long, step-rises, walk-length, walk-last}
+use Rattle.walks.proofs.Testing.{hit-solid}
 use Rattle.walks.proofs.Inside.{six-inside}
 
-module _ (n : Counts) (l : List ℕ) (p q : Cell) where
+module _ (how : Manner) (n : Counts) (l : List ℕ) (p q : Cell) where
   abbrev f : ℕ → Cell
   f = six-cell rule-1 p q
 
   abbrev N : ℕ
   N = last-number p q
 
-  answer-is : (cells : List Cell) (e r : ℕ) → e ≤ N → last-of p cells ≡ f e → length cells ≡ r → answer-of n l p q cells ≡ answer-at n l p q e r
+  answer-is : (cells : List Cell) (e r : ℕ) → e ≤ N → last-of p cells ≡ f e → length cells ≡ r → answer-of how n l p q cells ≡ answer-at how n l p q e r
   unfolding answer-of place-of
   answer-is cells e r le last many =
-      ap₂ (λ w k. cond (hit-at n l w) (FirstHit.Hit (record { cell = w; code = byte-of n l w; place = place-of p q w; reads = k }))
+      ap₂ (λ w k. cond (hit-at how n l p w) (FirstHit.Hit (record { cell = w; code = byte-of n l w; place = place-of p q w; reads = k }))
       (FirstHit.Clear k)) last many
-      ∙ ap (λ a. cond (hit-at n l (f e)) (FirstHit.Hit (record { cell = f e; code = byte-of n l (f e); place = a; reads = r })) (FirstHit.Clear r))
+      ∙ ap (λ a. cond (hit-at how n l p (f e)) (FirstHit.Hit (record { cell = f e; code = byte-of n l (f e); place = a; reads = r })) (FirstHit.Clear r))
       (ap (place-by p q) (six-found p q e le))
 
-  walk-ended : (k : Walker) → Ended (solid-at n l p q) N (step n l p q k) (step-rises n l p q k) 0 (end-of n l p q k) (reads-of n l p q k)
-  walk-ended k = ended (solid-at n l p q) N (step n l p q k) (step-rises n l p q k) (six-count p q) 0 (omega arith) (omega arith)
+  walk-ended : (k : Walker) → Ended (hits-at how n l p q) N (step n l p q k) (step-rises n l p q k) 0 (end-of how n l p q k) (reads-of how n l p q k)
+  walk-ended k = ended (hits-at how n l p q) N (step n l p q k) (step-rises n l p q k) (six-count p q) 0 (omega arith) (omega arith)
 
-  pub end-below : (k : Walker) → end-of n l p q k ≤ N
+  pub end-below : (k : Walker) → end-of how n l p q k ≤ N
   end-below k = walk-ended k .most
 
-  pub first-hit-is : (k : Walker) → first-hit k n l p q ≡ by-verdict FirstHit.Refused (answer-at n l p q (end-of n l p q k) (reads-of n l p q k))
+  pub first-hit-is : (k : Walker) → first-hit k how n l p q ≡ by-verdict FirstHit.Refused (answer-at how n l p q (end-of how n l p q k) (reads-of how n l p q k))
       (walk-check n (length l) p q)
   unfolding first-hit
   first-hit-is k = ap (λ a. by-verdict FirstHit.Refused a (walk-check n (length l) p q))
-      (answer-is (walk-of k n l p q) _ _ (end-below k) (walk-last n l p q k p) (walk-length n l p q k))
+      (answer-is (walk-of k how n l p q) _ _ (end-below k) (walk-last how n l p q k p) (walk-length how n l p q k))
 
   -- ---- no walk runs out: its last cell is solid, or Q
 
-  pub walk-stops : (k : Walker) → (hit-at n l (last-of p (walk-of k n l p q)) ≡ true) ⊎ (last-of p (walk-of k n l p q) ≡ q)
-  walk-stops k = rw (walk-last n l p q k p) (at-end (end-of n l p q k) (walk-ended k .stops))
+  pub walk-stops : (k : Walker) → (hit-at how n l p (last-of p (walk-of k how n l p q)) ≡ true) ⊎ (last-of p (walk-of k how n l p q) ≡ q)
+  walk-stops k = rw (walk-last how n l p q k p) (at-end (end-of how n l p q k) (walk-ended k .stops))
     where
-      at-end : (e : ℕ) → stop (solid-at n l p q) N e ≡ true → (hit-at n l (f e) ≡ true) ⊎ (f e ≡ q)
-      at-end e s = ⊎-elim (λ hit. inl hit) (λ last. inr (ap f last ∙ six-end rule-1 p q)) (stopped (solid-at n l p q e) e N s)
+      at-end : (e : ℕ) → stop (hits-at how n l p q) N e ≡ true → (hit-at how n l p (f e) ≡ true) ⊎ (f e ≡ q)
+      at-end e s = ⊎-elim (λ hit. inl hit) (λ last. inr (ap f last ∙ six-end rule-1 p q)) (stopped (hits-at how n l p q e) e N s)
 
   -- ---- in any grid
 
-  pub no-earlier : end-of n l p q Plain ≤ end-of n l p q Adaptive
-  no-earlier = never-earlier (solid-at n l p q) N (go n l p q) (go-rises n l p q)
+  pub no-earlier : end-of how n l p q Plain ≤ end-of how n l p q Adaptive
+  no-earlier = never-earlier (hits-at how n l p q) N (go n l p q) (go-rises n l p q)
 
-  pub not-invented : solid-at n l p q (end-of n l p q Adaptive) ≡ true → solid-at n l p q (end-of n l p q Plain) ≡ true
-  not-invented = never-invented (solid-at n l p q) N (go n l p q) (go-rises n l p q)
+  pub not-invented : hits-at how n l p q (end-of how n l p q Adaptive) ≡ true → hits-at how n l p q (end-of how n l p q Plain) ≡ true
+  not-invented = never-invented (hits-at how n l p q) N (go n l p q) (go-rises n l p q)
 
   -- ---- where no clear cell touches a solid one by face or edge
 
-  pub ends-alike : (k : ℕ) → 2 ≤ k → InGrid n p → InGrid n q → NoClearTouches k n l → end-of n l p q Adaptive ≡ end-of n l p q Plain
-  ends-alike k two hp hq safe = same-end (solid-at n l p q) N (go n l p q) (go-rises n l p q) nothing-solid
+  pub ends-alike : (k : ℕ) → 2 ≤ k → InGrid n p → InGrid n q → NoClearTouches k n l → end-of how n l p q Adaptive ≡ end-of how n l p q Plain
+  ends-alike k two hp hq safe = same-end (hits-at how n l p q) N (go n l p q) (go-rises n l p q) nothing-solid
     where
       wider : {c d : Cell} → Touches 2 c d → Touches k c d
       wider t = record { by-one = t .by-one; differing = t .differing; within = omega (arith, t .within) }
 
-      nothing-solid : (s t : ℕ) → s < N → s < t → t < go n l p q s → solid-at n l p q t ≡ false
-      nothing-solid s t lt lo hi = by (solid-at n l p q t) refl
+      nothing-solid : (s t : ℕ) → s < N → s < t → t < go n l p q s → hits-at how n l p q t ≡ false
+      nothing-solid s t lt lo hi = by (hits-at how n l p q t) refl
         where
-          by : (b : Bool) → solid-at n l p q t ≡ b → solid-at n l p q t ≡ false
+          by : (b : Bool) → hits-at how n l p q t ≡ b → hits-at how n l p q t ≡ false
           by false e = e
           by true e =
               let (clear, touch) = skipped n l p q s t lt lo hi in
               let most : go n l p q s ≤ N = go-rises n l p q .most s lt in
-              absurd (safe .none (f s) (f t) (six-inside n p q hp hq s (omega arith)) (six-inside n p q hp hq t (omega arith)) clear e (wider touch))
+              absurd (safe .none (f s) (f t) (six-inside n p q hp hq s (omega arith)) (six-inside n p q hp hq t (omega arith)) clear
+              (hit-solid how n l p q t e) (wider touch))
 
-  pub reads-no-more : end-of n l p q Adaptive ≡ end-of n l p q Plain → reads-of n l p q Adaptive ≤ reads-of n l p q Plain
-  reads-no-more = no-more-visits (solid-at n l p q) N (go n l p q) (go-rises n l p q)
+  pub reads-no-more : end-of how n l p q Adaptive ≡ end-of how n l p q Plain → reads-of how n l p q Adaptive ≤ reads-of how n l p q Plain
+  reads-no-more = no-more-visits (hits-at how n l p q) N (go n l p q) (go-rises n l p q)
 
   -- ---- with no hit
 
-  -- a walk that is not stopped by a solid cell ends at Q
-  ends-at-q : (e : ℕ) → stop (solid-at n l p q) N e ≡ true → solid-at n l p q e ≡ false → e ≡ N
+  -- a walk that is not stopped by a hit ends at Q
+  ends-at-q : (e : ℕ) → stop (hits-at how n l p q) N e ≡ true → hits-at how n l p q e ≡ false → e ≡ N
   ends-at-q e s h =
       ⊎-elim (λ hit. absurd (let z : _≡_ {A = ℕ} 0 1 = ap (λ b. cond b 1 0) (sym h ∙ hit) in omega arith)) (λ last. last)
-      (stopped (solid-at n l p q e) e N s)
+      (stopped (hits-at how n l p q e) e N s)
 
   -- the plain walk then passed every cell, none of them solid
-  pub plain-clear : solid-at n l p q (end-of n l p q Plain) ≡ false → (s : ℕ) → s ≤ N → solid-at n l p q s ≡ false
+  pub plain-clear : hits-at how n l p q (end-of how n l p q Plain) ≡ false → (s : ℕ) → s ≤ N → hits-at how n l p q s ≡ false
   plain-clear h s le =
-      let e = ends-at-q (end-of n l p q Plain) (walk-ended Plain .stops) h in
-      elim (decLt s (end-of n l p q Plain)) [
-        | yes lt ↦ plain-first (solid-at n l p q) N suc (by-one N) s lt
-        | no ge ↦ ap (solid-at n l p q) (both-ways s (end-of n l p q Plain) (omega arith) (omega arith)) ∙ h
+      let e = ends-at-q (end-of how n l p q Plain) (walk-ended Plain .stops) h in
+      elim (decLt s (end-of how n l p q Plain)) [
+        | yes lt ↦ plain-first (hits-at how n l p q) N suc (by-one N) s lt
+        | no ge ↦ ap (hits-at how n l p q) (both-ways s (end-of how n l p q Plain) (omega arith) (omega arith)) ∙ h
       ]
 
-  pub plain-clear-reads : solid-at n l p q (end-of n l p q Plain) ≡ false → reads-of n l p q Plain ≡ N + 1
+  pub plain-clear-reads : hits-at how n l p q (end-of how n l p q Plain) ≡ false → reads-of how n l p q Plain ≡ N + 1
   plain-clear-reads h =
-      omega (arith, ends-at-q (end-of n l p q Plain) (walk-ended Plain .stops) h, visits-all (solid-at n l p q) N (six-count p q) 0 (omega arith) (omega arith))
+      omega (arith, ends-at-q (end-of how n l p q Plain) (walk-ended Plain .stops) h, visits-all (hits-at how n l p q) N (six-count p q) 0 (omega arith) (omega arith))
 
-  pub adaptive-clear-most : solid-at n l p q (end-of n l p q Adaptive) ≡ false → reads-of n l p q Adaptive ≤ N + 1
-  adaptive-clear-most h = omega (arith, ends-at-q (end-of n l p q Adaptive) (walk-ended Adaptive .stops) h, walk-ended Adaptive .few)
+  pub adaptive-clear-most : hits-at how n l p q (end-of how n l p q Adaptive) ≡ false → reads-of how n l p q Adaptive ≤ N + 1
+  adaptive-clear-most h = omega (arith, ends-at-q (end-of how n l p q Adaptive) (walk-ended Adaptive .stops) h, walk-ended Adaptive .few)
 
   -- each step moves along the longest axis by at most one
-  pub adaptive-clear-least : solid-at n l p q (end-of n l p q Adaptive) ≡ false → longest (differences p q) + 1 ≤ reads-of n l p q Adaptive
+  pub adaptive-clear-least : hits-at how n l p q (end-of how n l p q Adaptive) ≡ false → longest (differences p q) + 1 ≤ reads-of how n l p q Adaptive
   adaptive-clear-least h =
-      let e = ends-at-q (end-of n l p q Adaptive) (walk-ended Adaptive .stops) h in
-      let w : μ (end-of n l p q Adaptive) + 1 ≤ μ 0 + reads-of n l p q Adaptive = at-least (solid-at n l p q) N (go n l p q) (go-rises n l p q) μ
+      let e = ends-at-q (end-of how n l p q Adaptive) (walk-ended Adaptive .stops) h in
+      let w : μ (end-of how n l p q Adaptive) + 1 ≤ μ 0 + reads-of how n l p q Adaptive = at-least (hits-at how n l p q) N (go n l p q) (go-rises n l p q) μ
       (λ s lt. grows s lt (way n l p q s lt)) (six-count p q) 0 (omega arith) (omega arith) in
       let z : μ 0 ≡ 0 = place-start (centres rule-1 (differences p q)) a in
-      let y : μ (end-of n l p q Adaptive) ≡ longest (differences p q) = ap μ e
+      let y : μ (end-of how n l p q Adaptive) ≡ longest (differences p q) = ap μ e
       ∙ place-end (centres rule-1 (differences p q)) (centres-good rule-1 (differences p q)) a ∙ is-longest in
       omega (arith, w)
     where

@@ -10,6 +10,7 @@ use lib.ListN.{length}
 use Rattle.cells.specs.declared.Axis.{Axis}
 use Rattle.cells.specs.declared.Cell.{Cell}
 use Rattle.cells.specs.declared.Counts.{Counts}
+use Rattle.cells.specs.declared.Manner.{Manner}
 use Rattle.cells.specs.declared.Face.the-variants as Face
 use Rattle.cells.specs.Checks.{by-verdict}
 use Rattle.cells.specs.Refusals.{Told, told}
@@ -52,24 +53,24 @@ abbrev pub last-of : Cell → List Cell → Cell
 last-of c [] = c
 last-of c (d ∷ l) = last-of d l
 
--- SCOPE W4, W6: a hit where its last cell is solid, else clear; its length is the reads
-unfoldable pub answer-of : Counts → List ℕ → Cell → Cell → List Cell → FirstHit
+-- SCOPE W4, W6: a hit where its last cell is one, else clear; its length is the reads
+unfoldable pub answer-of : Manner → Counts → List ℕ → Cell → Cell → List Cell → FirstHit
 unfolding place-of
-answer-of n l p q cells =
+answer-of how n l p q cells =
     let w : Cell = last-of p cells in
-    cond (hit-at n l w)
+    cond (hit-at how n l p w)
     (FirstHit.Hit (record { cell = w; code = byte-of n l w; place = place-of p q w; reads = length cells }))
     (FirstHit.Clear (length cells))
 
 -- ---- the calls, by their walk
 
-unfoldable pub first-hit : Walker → Counts → List ℕ → Cell → Cell → FirstHit
+unfoldable pub first-hit : Walker → Manner → Counts → List ℕ → Cell → Cell → FirstHit
 unfolding walk-check answer-of walk-of
-first-hit k n l p q = by-verdict FirstHit.Refused (answer-of n l p q (walk-of k n l p q)) (walk-check n (length l) p q)
+first-hit k how n l p q = by-verdict FirstHit.Refused (answer-of how n l p q (walk-of k how n l p q)) (walk-check n (length l) p q)
 
 -- their contract
-pub record Finds (k : Walker) (n : Counts) (l : List ℕ) (p q : Cell) (r : FirstHit) : Type 0 where
-  pub says : r ≡ first-hit k n l p q
+pub record Finds (k : Walker) (how : Manner) (n : Counts) (l : List ℕ) (p q : Cell) (r : FirstHit) : Type 0 where
+  pub says : r ≡ first-hit k how n l p q
 
 -- what a walk that was made says: clear with its reads, or the hit's values
 pub data WalkSaid : Type 0 where

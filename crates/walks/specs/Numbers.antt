@@ -8,6 +8,7 @@ use mathlib.Core.Option.{Option, none, some}
 use lib.Dec.{eqb}
 use Rattle.cells.specs.declared.Cell.{Cell}
 use Rattle.cells.specs.declared.Counts.{Counts}
+use Rattle.cells.specs.declared.Manner.{Manner}
 use Rattle.lines.specs.Steps.{total}
 use Rattle.lines.specs.Preference.{rule-1}
 use Rattle.lines.specs.Lines.{differences, six-cell, cell-26, number-26}
@@ -19,21 +20,21 @@ use Rattle.walks.specs.declared.FirstHit.the-variants as FirstHit
 use Rattle.walks.specs.Walks.{number-of, six-count, count-26, hit-at}
 use Rattle.walks.specs.Answers.{entered-at}
 
--- ---- any walk over numbers 0 to N: from a number that is neither solid nor the last it goes on by `go`
+-- ---- any walk over numbers 0 to N: from a number that is neither a hit nor the last it goes on by `go`
 
--- a walk stops at a solid number and at the last
+-- a walk stops at a hit and at the last
 abbrev pub stop : (ℕ → Bool) → ℕ → ℕ → Bool
-stop solid N s = solid s || eqb s N
+stop hits N s = hits s || eqb s N
 
 -- where it ends
 unfoldable pub ends : (ℕ → Bool) → ℕ → (ℕ → ℕ) → ℕ → ℕ → ℕ
-ends solid N go zero s = s
-ends solid N go (suc fuel) s = cond (stop solid N s) s (ends solid N go fuel (go s))
+ends hits N go zero s = s
+ends hits N go (suc fuel) s = cond (stop hits N s) s (ends hits N go fuel (go s))
 
 -- how many it visits
 unfoldable pub visits : (ℕ → Bool) → ℕ → (ℕ → ℕ) → ℕ → ℕ → ℕ
-visits solid N go zero s = 0
-visits solid N go (suc fuel) s = suc (cond (stop solid N s) 0 (visits solid N go fuel (go s)))
+visits hits N go zero s = 0
+visits hits N go (suc fuel) s = suc (cond (stop hits N s) 0 (visits hits N go fuel (go s)))
 
 -- it rises, and does not pass the last
 pub record Rises (N : ℕ) (go : ℕ → ℕ) : Type 0 where
@@ -41,13 +42,13 @@ pub record Rises (N : ℕ) (go : ℕ → ℕ) : Type 0 where
   pub most : (s : ℕ) → s < N → go s ≤ N
 
 -- r numbers were visited, s comes next
-pub record OnWay (solid : ℕ → Bool) (N : ℕ) (go : ℕ → ℕ) (s r : ℕ) : Type 0 where
+pub record OnWay (hits : ℕ → Bool) (N : ℕ) (go : ℕ → ℕ) (s r : ℕ) : Type 0 where
   pub fuel : ℕ
   pub most : s ≤ N
   pub few : r ≤ s
   pub enough : N < s + fuel
-  pub end : ends solid N go fuel s ≡ ends solid N go (N + 1) 0
-  pub reads : r + visits solid N go fuel s ≡ visits solid N go (N + 1) 0
+  pub end : ends hits N go fuel s ≡ ends hits N go (N + 1) 0
+  pub reads : r + visits hits N go fuel s ≡ visits hits N go (N + 1) 0
 
 -- ---- the plain and the adaptive walk
 
@@ -64,25 +65,26 @@ module _ (n : Counts) (l : List ℕ) (p q : Cell) where
   abbrev pub go : ℕ → ℕ
   go s = cond (clear (byte-of n l (six-cell rule-1 p q s))) (go-by s (number-of (cell-26 p q) (count-26 p q) (six-cell rule-1 p q s))) (suc s)
 
-  -- where the bytes are solid
-  abbrev pub solid-at : ℕ → Bool
-  solid-at s = hit-at n l (six-cell rule-1 p q s)
-
   -- each walk goes by its own step
   abbrev pub step : Walker → ℕ → ℕ
   step Plain = suc
   step Adaptive = go
 
+module _ (how : Manner) (n : Counts) (l : List ℕ) (p q : Cell) where
+  -- which numbers are hits
+  abbrev pub hits-at : ℕ → Bool
+  hits-at s = hit-at how n l p (six-cell rule-1 p q s)
+
   -- where it ends, and its reads
   abbrev pub end-of : Walker → ℕ
-  end-of k = ends solid-at (last-number p q) (step k) (six-count p q) 0
+  end-of k = ends hits-at (last-number p q) (step n l p q k) (six-count p q) 0
 
   abbrev pub reads-of : Walker → ℕ
-  reads-of k = visits solid-at (last-number p q) (step k) (six-count p q) 0
+  reads-of k = visits hits-at (last-number p q) (step n l p q k) (six-count p q) 0
 
   -- the answer of a walk that ends at number e after r reads
   abbrev pub answer-at : ℕ → ℕ → FirstHit
   answer-at e r =
-      cond (hit-at n l (six-cell rule-1 p q e))
+      cond (hits-at e)
       (FirstHit.Hit (record { cell = six-cell rule-1 p q e; code = byte-of n l (six-cell rule-1 p q e); place = entered-at p q e; reads = r }))
       (FirstHit.Clear r)

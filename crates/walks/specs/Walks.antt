@@ -1,13 +1,15 @@
 -- SCOPE, W: the plain and the adaptive walk from P to Q through a grid, as lists of cells. They differ in what
 -- comes next alone. Assumes nothing.
 use Prim.Native.Nat.{ℕ, zero, suc, _+_}
-use mathlib.Core.Bool.{Bool, cond, _&&_, _||_}
+use mathlib.Core.Bool.{Bool, cond, not, _&&_, _||_}
 use mathlib.Core.List.{List, [], _∷_}
 use mathlib.Core.Option.{Option, none, some}
 use lib.IntN.{ℤ}
 use lib.Signed.{leZ}
 use Rattle.cells.specs.declared.Cell.{Cell}
 use Rattle.cells.specs.declared.Counts.{Counts}
+use Rattle.cells.specs.declared.Manner.{Manner}
+use Rattle.cells.specs.Manners.{is-tested}
 use Rattle.lines.specs.Steps.{total}
 use Rattle.lines.specs.Preference.{rule-1}
 use Rattle.lines.specs.Lines.{differences, six-cell, longest, cell-26}
@@ -54,9 +56,9 @@ unfoldable pub next-adaptive : Counts → List ℕ → (p q w : Cell) → Cell
 unfolding number-of cell-26 next-plain
 next-adaptive n l p q w = cond (clear (byte-of n l w)) (long-or-plain p q w (number-of (cell-26 p q) (count-26 p q) w)) (next-plain p q w)
 
--- SCOPE W3: the one test of a cell, by its byte
-abbrev pub hit-at : Counts → List ℕ → Cell → Bool
-hit-at n l w = solid (byte-of n l w)
+-- SCOPE W3, W9: the one test of a cell w: a hit where its byte is solid, unless it is P and the start is not tested
+abbrev pub hit-at : Manner → Counts → List ℕ → (p w : Cell) → Bool
+hit-at how n l p w = solid (byte-of n l w) && (is-tested (how .start) || not (is-cell w p))
 
 -- SCOPE W3: from w on, to the first hit or to Q, by what comes next. The number of cells is bounded by that of the 6-line.
 unfoldable pub walk : (Cell → Bool) → (Cell → Cell) → Cell → ℕ → Cell → List Cell
@@ -69,6 +71,6 @@ next-cell Plain n l p q w = next-plain p q w
 next-cell Adaptive n l p q w = next-adaptive n l p q w
 
 -- the cells of a walk
-unfoldable pub walk-of : Walker → Counts → List ℕ → Cell → Cell → List Cell
+unfoldable pub walk-of : Walker → Manner → Counts → List ℕ → Cell → Cell → List Cell
 unfolding walk next-plain next-adaptive
-walk-of k n l p q = walk (hit-at n l) (next-cell k n l p q) q (six-count p q) p
+walk-of k how n l p q = walk (hit-at how n l p) (next-cell k n l p q) q (six-count p q) p

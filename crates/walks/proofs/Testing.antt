@@ -1,0 +1,62 @@
+-- The test of a cell, by its number in the 6-line: it is that of the byte, but for P where the start is not tested. Assumes nothing.
+use mathlib.Core.Path.{_≡_, refl, ap, _∙_}
+use mathlib.Core.Bool.{Bool, true, false, not, _&&_, _||_}
+use mathlib.Core.List.{List}
+use Prim.Native.Nat.{ℕ, _<_}
+use native.Mathlib.Omega.{arith}
+use lib.Dec.{eqb}
+use borrow.Author.Tests.{eq-eqb, ne-eqb}
+use Rattle.cells.specs.declared.Cell.{Cell}
+use Rattle.cells.specs.declared.Counts.{Counts}
+use Rattle.cells.specs.declared.Manner.{Manner}
+use Rattle.cells.specs.Manners.{is-tested}
+use Rattle.cells.proofs.Touching.{and-both}
+use Rattle.lines.specs.Preference.{rule-1}
+use Rattle.lines.specs.Lines.{six-cell}
+use Rattle.lines.proofs.Cells.{six-start}
+use Rattle.grids.specs.Grid.{byte-of, solid}
+use Rattle.walks.specs.Walks.{is-cell}
+use Rattle.walks.specs.Numbers.{hits-at}
+use Rattle.walks.proofs.Numbers.{is-p}
+
+module _ (how : Manner) (n : Counts) (l : List ℕ) (p q : Cell) where
+  -- whether the byte of a number is solid
+  abbrev pub solid-at : ℕ → Bool
+  solid-at s = solid (byte-of n l (six-cell rule-1 p q s))
+
+  pub hits-is : (s : ℕ) → hits-at how n l p q s ≡ (solid-at s && (is-tested (how .start) || not (eqb s 0)))
+  hits-is s = ap (λ b. solid-at s && (is-tested (how .start) || not b)) (is-p p q s)
+
+  -- a hit is solid
+  pub hit-solid : (s : ℕ) → hits-at how n l p q s ≡ true → solid-at s ≡ true
+  hit-solid s h = and-both (solid-at s) _ h .0
+
+  -- what is not solid is no hit
+  pub no-hit : (s : ℕ) → solid-at s ≡ false → hits-at how n l p q s ≡ false
+  no-hit s h = ap (λ b. b && (is-tested (how .start) || not (is-cell (six-cell rule-1 p q s) p))) h
+
+  -- at P
+  pub start-test : hits-at how n l p q 0 ≡ (is-tested (how .start) && solid-at 0)
+  start-test = hits-is 0 ∙ ap (λ b. solid-at 0 && (is-tested (how .start) || not b)) (eq-eqb 0 0 refl) ∙ turned (is-tested (how .start)) (solid-at 0)
+    where
+      turned : (t b : Bool) → (b && (t || false)) ≡ (t && b)
+      turned true true = refl
+      turned true false = refl
+      turned false true = refl
+      turned false false = refl
+
+  -- and after it
+  pub later-test : (s : ℕ) → 0 < s → hits-at how n l p q s ≡ solid-at s
+  later-test s lt =
+      hits-is s ∙ ap (λ b. solid-at s && (is-tested (how .start) || not b)) (ne-eqb s 0 (λ e. omega arith))
+      ∙ counts (is-tested (how .start)) (solid-at s)
+    where
+      counts : (t b : Bool) → (b && (t || true)) ≡ b
+      counts true true = refl
+      counts true false = refl
+      counts false true = refl
+      counts false false = refl
+
+  -- P's byte is that of number 0
+  pub start-byte : solid-at 0 ≡ solid (byte-of n l p)
+  start-byte = ap (λ w. solid (byte-of n l w)) (six-start rule-1 p q)
