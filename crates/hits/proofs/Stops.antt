@@ -1,21 +1,26 @@
 -- Where a walk stopped tells its answer. Assumes nothing.
 use mathlib.Core.Path.{_≡_, sym, ap, ap₂, _∙_}
-use mathlib.Core.Bool.{cond}
+use mathlib.Core.Bool.{cond, not, _&&_, _||_}
 use mathlib.Core.List.{List}
 use Prim.Native.Nat.{ℕ, _≤_}
 use lib.IntN.{pos, natAbs}
+use lib.Dec.{eqb}
 use Rattle.cells.specs.declared.Cell.{Cell}
+use Rattle.cells.specs.declared.Manner.{Manner}
+use Rattle.cells.specs.Manners.{is-tested}
 use Rattle.lines.specs.Steps.{Steps, total}
 use Rattle.lines.specs.Preference.{rule-1}
 use Rattle.lines.specs.Crossings.{place}
 use Rattle.lines.specs.Lines.{differences, cell-of, six-cell}
+use Rattle.lines.proofs.Fractions.{place-total}
 use Rattle.lines.proofs.Cells.{six-is, steps-made}
 use Rattle.tripod.specs.Tripod.{steps}
 use Rattle.grids.specs.Grid.{cell-at, byte-of, solid, index, byte-index}
 use Rattle.walks.specs.declared.FirstHit.the-variants as FirstHit
 use Rattle.walks.specs.Answers.{entered-at}
 use Rattle.walks.proofs.Inside.{six-inside}
-use Rattle.walks.specs.Numbers.{answer-at}
+use Rattle.walks.specs.Numbers.{hits-at, answer-at}
+use Rattle.walks.proofs.Testing.{hits-is}
 use Rattle.routes.specs.declared.Route.{Route}
 use Rattle.hits.specs.declared.Stop.{Stop}
 use Rattle.hits.specs.Found.{Stopped}
@@ -26,18 +31,21 @@ use Rattle.grids.proofs.Inside.{indexed}
 use Rattle.routes.proofs.Spots.{byte-is}
 use Rattle.places.proofs.Entering.{entered-is}
 
-module _ (bytes : ℕ) (k : Route) (plan : Planned bytes k) (l : List ℕ) where
+module _ (how : Manner) (bytes : ℕ) (k : Route) (plan : Planned bytes k) (l : List ℕ) where
   abbrev D : Steps
   D = differences (k .p) (k .q)
 
   -- a walk that stopped at number e with so many reads answers as the definition does
-  pub stop-answers : (e many : ℕ) (r : Stop) → e ≤ total D → Stopped k e many r → answer-from l k r ≡ answer-at (k .n) l (k .p) (k .q) e many
+  pub stop-answers : (e many : ℕ) (r : Stop) → e ≤ total D → Stopped k e many r → answer-from how l k r ≡ answer-at how (k .n) l (k .p) (k .q) e many
   unfolding answer-from
   stop-answers e many r le h =
-      ap₂ (λ c b. cond (solid b)
+      ap₂ (λ c b. cond (solid b && (is-tested (how .start) || not (eqb (total (differences (k .p) c)) 0)))
       (FirstHit.Hit (record { cell = c; code = b; place = entered (k .p) (k .q) (steps (k .d)) (differences (k .p) c); reads = r .reads }))
       (FirstHit.Clear (r .reads))) cell byte
-      ∙ ap₂ (λ a m. cond (solid (byte-of (k .n) l f)) (FirstHit.Hit (record { cell = f; code = byte-of (k .n) l f; place = a; reads = m }))
+      ∙ ap (λ t. cond t
+      (FirstHit.Hit (record { cell = f; code = byte-of (k .n) l f; place = entered (k .p) (k .q) (steps (k .d)) (differences (k .p) f); reads = r .reads }))
+      (FirstHit.Clear (r .reads))) test
+      ∙ ap₂ (λ a m. cond (hits-at how (k .n) l (k .p) (k .q) e) (FirstHit.Hit (record { cell = f; code = byte-of (k .n) l f; place = a; reads = m }))
       (FirstHit.Clear m)) entering (h .reads)
     where
       f : Cell
@@ -54,6 +62,16 @@ module _ (bytes : ℕ) (k : Route) (plan : Planned bytes k) (l : List ℕ) where
       byte : byte-of-spot l (r .spot) ≡ byte-of (k .n) l f
       byte = byte-is bytes k plan l (place (course k) e) (r .spot) (h .spot) ∙ ap (byte-of (k .n) l) (sym f-is)
 
+      -- the steps from P to it
+      made : differences (k .p) f ≡ place (course k) e
+      made = ap (differences (k .p)) f-is ∙ steps-made (k .p) (k .q) (place (course k) e)
+
+      -- so many that it is P just where there are none
+      test : (solid (byte-of (k .n) l f) && (is-tested (how .start) || not (eqb (total (differences (k .p) f)) 0))) ≡ hits-at how (k .n) l (k .p) (k .q) e
+      test =
+          ap (λ t. solid (byte-of (k .n) l f) && (is-tested (how .start) || not (eqb t 0))) (ap total made ∙ place-total (course k) e)
+          ∙ sym (hits-is how (k .n) l (k .p) (k .q) e)
+
       entering : entered (k .p) (k .q) (steps (k .d)) (differences (k .p) f) ≡ entered-at (k .p) (k .q) e
-      entering = ap₂ (entered (k .p) (k .q)) (plan .is) (ap (differences (k .p)) f-is ∙ steps-made (k .p) (k .q) (place (course k) e))
+      entering = ap₂ (entered (k .p) (k .q)) (plan .is) made
           ∙ entered-is (k .p) (k .q) e le

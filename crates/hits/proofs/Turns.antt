@@ -8,6 +8,8 @@ use native.Mathlib.Omega.{arith}
 use native.Mathlib.Nat.{eq-or-lt-of-le}
 use lib.ListN.{length}
 use borrow.Author.Tests.{ne-eqb}
+use Rattle.cells.specs.declared.Manner.{Manner}
+use Rattle.cells.specs.Manners.{is-tested}
 use Rattle.lines.specs.Steps.{Axis, X, Y, Z, Steps, at, total}
 use Rattle.lines.specs.Preference.{rule-1}
 use Rattle.lines.specs.Lines.{differences, longest, place-26, six-cell, number-26}
@@ -19,6 +21,7 @@ use Rattle.grids.specs.Grid.{byte-of, solid, clear}
 use Rattle.walks.proofs.Runs.{by-one}
 use Rattle.walks.specs.Numbers.{OnWay}
 use Rattle.walks.proofs.Numbers.{go-rises}
+use Rattle.walks.proofs.Testing.{no-hit, start-test}
 use Rattle.walks.proofs.Long.{go-long, go-face, go-between}
 use Rattle.routes.specs.declared.Route.{Route}
 use Rattle.routes.specs.declared.Spot.{Spot}
@@ -31,32 +34,32 @@ use Rattle.walks.specs.declared.Walker.the-variants.{Adaptive}
 use Rattle.hits.specs.declared.Turn.{Turn}
 use Rattle.hits.specs.declared.Reach.{Reach}
 use Rattle.routes.specs.Route.{Planned, SpotAt, HasByte, byte-there, byte-of-spot}
-use Rattle.hits.specs.Found.{last, hits, going, Walking, Stops, Outcome, Crossing, Walked, At26, CanGo, Reached}
+use Rattle.hits.specs.Found.{last, hits, going, Walking, Stops, Outcome, Crossing, Walked, At26, Outcome26, CanGo, Reached}
 use Rattle.hits.proofs.Walking.{walk-starts, walk-byte, goes-on}
 use Rattle.routes.proofs.Spots.{spot-byte, can-cross}
 use Rattle.routes.proofs.Cells26.{at-26, from-26, faces-between}
 
 -- ---- what a turn came to
 
-pub outcome-stopped : (l : List ℕ) (k : Route) (next : ℕ → ℕ) (m : ℕ) (t : Bool) (s : Spot) (r : ℕ) → Outcome l k next m t s r → t ≡ true →
-    Stops l k next (record { spot = s; reads = r })
-outcome-stopped l k next m true s r o e = o
-outcome-stopped l k next m false s r o e = absurd (let z : _≡_ {A = ℕ} 0 1 = cc in omega arith)
+pub outcome-stopped : (how : Manner) (l : List ℕ) (k : Route) (next : ℕ → ℕ) (m : ℕ) (t : Bool) (s : Spot) (r : ℕ) → Outcome how l k next m t s r → t ≡ true →
+    Stops how l k next (record { spot = s; reads = r })
+outcome-stopped how l k next m true s r o e = o
+outcome-stopped how l k next m false s r o e = absurd (let z : _≡_ {A = ℕ} 0 1 = cc in omega arith)
 
-pub outcome-walking : (l : List ℕ) (k : Route) (next : ℕ → ℕ) (m : ℕ) (t : Bool) (s : Spot) (r : ℕ) → Outcome l k next m t s r → t ≡ false →
-    Walking l k next m r s
-outcome-walking l k next m true s r o e = absurd (let z : _≡_ {A = ℕ} 0 1 = cc in omega arith)
-outcome-walking l k next m false s r o e = o
+pub outcome-walking : (how : Manner) (l : List ℕ) (k : Route) (next : ℕ → ℕ) (m : ℕ) (t : Bool) (s : Spot) (r : ℕ) → Outcome how l k next m t s r → t ≡ false →
+    Walking how l k next m r s
+outcome-walking how l k next m true s r o e = absurd (let z : _≡_ {A = ℕ} 0 1 = cc in omega arith)
+outcome-walking how l k next m false s r o e = o
 
 -- a turn of the adaptive walk
-module _ {l : List ℕ} {k : Route} {left : ℕ} {r : Reach} (h : Reached l k left r) where
-  pub turn-stopped : r .hit ≡ true → Stops l k (going l k Adaptive) (record { spot = r .spot; reads = r .reads })
-  turn-stopped = outcome-stopped l k _ _ (r .hit) (r .spot) (r .reads) (h .came)
+module _ (how : Manner) (l : List ℕ) (k : Route) (r : Reach) (outcome : Outcome26 how l k r) where
+  pub turn-stopped : r .hit ≡ true → Stops how l k (going l k Adaptive) (record { spot = r .spot; reads = r .reads })
+  turn-stopped = outcome-stopped how l k _ _ (r .hit) (r .spot) (r .reads) outcome
 
-  pub turn-walking : r .hit ≡ false → Walking l k (going l k Adaptive) (number-26 (k .p) (k .q) (cell-left k (r .left))) (r .reads) (r .spot)
-  turn-walking = outcome-walking l k _ _ (r .hit) (r .spot) (r .reads) (h .came)
+  pub turn-walking : r .hit ≡ false → Walking how l k (going l k Adaptive) (number-26 (k .p) (k .q) (cell-left k (r .left))) (r .reads) (r .spot)
+  turn-walking = outcome-walking how l k _ _ (r .hit) (r .spot) (r .reads) outcome
 
-module _ (bytes : ℕ) (k : Route) (plan : Planned bytes k) (l : List ℕ) where
+module _ (how : Manner) (bytes : ℕ) (k : Route) (plan : Planned bytes k) (l : List ℕ) where
   abbrev D : Steps
   D = differences (k .p) (k .q)
 
@@ -67,8 +70,15 @@ module _ (bytes : ℕ) (k : Route) (plan : Planned bytes k) (l : List ℕ) where
   go = going l k Adaptive
 
   -- the plain walk crosses every face
-  pub all-faces : (s : Spot) (faces : ℕ) → SpotAt k (at 0 0 0) s → faces ≡ last l k → Crossing l k s 0 faces suc 0
-  all-faces s faces h e = record { rises = by-one (last l k); fits = omega arith; one = λ j lo hi. refl; walking = walk-starts bytes k plan l suc s h }
+  pub all-faces : (s : Spot) (faces : ℕ) → SpotAt k (at 0 0 0) s → faces ≡ last l k → Crossing how l k (is-tested (how .start)) s 0 faces suc 0
+  all-faces s faces h e =
+      record {
+        rises = by-one (last l k);
+        fits = omega arith;
+        one = λ j lo hi. refl;
+        walking = walk-starts how bytes k plan l suc s h;
+        test = λ some. start-test how (k .n) l (k .p) (k .q);
+      }
 
   -- ---- from 26-line cell m, which is not the last
 
@@ -76,7 +86,7 @@ module _ (bytes : ℕ) (k : Route) (plan : Planned bytes k) (l : List ℕ) where
   next-within : (m : ℕ) → m < longest D → at-number (m + 1) ≤ last l k
   next-within m lt = let w = within-26 D (m + 1) (omega arith) in omega (arith, w X, w Y, w Z)
 
-  module _ (left : ℕ) (s : Spot) (reads : ℕ) (here : At26 l k s reads left) where
+  module _ (tested : Bool) (left : ℕ) (s : Spot) (reads : ℕ) (here : At26 how l k tested s reads left) where
     abbrev m : ℕ
     m = cell-left k left
 
@@ -84,38 +94,39 @@ module _ (bytes : ℕ) (k : Route) (plan : Planned bytes k) (l : List ℕ) where
     below = omega (arith, here .some, here .most)
 
     -- over clear cells, a long step from each
-    runs-on : (n : ℕ) → m + n ≤ longest D → ClearTo l k m (m + n) → OnWay (hits l k) (last l k) go (at-number (m + n)) (reads + n)
+    runs-on : (n : ℕ) → m + n ≤ longest D → ClearTo l k m (m + n) → OnWay (hits how l k) (last l k) go (at-number (m + n)) (reads + n)
     runs-on zero le cl =
-        subst (λ j. OnWay (hits l k) (last l k) go (at-number j) (reads + 0)) (omega arith)
-        (subst (OnWay (hits l k) (last l k) go (at-number m)) (omega arith) (here .walking .on))
+        subst (λ j. OnWay (hits how l k) (last l k) go (at-number j) (reads + 0)) (omega arith)
+        (subst (OnWay (hits how l k) (last l k) go (at-number m)) (omega arith) (here .walking .on))
     runs-on (suc n) le cl =
         let j : ℕ = m + n in
         let lt : j < longest D = omega arith in
         let on = runs-on n (omega arith) (λ i ge less. cl i ge (omega arith)) in
-        let e = goes-on bytes k plan l go (go-rises (k .n) l (k .p) (k .q)) (at-number j) (reads + n) on (ap solid (zero-at lt))
+        let e = goes-on how bytes k plan l go (go-rises (k .n) l (k .p) (k .q)) (at-number j) (reads + n) on
+        (no-hit how (k .n) l (k .p) (k .q) (at-number j) (ap solid (zero-at lt)))
         (omega (arith, grows-26 D j lt, next-within j lt)) in
-        subst (λ i. OnWay (hits l k) (last l k) go (at-number i) (reads + suc n)) (omega arith)
-        (subst (OnWay (hits l k) (last l k) go (at-number (j + 1))) (omega arith)
-        (subst (λ i. OnWay (hits l k) (last l k) go i (reads + n + 1)) (go-long (k .n) l (k .p) (k .q) j lt (ap clear (zero-at lt))) e))
+        subst (λ i. OnWay (hits how l k) (last l k) go (at-number i) (reads + suc n)) (omega arith)
+        (subst (OnWay (hits how l k) (last l k) go (at-number (j + 1))) (omega arith)
+        (subst (λ i. OnWay (hits how l k) (last l k) go i (reads + n + 1)) (go-long (k .n) l (k .p) (k .q) j lt (ap clear (zero-at lt))) e))
       where
         zero-at : m + n < longest D → byte-of (k .n) l (six-cell rule-1 (k .p) (k .q) (at-number (m + n))) ≡ 0
         zero-at lt = sym (ap (byte-of (k .n) l) (six-at-26 rule-1 (k .p) (k .q) (m + n) (omega arith))) ∙ cl (m + n) (omega arith) (omega arith)
 
     pub clear-turn :
         (u : Axis) (e : ℕ) → e < left → ClearTo l k m (cell-left k e) →
-        Walking l k go (at-number (cell-left k e)) (reads + (left - e)) (spot-back u D (run-cell k u (cell-left k e)))
+        Walking how l k go (at-number (cell-left k e)) (reads + (left - e)) (spot-back u D (run-cell k u (cell-left k e)))
     clear-turn u e fewer cl =
         let is : m + (left - e) ≡ cell-left k e = omega (arith, here .most) in
         record {
           spot = from-26 k (cell-left k e) (spot-back u D (run-cell k u (cell-left k e))) (omega arith) (run-ends bytes k plan u (cell-left k e));
           on =
-              subst (λ j. OnWay (hits l k) (last l k) go (at-number j) (reads + (left - e))) is
+              subst (λ j. OnWay (hits how l k) (last l k) go (at-number j) (reads + (left - e))) is
               (runs-on (left - e) (omega arith) (subst (ClearTo l k m) (sym is) cl));
         }
 
     module _ (r : Moves) (moves : LongMoves D (s .e) r) where
       -- else the faces between, one at a time
-      pub near-faces : (byte-of-spot l s ≡ 0 → ⊥) → Crossing l k s reads (total (moves-on r)) go (at-number m)
+      pub near-faces : (byte-of-spot l s ≡ 0 → ⊥) → Crossing how l k tested s reads (total (moves-on r)) go (at-number m)
       near-faces not-zero =
           record {
             rises = go-rises (k .n) l (k .p) (k .q);
@@ -124,6 +135,7 @@ module _ (bytes : ℕ) (k : Route) (plan : Planned bytes k) (l : List ℕ) where
                 (λ lt. go-between (k .n) l (k .p) (k .q) m j below lt (omega (arith, between)) (omega (arith, between, next-within m below)))
                 (eq-or-lt-of-le {n = at-number m} {m = j} lo);
             walking = here .walking;
+            test = λ some. here .test;
           }
         where
           between : at-number (m + 1) ≡ at-number m + total (moves-on r)
@@ -131,13 +143,13 @@ module _ (bytes : ℕ) (k : Route) (plan : Planned bytes k) (l : List ℕ) where
 
           first : go (at-number m) ≡ suc (at-number m)
           first = go-face (k .n) l (k .p) (k .q) (at-number m)
-              (sym (ap clear (walk-byte bytes k plan l go (at-number m) s (here .walking .spot))) ∙ ne-eqb (byte-of-spot l s) 0 not-zero)
+              (sym (ap clear (walk-byte how bytes k plan l go (at-number m) s (here .walking .spot))) ∙ ne-eqb (byte-of-spot l s) 0 not-zero)
 
-      pub near-turn : (t : Turn) → (byte-of-spot l s ≡ 0 → ⊥) → Walked l k s reads (total (moves-on r)) t →
-          Outcome l k go (at-number (cell-left k (left - 1))) (t .hit) (t .spot) (t .reads)
+      pub near-turn : (t : Turn) → (byte-of-spot l s ≡ 0 → ⊥) → Walked l k tested s reads (total (moves-on r)) t →
+          Outcome how l k go (at-number (cell-left k (left - 1))) (t .hit) (t .spot) (t .reads)
       near-turn t not-zero w =
-          subst (λ j. Outcome l k go j (t .hit) (t .spot) (t .reads))
-          (sym (faces-between k m s r below (here .walking .spot) moves) ∙ ap at-number next-left) (w .leads go (at-number m) (near-faces not-zero))
+          subst (λ j. Outcome how l k go j (t .hit) (t .spot) (t .reads))
+          (sym (faces-between k m s r below (here .walking .spot) moves) ∙ ap at-number next-left) (w .leads how go (at-number m) (near-faces not-zero))
         where
           next-left : m + 1 ≡ cell-left k (left - 1)
           next-left = omega (arith, here .some, here .most)
@@ -157,7 +169,7 @@ module _ (bytes : ℕ) (k : Route) (plan : Planned bytes k) (l : List ℕ) where
 
 -- ---- what a turn is given
 
-module _ (l : List ℕ) (k : Route) (u : Axis) (s : Spot) (reads left : ℕ) (c : CanGo l k u s reads left) where
+module _ (l : List ℕ) (k : Route) (u : Axis) (tested : Bool) (s : Spot) (reads left : ℕ) (c : CanGo l k u tested s reads left) where
   abbrev E : Steps
   E = differences (k .p) (k .q)
 
@@ -210,12 +222,12 @@ module _ (l : List ℕ) (k : Route) (u : Axis) (s : Spot) (reads left : ℕ) (c 
       -- and leads there
       pub run-leads :
           (t : Spot) → t ≡ spot-back u (steps (k .d)) (r .spot) →
-          Reached l k left (record { spot = t; reads = reads + (left - r .left); hit = false; left = r .left })
+          Reached l k tested s reads left (record { spot = t; reads = reads + (left - r .left); hit = false; left = r .left })
       run-leads t e =
           record {
             fewer = ran .fewer;
-            came =
-                subst (Walking l k (going l k Adaptive) (number-26 (k .p) (k .q) (cell-left k (r .left))) (reads + (left - r .left)))
+            outcome = λ how at.
+                subst (Walking how l k (going l k Adaptive) (number-26 (k .p) (k .q) (cell-left k (r .left))) (reads + (left - r .left)))
                 (sym (e ∙ ap₂ (spot-back u) (c .plan .is) end-is))
-                (clear-turn (length l) k (c .plan) l left s reads (c .at) u (r .left) (ran .fewer) (ran .leads k u run-begins .1));
+                (clear-turn how (length l) k (c .plan) l tested left s reads at u (r .left) (ran .fewer) (ran .leads k u run-begins .1));
           }

@@ -2,11 +2,12 @@
 use mathlib.Core.Path.{_≡_, refl, sym, ap, ap₂, _∙_, subst, fun-ext}
 use mathlib.Core.Bool.{Bool, true, false, _||_}
 use mathlib.Core.List.{List}
-use Prim.Native.Nat.{ℕ, suc, _+_, _≤_, _<_}
+use Prim.Native.Nat.{ℕ, zero, suc, _+_, _≤_, _<_}
 use native.Mathlib.Omega.{arith}
 use native.Mathlib.Numerals.{add-one}
 use lib.Dec.{eqb}
 use borrow.Author.Tests.{eq-eqb, ne-eqb}
+use Rattle.cells.specs.declared.Manner.{Manner}
 use Rattle.lines.specs.Steps.{Axis, X, Y, Z, at}
 use Rattle.lines.specs.Preference.{rule-1}
 use Rattle.lines.specs.Crossings.{place}
@@ -16,22 +17,23 @@ use Rattle.lines.proofs.Fractions.{place-start}
 use Rattle.tripod.specs.Tripod.{NextFace}
 use Rattle.grids.specs.Grid.{byte-of, solid}
 use Rattle.walks.specs.Numbers.{Rises, OnWay}
+use Rattle.walks.proofs.Testing.{later-test}
 use Rattle.walks.proofs.Progress.{on-start, on-stop, on-turn}
 use Rattle.routes.specs.declared.Route.{Route}
 use Rattle.routes.specs.declared.Spot.{Spot}
 use Rattle.routes.specs.Route.{Planned, course, SpotAt, byte-of-spot, crossed-spot}
-use Rattle.hits.specs.Found.{last, hits, Walking, Stops, Crossing, Walked}
+use Rattle.hits.specs.Found.{last, hits, TestedAt, Walking, Stops, Crossing, Walked}
 use Rattle.routes.proofs.Spots.{byte-is, six-turn}
 
-module _ (bytes : ℕ) (k : Route) (plan : Planned bytes k) (l : List ℕ) (go : ℕ → ℕ) where
+module _ (how : Manner) (bytes : ℕ) (k : Route) (plan : Planned bytes k) (l : List ℕ) (go : ℕ → ℕ) where
   abbrev N : ℕ
   N = last l k
 
   abbrev H : ℕ → Bool
-  H = hits l k
+  H = hits how l k
 
   -- from the first spot
-  pub walk-starts : (s : Spot) → SpotAt k (at 0 0 0) s → Walking l k go 0 0 s
+  pub walk-starts : (s : Spot) → SpotAt k (at 0 0 0) s → Walking how l k go 0 0 s
   walk-starts s h = record { spot = subst (λ t. SpotAt k t s) (fun-ext no-steps) h; on = on-start H N go }
     where
       no-steps : (a : Axis) → at 0 0 0 a ≡ place (course k) 0 a
@@ -44,20 +46,24 @@ module _ (bytes : ℕ) (k : Route) (plan : Planned bytes k) (l : List ℕ) (go :
   walk-byte m s h = byte-is bytes k plan l (place (course k) m) s h ∙ ap (byte-of (k .n) l) (sym (six-is rule-1 (k .p) (k .q) m))
 
   -- so the test of the byte is the walk's
-  pub walk-test : (m : ℕ) (s : Spot) {b : Bool} → SpotAt k (place (course k) m) s → solid (byte-of-spot l s) ≡ b → H m ≡ b
-  walk-test m s h e = sym (ap solid (walk-byte m s h)) ∙ e
+  pub walk-test : (m : ℕ) (s : Spot) {b : Bool} → SpotAt k (place (course k) m) s → TestedAt how l k m true → solid (byte-of-spot l s) ≡ b → H m ≡ b
+  walk-test m s h test e = test ∙ sym (ap solid (walk-byte m s h)) ∙ e
+
+  -- after P every cell is tested
+  pub later-tested : (m : ℕ) → 0 < m → TestedAt how l k m true
+  later-tested = later-test how (k .n) l (k .p) (k .q)
 
   or-true : (b : Bool) → (b || true) ≡ true
   or-true true = refl
   or-true false = refl
 
   -- it stops at a solid byte and at Q
-  pub at-hit : (m r : ℕ) (s : Spot) → Walking l k go m r s → H m ≡ true → Stops l k go (record { spot = s; reads = r + 1 })
+  pub at-hit : (m r : ℕ) (s : Spot) → Walking how l k go m r s → H m ≡ true → Stops how l k go (record { spot = s; reads = r + 1 })
   at-hit m r s w h =
       let (e, v) = on-stop H N go m r (w .on) (ap (λ b. b || eqb m N) h) in
       record { spot = subst (λ n. SpotAt k (place (course k) n) s) e (w .spot); reads = v }
 
-  pub at-end : (m r : ℕ) (s : Spot) → Walking l k go m r s → m ≡ N → Stops l k go (record { spot = s; reads = r + 1 })
+  pub at-end : (m r : ℕ) (s : Spot) → Walking how l k go m r s → m ≡ N → Stops how l k go (record { spot = s; reads = r + 1 })
   at-end m r s w h =
       let (e, v) = on-stop H N go m r (w .on) (ap (λ b. H m || b) (eq-eqb m N h) ∙ or-true (H m)) in
       record { spot = subst (λ n. SpotAt k (place (course k) n) s) e (w .spot); reads = v }
@@ -68,8 +74,8 @@ module _ (bytes : ℕ) (k : Route) (plan : Planned bytes k) (l : List ℕ) (go :
 
   -- across the next face
   pub face-turn :
-      Rises N go → (m r : ℕ) (s : Spot) (n : Axis) → Walking l k go m r s → H m ≡ false → m < N → go m ≡ suc m → NextFace (s .e) n →
-      Walking l k go (m + 1) (r + 1) (crossed-spot k n s)
+      Rises N go → (m r : ℕ) (s : Spot) (n : Axis) → Walking how l k go m r s → H m ≡ false → m < N → go m ≡ suc m → NextFace (s .e) n →
+      Walking how l k go (m + 1) (r + 1) (crossed-spot k n s)
   face-turn rises m r s n w h lt one face =
       record {
         spot = six-turn bytes k plan m s n lt (w .spot) face;
@@ -81,15 +87,20 @@ module _ (bytes : ℕ) (k : Route) (plan : Planned bytes k) (l : List ℕ) (go :
 -- after j of them
 pub record Following (l : List ℕ) (k : Route) (start : Spot) (reads faces j : ℕ) (s : Spot) : Type 0 where
   pub most : j ≤ faces
-  pub follows : (next : ℕ → ℕ) (m : ℕ) → Crossing l k start reads faces next m → Walking l k next (m + j) (reads + j) s
+  pub follows : (how : Manner) (next : ℕ → ℕ) (m : ℕ) → Crossing how l k true start reads faces next m → Walking how l k next (m + j) (reads + j) s
 
 module _ (bytes : ℕ) (k : Route) (plan : Planned bytes k) (l : List ℕ) (start : Spot) (reads faces : ℕ) where
   -- at other numbers that are the same
-  same-walking : {next : ℕ → ℕ} {s : Spot} (m m′ r r′ : ℕ) → m ≡ m′ → r ≡ r′ → Walking l k next m r s → Walking l k next m′ r′ s
-  same-walking {next} {s} m m′ r r′ e f w = subst (λ j. Walking l k next j r′ s) e (subst (λ j. Walking l k next m j s) f w)
+  same-walking : {how : Manner} {next : ℕ → ℕ} {s : Spot} (m m′ r r′ : ℕ) → m ≡ m′ → r ≡ r′ → Walking how l k next m r s → Walking how l k next m′ r′ s
+  same-walking {how} {next} {s} m m′ r r′ e f w = subst (λ j. Walking how l k next j r′ s) e (subst (λ j. Walking how l k next m j s) f w)
+
+  -- the first cell is tested, and so is every later one
+  tested-on : (how : Manner) (next : ℕ → ℕ) (m j : ℕ) → Crossing how l k true start reads faces next m → j < faces → TestedAt how l k (m + j) true
+  tested-on how next m zero c lt = subst (λ i. TestedAt how l k i true) (omega arith) (c .test (omega arith))
+  tested-on how next m (suc j) c lt = later-tested how bytes k plan l next (m + suc j) (omega arith)
 
   pub no-face : Following l k start reads faces 0 start
-  no-face = record { most = omega arith; follows = λ next m c. same-walking m (m + 0) reads (reads + 0) (omega arith) (omega arith) (c .walking) }
+  no-face = record { most = omega arith; follows = λ how next m c. same-walking m (m + 0) reads (reads + 0) (omega arith) (omega arith) (c .walking) }
 
   pub one-face :
       (j : ℕ) (s : Spot) (n : Axis) → Following l k start reads faces j s → j < faces → solid (byte-of-spot l s) ≡ false → NextFace (s .e) n →
@@ -97,23 +108,24 @@ module _ (bytes : ℕ) (k : Route) (plan : Planned bytes k) (l : List ℕ) (star
   one-face j s n h lt clear face =
       record {
         most = omega arith;
-        follows = λ next m c.
-            let w = h .follows next m c in
+        follows = λ how next m c.
+            let w = h .follows how next m c in
             same-walking (m + j + 1) (m + (j + 1)) (reads + j + 1) (reads + (j + 1)) (omega arith) (omega arith)
-            (face-turn bytes k plan l next (c .rises) (m + j) (reads + j) s n w (walk-test bytes k plan l next (m + j) s (w .spot) clear)
+            (face-turn how bytes k plan l next (c .rises) (m + j) (reads + j) s n w
+            (walk-test how bytes k plan l next (m + j) s (w .spot) (tested-on how next m j c lt) clear)
             (omega (arith, c .fits)) (c .one (m + j) (omega arith) (omega arith)) face);
       }
 
   -- at a solid byte, or after the last
-  pub hit-face : (j : ℕ) (s : Spot) → Following l k start reads faces j s → solid (byte-of-spot l s) ≡ true →
-      Walked l k start reads faces (record { spot = s; reads = reads + j + 1; hit = true })
-  hit-face j s h solid-there =
+  pub hit-face : (j : ℕ) (s : Spot) → Following l k start reads faces j s → j < faces → solid (byte-of-spot l s) ≡ true →
+      Walked l k true start reads faces (record { spot = s; reads = reads + j + 1; hit = true })
+  hit-face j s h lt solid-there =
       record {
-        leads = λ next m c. let w = h .follows next m c in at-hit bytes k plan l next (m + j) (reads + j) s w
-            (walk-test bytes k plan l next (m + j) s (w .spot) solid-there);
+        leads = λ how next m c. let w = h .follows how next m c in at-hit how bytes k plan l next (m + j) (reads + j) s w
+            (walk-test how bytes k plan l next (m + j) s (w .spot) (tested-on how next m j c lt) solid-there);
       }
 
   pub last-face : (j : ℕ) (s : Spot) → Following l k start reads faces j s → faces ≤ j →
-      Walked l k start reads faces (record { spot = s; reads = reads + j; hit = false })
+      Walked l k true start reads faces (record { spot = s; reads = reads + j; hit = false })
   last-face j s h ge =
-      record { leads = λ next m c. same-walking (m + j) (m + faces) (reads + j) (reads + j) (omega (arith, h .most)) refl (h .follows next m c) }
+      record { leads = λ how next m c. same-walking (m + j) (m + faces) (reads + j) (reads + j) (omega (arith, h .most)) refl (h .follows how next m c) }

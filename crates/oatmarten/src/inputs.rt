@@ -1,8 +1,10 @@
 // C's structs that go into a call, and the values that they mean.
 ghost use mathlib.Core.Path.{_≡_};
-ghost use Rattle.oatmarten.specs.Inputs.{as-cell, as-counts, as-placement, as-point};
+ghost use Rattle.oatmarten.specs.Inputs.{as-cell, as-counts, as-manner, as-placement, as-point};
 use cells::Cell;
 use cells::Counts;
+use cells::Manner;
+use cells::Start;
 use survey::Placement;
 use survey::Point;
 
@@ -40,6 +42,27 @@ pub(crate) fn counts(n: OatCounts) -> Counts
         nx: n.nx,
         ny: n.ny,
         nz: n.nz,
+    }
+}
+
+// How a walk is made; start: 0 not tested, any other number tested.
+#[repr(C)]
+pub struct OatManner {
+    pub start: u32,
+}
+
+// A manner of C's as such.
+pub(crate) fn manner(how: OatManner) -> Manner
+    ensures { λ r. ⌜ r ≡ as-manner how ⌝ }
+{
+    if how.start == 0 {
+        Manner {
+            start: Start::Untested,
+        }
+    } else {
+        Manner {
+            start: Start::Tested,
+        }
     }
 }
 

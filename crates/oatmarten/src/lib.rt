@@ -16,6 +16,7 @@ pub use grid_calls::oat_layer;
 pub use grid_calls::oat_mark;
 pub use inputs::OatCell;
 pub use inputs::OatCounts;
+pub use inputs::OatManner;
 pub use inputs::OatPlacement;
 pub use inputs::OatPoint;
 pub use line_calls::OatListed;

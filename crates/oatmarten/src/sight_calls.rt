@@ -1,12 +1,14 @@
 // The cell of a surveyed point, and the sight answer, for C.
 ghost use mathlib.Core.Path.{_≡_};
-ghost use Rattle.oatmarten.specs.Inputs.{as-counts, as-placement, as-point};
+ghost use Rattle.oatmarten.specs.Inputs.{as-counts, as-manner, as-placement, as-point};
 ghost use Rattle.oatmarten.specs.SightCalls.{flat-found, unblocked, flat-sight, FlatLooksUp, FlatSees};
 use crate::faces::face_code;
 use crate::inputs::OatCounts;
+use crate::inputs::OatManner;
 use crate::inputs::OatPlacement;
 use crate::inputs::OatPoint;
 use crate::inputs::counts;
+use crate::inputs::manner;
 use crate::inputs::placement;
 use crate::inputs::point;
 use crate::refusals::ACCEPTED;
@@ -127,12 +129,13 @@ pub extern "C" fn oat_sight(
     at: OatPlacement,
     camera: OatPoint,
     ball: OatPoint,
+    how: OatManner,
 ) -> OatSight
-    ensures { λ r. ⌜ FlatSees (as-counts n) (now (cells .entry)) (as-placement at) (as-point camera) (as-point ball) r ⌝ }
+    ensures { λ r. ⌜ FlatSees (as-manner how) (as-counts n) (now (cells .entry)) (as-placement at) (as-point camera) (as-point ball) r ⌝ }
 {
     let grid = counts(n);
     let place = placement(at);
     let from = point(camera);
     let to = point(ball);
-    flat_sight(sight::see(grid, cells, place, from, to))
+    flat_sight(sight::see(grid, cells, place, from, to, manner(how)))
 }

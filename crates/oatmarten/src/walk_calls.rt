@@ -1,13 +1,15 @@
 // The first-hit calls for C.
 ghost use mathlib.Core.Path.{_≡_};
 ghost use Rattle.walks.specs.declared.Walker.the-variants.{Plain, Adaptive};
-ghost use Rattle.oatmarten.specs.Inputs.{as-cell, as-counts};
+ghost use Rattle.oatmarten.specs.Inputs.{as-cell, as-counts, as-manner};
 ghost use Rattle.oatmarten.specs.WalkCalls.{no-hit, flat-hit, FlatFinds};
 use crate::faces::face_code;
 use crate::inputs::OatCell;
 use crate::inputs::OatCounts;
+use crate::inputs::OatManner;
 use crate::inputs::cell;
 use crate::inputs::counts;
+use crate::inputs::manner;
 use crate::refusals::ACCEPTED;
 use crate::refusals::OatSaid;
 use crate::refusals::flatten;
@@ -79,22 +81,34 @@ fn flat_hit(h: FirstHit) -> OatHit
 
 // The first solid cell of the plain walk.
 #[no_mangle]
-pub extern "C" fn oat_plain(n: OatCounts, cells: &[u8], p: OatCell, q: OatCell) -> OatHit
-    ensures { λ r. ⌜ FlatFinds Plain (as-counts n) (now (cells .entry)) (as-cell p) (as-cell q) r ⌝ }
+pub extern "C" fn oat_plain(
+    n: OatCounts,
+    cells: &[u8],
+    p: OatCell,
+    q: OatCell,
+    how: OatManner,
+) -> OatHit
+    ensures { λ r. ⌜ FlatFinds Plain (as-manner how) (as-counts n) (now (cells .entry)) (as-cell p) (as-cell q) r ⌝ }
 {
     let grid = counts(n);
     let from = cell(p);
     let to = cell(q);
-    flat_hit(hits::first_plain(grid, cells, from, to))
+    flat_hit(hits::first_plain(grid, cells, from, to, manner(how)))
 }
 
 // The first solid cell of the adaptive walk.
 #[no_mangle]
-pub extern "C" fn oat_adaptive(n: OatCounts, cells: &[u8], p: OatCell, q: OatCell) -> OatHit
-    ensures { λ r. ⌜ FlatFinds Adaptive (as-counts n) (now (cells .entry)) (as-cell p) (as-cell q) r ⌝ }
+pub extern "C" fn oat_adaptive(
+    n: OatCounts,
+    cells: &[u8],
+    p: OatCell,
+    q: OatCell,
+    how: OatManner,
+) -> OatHit
+    ensures { λ r. ⌜ FlatFinds Adaptive (as-manner how) (as-counts n) (now (cells .entry)) (as-cell p) (as-cell q) r ⌝ }
 {
     let grid = counts(n);
     let from = cell(p);
     let to = cell(q);
-    flat_hit(hits::first_adaptive(grid, cells, from, to))
+    flat_hit(hits::first_adaptive(grid, cells, from, to, manner(how)))
 }

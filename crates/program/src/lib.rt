@@ -8,7 +8,9 @@ ghost use Rattle.program.specs.Program.{beyond, venue-refused, venue-sai
 ghost use Rattle.program.specs.Program.{answers, walk-lines, said-of-pair, pair-said, text-room, Says, Follows};
 use cells::Cell;
 use cells::Counts;
+use cells::Manner;
 use cells::Refusal;
+use cells::Start;
 use cells::Verdict;
 use records::Pair;
 use records::PairRead;
@@ -122,13 +124,24 @@ fn walk_line(text: &mut [u8], at: usize, k: u64, letter: u8, a: FirstHit) -> usi
     }
 }
 
+// How the program's walks are made: the camera's own cell is tested, as it always was here.
+const MANNER: Manner = Manner {
+    start: Start::Tested,
+};
+
 // A line for each walk between two cells, one behind the other.
 fn walk_lines(n: Counts, cells: &[u8], k: u64, p: Cell, q: Cell, text: &mut [u8]) -> usize
     requires { ⌜ text-room ≤ length (now text) ⌝ }
     ensures { λ r. ⌜ Puts (walk-lines k (answers n (now (cells .entry)) p q)) 0 (now (text .entry)) r (now (text .exit)) ⌝ }
 {
-    let plain = walk_line(text, 0, k, b'P', hits::first_plain(n, cells, p, q));
-    walk_line(text, plain, k, b'A', hits::first_adaptive(n, cells, p, q))
+    let plain = walk_line(text, 0, k, b'P', hits::first_plain(n, cells, p, q, MANNER));
+    walk_line(
+        text,
+        plain,
+        k,
+        b'A',
+        hits::first_adaptive(n, cells, p, q, MANNER),
+    )
 }
 
 // The walks between the ends of a pair.

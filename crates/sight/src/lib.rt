@@ -14,6 +14,7 @@ use cells::Cell;
 use cells::Counts;
 use cells::End;
 use cells::Face;
+use cells::Manner;
 use cells::Refusal;
 use cells::Verdict;
 use survey::Lookup;
@@ -68,19 +69,19 @@ fn sight_of(h: FirstHit) -> Sight
 
 // The adaptive walk between two cells that were looked up: they lie in the grid, so its tests are passed. It is made from its pieces: one function
 // shared with the adaptive call would be compiled apart, and the answer would go through memory once more.
-fn walked(n: Counts, cells: &[u8], p: Cell, q: Cell) -> FirstHit
+fn walked(n: Counts, cells: &[u8], p: Cell, q: Cell, how: Manner) -> FirstHit
     requires { ⌜ walk-check n (length (now cells)) p q ≡ Fine ⌝ }
-    ensures { λ r. ⌜ Finds Adaptive n (now (cells .entry)) p q r ⌝ }
+    ensures { λ r. ⌜ Finds Adaptive how n (now (cells .entry)) p q r ⌝ }
 {
     let k = routes::route_of(n, p, q);
-    let stop = hits::walk_adaptive(cells, k, routes::first_spot(k));
-    hits::answer_of(cells, k, stop)
+    let stop = hits::walk_adaptive(cells, k, routes::first_spot(k), how);
+    hits::answer_of(cells, k, stop, how)
 }
 
 // Where shape and placement passed their tests: the camera's refusal first, then the ball's.
-fn look(n: Counts, cells: &[u8], at: Placement, camera: Point, ball: Point) -> Sight
+fn look(n: Counts, cells: &[u8], at: Placement, camera: Point, ball: Point, how: Manner) -> Sight
     requires { ⌜ (shape n (length (now cells)) ≡ Fine) × Tested n at ⌝ }
-    ensures { λ r. ⌜ r ≡ looked n (now (cells .entry)) at camera ball ⌝ }
+    ensures { λ r. ⌜ r ≡ looked how n (now (cells .entry)) at camera ball ⌝ }
 {
     let from = survey::look_up(End::P, n, at, camera);
     let Lookup::Cell(p) = from else {
@@ -96,26 +97,33 @@ fn look(n: Counts, cells: &[u8], at: Placement, camera: Point, ball: Point) -> S
             Lookup::Cell(_) => Sight::Refused(Refusal::NotFinite(End::Q, Axis::X)), // nor here
         };
     };
-    sight_of(walked(n, cells, p, q))
+    sight_of(walked(n, cells, p, q, how))
 }
 
 // Where the shape passed its test: refusal 7, then the lookups.
-fn look_from(n: Counts, cells: &[u8], at: Placement, camera: Point, ball: Point) -> Sight
+fn look_from(
+    n: Counts,
+    cells: &[u8],
+    at: Placement,
+    camera: Point,
+    ball: Point,
+    how: Manner,
+) -> Sight
     requires { ⌜ shape n (length (now cells)) ≡ Fine ⌝ }
-    ensures { λ r. ⌜ r ≡ by-verdict Sight.Refused (looked n (now (cells .entry)) at camera ball) (placement-check at) ⌝ }
+    ensures { λ r. ⌜ r ≡ by-verdict Sight.Refused (looked how n (now (cells .entry)) at camera ball) (placement-check at) ⌝ }
 {
     match survey::check_placement(at) {
         Verdict::Refused(r) => Sight::Refused(r),
-        Verdict::Fine => look(n, cells, at, camera, ball),
+        Verdict::Fine => look(n, cells, at, camera, ball, how),
     }
 }
 
 // Whether anything is in the way from the camera to the ball.
-pub fn see(n: Counts, cells: &[u8], at: Placement, camera: Point, ball: Point) -> Sight
-    ensures { λ r. ⌜ Sees n (now (cells .entry)) at camera ball r ⌝ }
+pub fn see(n: Counts, cells: &[u8], at: Placement, camera: Point, ball: Point, how: Manner) -> Sight
+    ensures { λ r. ⌜ Sees how n (now (cells .entry)) at camera ball r ⌝ }
 {
     match grids::shape(n, cells.len()) {
         Verdict::Refused(r) => Sight::Refused(r),
-        Verdict::Fine => look_from(n, cells, at, camera, ball),
+        Verdict::Fine => look_from(n, cells, at, camera, ball, how),
     }
 }

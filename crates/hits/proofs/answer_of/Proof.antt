@@ -1,13 +1,17 @@
 -- `hits::answer_of` meets its contract: clear where the byte is not solid, else a hit with the cell of that byte. Assumes nothing.
-use mathlib.Core.Path.{_≡_, sym, ap, _∙_}
+use mathlib.Core.Path.{_≡_, refl, sym, ap, _∙_}
+use mathlib.Core.Bool.{Bool, true, false, not, _&&_, _||_}
 use Prim.Native.Nat.{_<_}
 use native.Mathlib.Nat.{lt-of-lt-of-le}
 use native.Mathlib.Omega.{arith}
+use lib.Dec.{eqb}
 use lib.IntN.{natAbs}
 use lib.ListN.{length}
 use borrow.Author.Needs.{needs}
 use borrow.Author.Tests.{not-true, not-false}
+use Rattle.cells.specs.Manners.{is-tested}
 use Rattle.cells.proofs.Machine.{held}
+use Rattle.lines.specs.Steps.{total}
 use Rattle.lines.specs.Lines.{differences}
 use Rattle.tripod.specs.Tripod.{steps}
 use Rattle.grids.specs.Grid.{solid, cell-at}
@@ -63,19 +67,52 @@ measured-requires c κs =
     let s = c .before .before .before .before .before .before .before .before in
     (p-limit _ _ (s .pre .0), rw (cell-is c) (byte-limit (s .args .k .n) _ (s .pre .0 .shaped) (natAbs (s .args .r .spot .at)) (has-byte s)))
 
-place-after-requires : tie.Need-place-after-requires
-place-after-requires c κs = search needs
+is-passed-requires : tie.Need-is-passed-requires
+is-passed-requires c κs = search needs
+
+-- the steps from P to it
+made-is : (c : tie.After-measured) → let s = c .before .before .before .before .before .before .before .before .before in steps (c .measured .result) ≡
+    differences (s .args .k .p) (cell-at (s .args .k .n) (natAbs (s .args .r .spot .at)))
+made-is c = let s = c .before .before .before .before .before .before .before .before .before in c .measured .ensures .0 ∙ ap
+    (differences (s .args .k .p)) (cell-is (c .before))
+
+-- what the test of P answered
+passed-is : (c : tie.After-is-passed) →
+    let s = c .before .before .before .before .before .before .before .before .before .before in
+    (is-tested (s .args .how .start) || not (eqb (total (differences (s .args .k .p) (cell-at (s .args .k .n) (natAbs (s .args .r .spot .at))))) 0))
+    ≡ not (c .is-passed .result)
+passed-is c =
+    let s = c .before .before .before .before .before .before .before .before .before .before in
+    turned (is-tested (s .args .how .start)) _
+    ∙ ap not (sym (c .is-passed .ensures ∙ ap (λ t. not (is-tested (s .args .how .start)) && eqb (total t) 0) (made-is (c .before))))
+  where
+    turned : (t z : Bool) → (t || not z) ≡ not (not t && z)
+    turned true z = refl
+    turned false z = refl
 
 returns-2 : tie.Need-returns-2
 unfolding answer-from
 returns-2 c =
-    let s = c .before .before .before .before .before .before .before .before .before .before in
-    let m = c .before .measured .ensures .0 ∙ ap (differences (s .args .k .p)) (cell-is (c .before .before)) in
-    let place = c .place-after .ensures ∙ ap (entered (s .args .k .p) (s .args .k .q) (steps (s .args .k .d))) m in
-    rw (solid-is (c .before .before .before .before .before .before) ∙ not-false _ (c .before .before .before .before .before .if1 .left))
+    let p = c .before in
+    rw (solid-is (p .before .before .before .before .before .before) ∙ not-false _ (p .before .before .before .before .before .if1 .left), passed-is p, c .if2 .taken)
+
+place-after-requires : tie.Need-place-after-requires
+place-after-requires c κs = search needs
+
+returns-3 : tie.Need-returns-3
+unfolding answer-from
+returns-3 c =
+    let p = c .before .before in
+    let s = p .before .before .before .before .before .before .before .before .before .before in
+    let place = c .place-after .ensures ∙ ap (entered (s .args .k .p) (s .args .k .q) (steps (s .args .k .d))) (made-is (p .before)) in
+    rw (
+      solid-is (p .before .before .before .before .before .before) ∙ not-false _ (p .before .before .before .before .before .if1 .left),
+      passed-is p,
+      c .before .if2 .left,
+    )
     (λ i. FirstHit.Hit (record {
-      cell = cell-is (c .before .before) i;
-      code = c .before .before .before .before .before .before .before .byte-at .ensures i;
+      cell = cell-is (p .before .before) i;
+      code = p .before .before .before .before .before .before .before .byte-at .ensures i;
       place = place i;
       reads = s .args .r .reads;
     }))
@@ -90,5 +127,7 @@ answer-of-spec =
     cast-cell-at
     cell-at-requires
     measured-requires
+    is-passed-requires
+    returns-2
     place-after-requires
-    returns-2)
+    returns-3)

@@ -13,7 +13,7 @@ use Rattle.hits.proofs.near_turn.Tie as tie
 long-moves-requires : tie.Need-long-moves-requires
 long-moves-requires c κs =
     let (g, near) = c .before .before .before .pre in
-    (turn-small _ _ _ _ _ _ g, g .plan .short, g .long)
+    (turn-small _ _ _ _ _ _ _ g, g .plan .short, g .long)
 
 -- the moves, of the ends' own differences
 moves : (c : tie.After-long-moves) → let s = c .before .before .before .before in LongMoves (differences (s .args .k .p) (s .args .k .q))
@@ -24,22 +24,24 @@ moves c = let s = c .before .before .before .before in subst (λ E. LongMoves E 
 faces-of-requires : tie.Need-faces-of-requires
 faces-of-requires c κs = search needs
 
-walk-faces-requires : tie.Need-walk-faces-requires
-walk-faces-requires c κs =
+walk-from-requires : tie.Need-walk-from-requires
+walk-from-requires c κs =
     let s = c .before .before .before .before .before in
     let (g, near) = s .pre in
     let l = s .args .cells .now in (
       g .plan,
-      subst (CanWalk l (s .args .k) (s .args .s) (s .args .reads)) (sym (c .faces-of .ensures))
+      subst (CanWalk l (s .args .k) (s .args .tested) (s .args .s) (s .args .reads)) (sym (c .faces-of .ensures))
           (record {
+            how = g .how;
             next = going l (s .args .k) Adaptive;
             from = _;
-            crossing = near-faces _ (s .args .k) (g .plan) l (s .args .left) (s .args .s) (s .args .reads) (g .at) _ (moves (c .before)) near;
+            crossing =
+                near-faces (g .how) _ (s .args .k) (g .plan) l (s .args .tested) (s .args .left) (s .args .s) (s .args .reads) (g .at) _ (moves (c .before)) near;
           }),
     )
 
-sub-t11 : tie.Need-sub-t11
-sub-t11 c = omega (arith, c .before .before .before .before .before .before .before .pre .0 .at .some)
+sub-t12 : tie.Need-sub-t12
+sub-t12 c = omega (arith, c .before .before .before .before .before .before .before .pre .0 .at .some)
 
 returns : tie.Need-returns
 returns c =
@@ -48,13 +50,14 @@ returns c =
     let l = s .args .cells .now in
     record {
       fewer = omega (arith, g .at .some);
-      came =
-          near-turn _ (s .args .k) (g .plan) l (s .args .left) (s .args .s) (s .args .reads) (g .at) _ (moves (c .before .before .before))
-          (c .before .walk-faces .result) near
-          (subst (λ f. Walked l (s .args .k) (s .args .s) (s .args .reads) f (c .before .walk-faces .result)) (c .before .before .faces-of .ensures)
-          (c .before .walk-faces .ensures));
+      outcome = λ how at.
+          near-turn how _ (s .args .k) (g .plan) l (s .args .tested) (s .args .left) (s .args .s) (s .args .reads) at _ (moves (c .before .before .before))
+          (c .before .walk-from .result) near
+          (subst (λ f. Walked l (s .args .k) (s .args .tested) (s .args .s) (s .args .reads) f (c .before .walk-from .result))
+          (c .before .before .faces-of .ensures)
+          (c .before .walk-from .ensures));
     }
 
 pub near-turn-spec : {M : Type 1} → statement M
 near-turn-spec =
-    tie.close (tie.spec long-moves-requires faces-of-requires walk-faces-requires sub-t11 returns)
+    tie.close (tie.spec long-moves-requires faces-of-requires walk-from-requires sub-t12 returns)

@@ -5,7 +5,7 @@ use Rattle.hits.proofs.next_26.Statement.{statement}
 use Rattle.hits.proofs.next_26.Tie as tie
 
 byte-at-requires : tie.Need-byte-at-requires
-byte-at-requires c κs = turn-byte _ _ _ _ _ _ (c .before .pre .0)
+byte-at-requires c κs = turn-byte _ _ _ _ _ _ _ (c .before .pre .0)
 
 run-on-requires : tie.Need-run-on-requires
 run-on-requires c κs =

@@ -1,25 +1,25 @@
--- `hits::walk_adaptive` meets its contract: the invariant: the walk is at the cell of the 26-line from which t.left long steps are left; a turn leads
--- it to a later one, or stops it. The measure is how many are left. Assumes nothing.
-use mathlib.Core.Path.{_≡_, sym, ap, _∙_, subst}
-use Prim.Native.Nat.{_≤_}
+-- `hits::walk_adaptive` meets its contract: the invariant: whichever walk set out so, it is at the cell of the 26-line from which t.left long steps are
+-- left; a turn leads it to a later one, or stops it. The measure is how many are left. Assumes nothing.
+use mathlib.Core.Path.{_≡_, sym, ap, _∙_}
+use mathlib.Core.Bool.{true, false}
 use native.Mathlib.Omega.{arith}
 use borrow.Author.Needs.{needs}
+use Rattle.cells.specs.declared.Manner.{Manner}
 use Rattle.lines.specs.Steps.{X, Y, Z}
 use Rattle.lines.specs.Lines.{differences, longest, number-26}
 use Rattle.walks.specs.declared.Walker.the-variants.{Adaptive}
 use Rattle.runs.specs.Run.{cell-left}
 use Rattle.runs.proofs.Along.{route-small}
-use Rattle.hits.specs.Found.{going, Walking, CanGo}
+use Rattle.hits.specs.Found.{going, Walking, At26, Came}
 use Rattle.routes.proofs.Spots.{short-at}
-use Rattle.hits.proofs.Walking.{walk-starts, at-end}
-use Rattle.hits.proofs.Turns.{turn-stopped, turn-walking, first-26, last-26}
+use Rattle.hits.proofs.Walking.{at-end}
+use Rattle.hits.proofs.Turns.{turn-stopped, turn-walking, last-26}
+use Rattle.hits.proofs.Starting.{turn-begins, turn-came}
 use Rattle.hits.proofs.walk_adaptive.Statement.{statement}
 use Rattle.hits.proofs.walk_adaptive.Tie as tie
 
 abbrev Inv-loop : tie.InvT-loop
-Inv-loop cells k long h t₀ t =
-    (t .left ≤ longest (differences (k .p) (k .q)))
-    × Walking cells k (going cells k Adaptive) (number-26 (k .p) (k .q) (cell-left k (t .left))) (t .reads) (t .spot)
+Inv-loop cells k long h t₀ t = (t .hit ≡ false) × ((how : Manner) → Came how cells k t₀ → Came how cells k t)
 
 abbrev μ-loop : tie.MeasureT-loop
 μ-loop cells k long h t₀ t = t .left
@@ -33,57 +33,87 @@ run-route-of-requires c κs = let s = c .before .before .before in route-small _
 along-requires : tie.Need-along-requires Inv-loop μ-loop
 along-requires c κs = search needs
 
--- at the start all are left
-all-left : (c : tie.After-along Inv-loop μ-loop) →
-    let k = c .before .before .before .before .before .args .k in
-    c .along .result ≡ longest (differences (k .p) (k .q))
-all-left c = c .along .ensures ∙ c .before .before .longest-axis .ensures ∙ ap longest (c .before .before .before .before .before .pre .0 .is)
-
-loop-holds : tie.Need-loop-holds Inv-loop μ-loop
-loop-holds c =
+set-out-requires : tie.Need-set-out-requires Inv-loop μ-loop
+set-out-requires c κs =
     let s = c .before .before .before .before .before in
-    let l = s .args .cells .now in
-    let k = s .args .k in
-    let none-made : cell-left k (c .along .result) ≡ 0 = omega (arith, all-left c) in (
-      omega (arith, all-left c),
-      subst (λ j. Walking l k (going l k Adaptive) j 0 (s .args .start)) (sym (ap (number-26 (k .p) (k .q)) none-made ∙ first-26 _ k (s .pre .0) l))
-          (walk-starts _ k (s .pre .0) l (going l k Adaptive) (s .args .start) (s .pre .1)),
-    )
-
--- at a cell of the 26-line that is not the last
-here : (c : tie.Then1 Inv-loop μ-loop) →
-    let a = c .before .before in
-    let s = a .before .before .before .before .before .before in
-    CanGo (s .args .cells .now) (s .args .k) (a .before .before .before .longest-axis .result) (a .loop .t .spot) (a .loop .t .reads) (a .loop .t .left)
-here c =
-    let a = c .before .before in
-    let s = a .before .before .before .before .before .before in
-    record {
-      plan = s .pre .0;
-      long = a .before .before .before .longest-axis .ensures;
-      at = record { some = omega (arith, c .if1 .taken); most = a .loop .inv .0; walking = a .loop .inv .1 };
-    }
-
-next-26-requires : tie.Need-next-26-requires Inv-loop μ-loop
-next-26-requires c κs = (here c, c .before .before .before .before .run-route-of .ensures)
+    let longest-is = c .before .before .longest-axis .ensures in
+    (s .pre .0, s .pre .1, c .along .ensures ∙ longest-is, sym (c .along .ensures))
 
 returns : tie.Need-returns Inv-loop μ-loop
-returns c = turn-stopped (c .before .before .next-26 .ensures) (c .before .if2 .taken)
+returns c =
+    let a = c .before .before in
+    let s = a .before .before .before .before .before .before in
+    turn-stopped (s .args .how) (s .args .cells .now) (s .args .k) (a .set-out .result) (a .set-out .ensures .outcome) (c .before .if1 .taken)
+
+loop-holds : tie.Need-loop-holds Inv-loop μ-loop
+loop-holds c = (c .if1 .left, λ how came. came)
+
+-- where the call's own walk is
+came : (c : tie.At-loop Inv-loop μ-loop) →
+    let a = c .before .before .before .before .before .before .before .before .args in
+    Came (a .how) (a .cells .now) (a .k) (c .loop .t)
+came c =
+    let a = c .before .before .before .before .before .before .before .before .args in
+    c .loop .inv .1 (a .how) (c .before .before .set-out .ensures)
+
+-- at a cell of the 26-line that is not the last, whichever walk came there
+here : (c : tie.Then2 Inv-loop μ-loop) →
+    let a = c .before .before in
+    let g = a .before .before .before .before .before .before .before .before .args in
+    (how : Manner) → Came how (g .cells .now) (g .k) (a .loop .t) → At26 how (g .cells .now) (g .k) true (a .loop .t .spot) (a .loop .t .reads) (a .loop .t .left)
+here c how came =
+    let a = c .before .before in
+    let g = a .before .before .before .before .before .before .before .before .args in
+    turn-begins how (g .cells .now) (g .k) (a .loop .t) came (a .loop .inv .0) (omega (arith, c .if2 .taken))
+
+next-26-requires : tie.Need-next-26-requires Inv-loop μ-loop
+next-26-requires c κs =
+    let a = c .before .before in
+    let s = a .before .before .before .before .before .before .before .before in (
+      record {
+        plan = s .pre .0;
+        long = a .before .before .before .before .before .longest-axis .ensures;
+        how = s .args .how;
+        at = here c (s .args .how) (came a);
+      },
+      a .before .before .before .before .run-route-of .ensures,
+    )
+
+returns-2 : tie.Need-returns-2 Inv-loop μ-loop
+returns-2 c =
+    let r = c .before .before in
+    let a = r .before .before .before in
+    let g = a .before .before .before .before .before .before .before .before .args in
+    turn-stopped (g .how) (g .cells .now) (g .k) (r .next-26 .result) (r .next-26 .ensures .outcome (g .how) (here (r .before) (g .how) (came a)))
+    (c .before .if3 .taken)
 
 loop-less : tie.Need-loop-less Inv-loop μ-loop
 loop-less c = omega (arith, c .before .next-26 .ensures .fewer)
 
 loop-again : tie.Need-loop-again Inv-loop μ-loop
 loop-again c =
-    let a = c .before .before .before .before in
-    let r = c .before .next-26 .ensures in
-    (omega (arith, r .fewer, a .loop .inv .0), turn-walking r (c .if2 .left))
+    let r = c .before in
+    let s = r .before .before .before .before .before .before .before .before .before .before .before in (
+      c .if3 .left,
+      λ how set-out.
+          turn-came how (s .args .cells .now) (s .args .k) (s .pre .0) true _ _ _ (r .next-26 .result) (r .next-26 .ensures)
+          (here (r .before) how (r .before .before .before .loop .inv .1 how set-out)),
+    )
 
-add-t10 : tie.Need-add-t10 Inv-loop μ-loop
-add-t10 c =
+-- it goes on to the loop's end
+walking : (c : tie.At-loop Inv-loop μ-loop) →
+    let a = c .before .before .before .before .before .before .before .before .args in
+    Walking (a .how) (a .cells .now) (a .k) (going (a .cells .now) (a .k) Adaptive) (number-26 (a .k .p) (a .k .q) (cell-left (a .k) (c .loop .t .left)))
+    (c .loop .t .reads) (c .loop .t .spot)
+walking c =
+    let a = c .before .before .before .before .before .before .before .before .args in
+    turn-walking (a .how) (a .cells .now) (a .k) (c .loop .t) (came c .outcome) (c .loop .inv .0)
+
+add-t12 : tie.Need-add-t12 Inv-loop μ-loop
+add-t12 c =
     let a = c .before .before .before .before in
-    let s = a .before .before .before .before .before .before in
-    let w = a .loop .inv .1 in
+    let s = a .before .before .before .before .before .before .before .before in
+    let w = walking a in
     record {
       fits = omega (
         arith,
@@ -95,14 +125,14 @@ add-t10 c =
       );
     }
 
-returns-2 : tie.Need-returns-2 Inv-loop μ-loop
-returns-2 c =
+returns-3 : tie.Need-returns-3 Inv-loop μ-loop
+returns-3 c =
     let a = c .before .before .before .before in
-    let s = a .before .before .before .before .before .before in
+    let s = a .before .before .before .before .before .before .before .before in
     let k = s .args .k in
-    let all-made : cell-left k (a .loop .t .left) ≡ longest (differences (k .p) (k .q)) = omega (arith, c .before .before .if1 .left) in
-    at-end _ k (s .pre .0) (s .args .cells .now) _ _ _ _ (a .loop .inv .1)
-    (ap (number-26 (k .p) (k .q)) all-made ∙ last-26 _ k (s .pre .0) (s .args .cells .now))
+    let all-made : cell-left k (a .loop .t .left) ≡ longest (differences (k .p) (k .q)) = omega (arith, c .before .before .if2 .left) in
+    at-end (s .args .how) _ k (s .pre .0) (s .args .cells .now) _ _ _ _ (walking a)
+    (ap (number-26 (k .p) (k .q)) all-made ∙ last-26 (s .args .how) _ k (s .pre .0) (s .args .cells .now))
 
 pub walk-adaptive-spec : {M : Type 1} → statement M
 walk-adaptive-spec =
@@ -113,10 +143,12 @@ walk-adaptive-spec =
     longest-axis-requires
     run-route-of-requires
     along-requires
+    set-out-requires
+    returns
     loop-holds
     next-26-requires
-    returns
+    returns-2
     loop-less
     loop-again
-    add-t10
-    returns-2)
+    add-t12
+    returns-3)

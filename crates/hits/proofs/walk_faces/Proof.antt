@@ -22,8 +22,8 @@ abbrev μ-loop : tie.MeasureT-loop
 -- a walk of which these are faces
 followed : (c : tie.At-loop Inv-loop μ-loop) →
     let s = c .before .before in
-    Walking (s .args .cells .now) (s .args .k) (s .pre .1 .next) (s .pre .1 .from + c .loop .j) (s .args .reads + c .loop .j) (c .loop .s)
-followed c = let w = c .before .before .pre .1 in c .loop .inv .follows (w .next) (w .from) (w .crossing)
+    Walking (s .pre .1 .how) (s .args .cells .now) (s .args .k) (s .pre .1 .next) (s .pre .1 .from + c .loop .j) (s .args .reads + c .loop .j) (c .loop .s)
+followed c = let w = c .before .before .pre .1 in c .loop .inv .follows (w .how) (w .next) (w .from) (w .crossing)
 
 -- how many cells were read, at most
 few : (c : tie.At-loop Inv-loop μ-loop) → c .before .before .args .reads + c .loop .j ≤ 49149
@@ -61,7 +61,7 @@ returns c =
     let l = c .before .before .before .before in
     let s = l .before .before in
     hit-face _ (s .args .k) (s .pre .0) (s .args .cells .now) (s .args .start) (s .args .reads) (s .args .faces) (l .loop .j) _ (l .loop .inv)
-    (tested (c .before) ∙ c .if1 .taken)
+    (c .before .before .before .loop-test .taken) (tested (c .before) ∙ c .if1 .taken)
 
 next-face-requires : tie.Need-next-face-requires Inv-loop μ-loop
 next-face-requires c κs = search needs
