@@ -2,7 +2,7 @@
 use Prim.Native.Nat.{ℕ, zero, suc, _+_, _-_, _*_, _≤_, _<_}
 use mathlib.Core.Path.{_≡_, refl, sym, ap, ap₂, _∙_, subst, subst₂}
 use mathlib.Core.Bool.{Bool, true, false, cond, _||_}
-use mathlib.Core.Logic.{⊎-elim, _⊎_, _↔_}
+use mathlib.Core.Logic.{⊎-elim, _⊎_, inl, inr, _↔_}
 use mathlib.Core.List.{List, [], _∷_}
 use native.Mathlib.Omega.{arith}
 use native.Mathlib.Numerals.{add-one}
@@ -13,10 +13,14 @@ use Rattle.cells.specs.declared.Cell.{Cell}
 use Rattle.cells.specs.declared.Counts.{Counts}
 use Rattle.cells.specs.declared.Face.{Face}
 use Rattle.cells.specs.declared.Face.the-variants as Face
+use Rattle.cells.specs.declared.Manner.{Manner}
+use Rattle.cells.specs.declared.Refusal.{Refusal}
+use Rattle.cells.specs.declared.Start.the-variants.{Tested}
 use Rattle.cells.specs.declared.Verdict.{Verdict}
 use Rattle.cells.specs.declared.Verdict.the-variants as Verdict
 use Rattle.cells.specs.Checks.{by-verdict}
 use Rattle.cells.specs.Faces.{back-across}
+use Rattle.cells.specs.Manners.{is-tested, usual}
 use Rattle.cells.proofs.Signed.{up}
 use Rattle.lines.specs.Steps.{X, Y, Z, total}
 use Rattle.lines.specs.Preference.{rule-1}
@@ -33,25 +37,27 @@ use Rattle.walks.specs.declared.Hit.{Hit}
 use Rattle.walks.specs.declared.FirstHit.{FirstHit}
 use Rattle.walks.specs.declared.FirstHit.the-variants as FirstHit
 use Rattle.walks.specs.Walks.{is-cell, hit-at, six-count, next-adaptive, next-cell, walk, walk-of}
-use Rattle.walks.specs.Answers.{entered-at, first-hit}
+use Rattle.walks.specs.Answers.{entered-at, first-hit, Finds}
 use Rattle.grids.specs.Inside.{walk-check, InGrid}
 use Rattle.walks.proofs.Runs.{plain-first, by-one, visits-all}
-use Rattle.walks.specs.Numbers.{solid-at, end-of, reads-of, answer-at}
+use Rattle.walks.specs.Numbers.{hits-at, end-of, reads-of, answer-at}
 use Rattle.grids.proofs.Inside.{accepted}
 use Rattle.walks.proofs.Inside.{six-inside}
 use Rattle.walks.proofs.Find.{same-is-cell}
 use Rattle.walks.proofs.Safe.{complete-safe}
 use Rattle.walks.proofs.Numbers.{adaptive-next, Way, face, long, way}
+use Rattle.walks.proofs.Testing.{hit-solid, not-solid, tested-test, other-test, exempt-test}
+use Rattle.walks.proofs.Modes.{modes-alike, later-hit, equal-ends}
 use Rattle.walks.proofs.Long.{go-long, go-face}
-use Rattle.walks.proofs.Places.{enters, never-falls, face-is, some-face, face-leads-back, num-made}
+use Rattle.walks.proofs.Places.{enters, never-falls, num-is, face-is, some-face, face-leads-back, num-made}
 use Rattle.walks.proofs.Story.{first-hit-is, walk-stops, end-below, no-earlier, not-invented, ends-alike, reads-no-more}
 use Rattle.walks.proofs.Story.{plain-clear, plain-clear-reads, adaptive-clear-most, adaptive-clear-least}
 use Rattle.survey.proofs.Tests.{neither}
 use Rattle.oatmarten.specs.Faces.{face-number}
 use Rattle.claims.specs.Story.{SameStory, hits, clears, refusals, OneStory, NeverInvented, NothingInTheWay, Reads, WalksEnd}
 use Rattle.claims.specs.Story.{FirstSolid, HitInside, MarkedFirst, HitOnce, WrongWalks, OnTheLine, HitPlace, CameInBy, HitFace, StepByStep}
-use Rattle.claims.specs.Story.{AdaptiveStep, long-hit}
-use Rattle.claims.specs.Example.{at, example-counts, marked-cells}
+use Rattle.claims.specs.Story.{AdaptiveStep, StartTest, TwoStarts, WrongStarts, long-hit, solid-start, solid-ends}
+use Rattle.claims.specs.Example.{counts, at, example-counts, marked-cells}
 use Rattle.claims.proofs.Grids.{says-complete}
 
 -- what an answer carries
@@ -71,24 +77,33 @@ kind (FirstHit.Hit h) = 0
 kind (FirstHit.Clear r) = 1
 kind (FirstHit.Refused r) = 2
 
-module _ (n : Counts) (l : List ℕ) (p q : Cell) where
+module _ (how : Manner) (n : Counts) (l : List ℕ) (p q : Cell) where
   abbrev check : Verdict
   check = walk-check n (length l) p q
 
+  -- where a walk ends, and the answer there
+  abbrev E : Walker → ℕ
+  E w = end-of how n l p q w
+
+  abbrev answered : Walker → FirstHit
+  answered w = answer-at how n l p q (E w) (reads-of how n l p q w)
+
+  found : {w : Walker} {r : FirstHit} → Finds w how n l p q r → r ≡ by-verdict FirstHit.Refused (answered w) check
+  found {w} h = h .says ∙ first-hit-is how n l p q w
+
   -- where the marks are complete and the ends are in the grid, both walks end at the same number
-  alike : check ≡ Verdict.Fine → complete 3 n l ≡ true → end-of n l p q Adaptive ≡ end-of n l p q Plain
+  alike : check ≡ Verdict.Fine → complete 3 n l ≡ true → E Adaptive ≡ E Plain
   alike fine whole =
       let a = accepted n (length l) p q fine in
-      ends-alike n l p q 3 (omega arith) (a .p-in) (a .q-in) (complete-safe 3 n l (a .shaped) whole)
+      ends-alike how n l p q 3 (omega arith) (a .p-in) (a .q-in) (complete-safe 3 n l (a .shaped) whole)
 
   same-answers : complete 3 n l ≡ true → (v : Verdict) → check ≡ v →
-      SameStory (by-verdict FirstHit.Refused (answer-at n l p q (end-of n l p q Plain) (reads-of n l p q Plain)) v)
-      (by-verdict FirstHit.Refused (answer-at n l p q (end-of n l p q Adaptive) (reads-of n l p q Adaptive)) v)
+      SameStory (by-verdict FirstHit.Refused (answered Plain) v) (by-verdict FirstHit.Refused (answered Adaptive) v)
   same-answers whole (Verdict.Refused r) h = refusals
   same-answers whole Verdict.Fine h =
       let e = alike h whole in
-      subst (λ k. SameStory (answer-at n l p q (end-of n l p q Plain) (reads-of n l p q Plain)) (answer-at n l p q k (reads-of n l p q Adaptive))) (sym e)
-      (by (hit-at n l (six-cell rule-1 p q (end-of n l p q Plain))) _ _ _ (reads-no-more n l p q e))
+      subst (λ k. SameStory (answered Plain) (answer-at how n l p q k (reads-of how n l p q Adaptive))) (sym e)
+      (by (hits-at how n l p q (E Plain)) _ _ _ (reads-no-more how n l p q e))
     where
       by :
           (b : Bool) (c : Cell) (code : ℕ) (place : Place) {r s : ℕ} → s ≤ r →
@@ -97,77 +112,76 @@ module _ (n : Counts) (l : List ℕ) (p q : Cell) where
       by true c code place le = hits refl refl refl le
       by false c code place le = clears le
 
-  pub one-story : OneStory n l p q
-  one-story =
-      record {
-        story = λ whole rp ra hp ha.
-            subst₂ SameStory (sym (hp .says ∙ first-hit-is n l p q Plain)) (sym (ha .says ∙ first-hit-is n l p q Adaptive)) (same-answers whole check refl);
-      }
+  pub one-story : OneStory how n l p q
+  one-story = record { story = λ whole rp ra hp ha. subst₂ SameStory (sym (found hp)) (sym (found ha)) (same-answers whole check refl) }
 
   -- ---- in any grid
 
+  -- the hit at number e, after r reads
+  abbrev hit-of : (e r : ℕ) → Hit
+  hit-of e r = record { cell = six-cell rule-1 p q e; code = byte-of n l (six-cell rule-1 p q e); place = entered-at p q e; reads = r }
+
   -- an answer that is a hit is the hit at the walk's end
-  hit-told : (v : Verdict) (k : Hit) (e r : ℕ) → FirstHit.Hit k ≡ by-verdict FirstHit.Refused (answer-at n l p q e r) v →
-      (v ≡ Verdict.Fine) × (hit-at n l (six-cell rule-1 p q e) ≡ true) ×
-      (k ≡ record { cell = six-cell rule-1 p q e; code = byte-of n l (six-cell rule-1 p q e); place = entered-at p q e; reads = r })
+  hit-told : (v : Verdict) (k : Hit) (e r : ℕ) → FirstHit.Hit k ≡ by-verdict FirstHit.Refused (answer-at how n l p q e r) v →
+      (v ≡ Verdict.Fine) × (hits-at how n l p q e ≡ true) × (k ≡ hit-of e r)
   unfolding kind hit-or
   hit-told (Verdict.Refused x) k e r h = absurd (let z : _≡_ {A = ℕ} 0 2 = ap kind h in omega arith)
-  hit-told Verdict.Fine k e r h = by (hit-at n l (six-cell rule-1 p q e)) refl h
+  hit-told Verdict.Fine k e r h = by (hits-at how n l p q e) refl h
     where
-      there : Hit
-      there = record { cell = six-cell rule-1 p q e; code = byte-of n l (six-cell rule-1 p q e); place = entered-at p q e; reads = r }
-
-      by : (b : Bool) → hit-at n l (six-cell rule-1 p q e) ≡ b → FirstHit.Hit k ≡ cond b (FirstHit.Hit there) (FirstHit.Clear r) →
-          (Verdict.Fine ≡ Verdict.Fine) × (hit-at n l (six-cell rule-1 p q e) ≡ true) × (k ≡ there)
+      by : (b : Bool) → hits-at how n l p q e ≡ b → FirstHit.Hit k ≡ cond b (FirstHit.Hit (hit-of e r)) (FirstHit.Clear r) →
+          (Verdict.Fine ≡ Verdict.Fine) × (hits-at how n l p q e ≡ true) × (k ≡ hit-of e r)
       by true b h = (refl, b, ap (hit-or k) h)
       by false b h = absurd (let z : _≡_ {A = ℕ} 0 1 = ap kind h in omega arith)
 
+  hit-found : (w : Walker) (k : Hit) → Finds w how n l p q (FirstHit.Hit k) →
+      (check ≡ Verdict.Fine) × (hits-at how n l p q (E w) ≡ true) × (k ≡ hit-of (E w) (reads-of how n l p q w))
+  hit-found w k h = hit-told check k (E w) (reads-of how n l p q w) (found h)
+
   -- an answer that is clear is so at the walk's end
-  clear-told : (v : Verdict) (k e r : ℕ) → FirstHit.Clear k ≡ by-verdict FirstHit.Refused (answer-at n l p q e r) v →
-      (v ≡ Verdict.Fine) × (hit-at n l (six-cell rule-1 p q e) ≡ false) × (k ≡ r)
+  clear-told : (v : Verdict) (k e r : ℕ) → FirstHit.Clear k ≡ by-verdict FirstHit.Refused (answer-at how n l p q e r) v →
+      (v ≡ Verdict.Fine) × (hits-at how n l p q e ≡ false) × (k ≡ r)
   unfolding kind reads-or
   clear-told (Verdict.Refused x) k e r h = absurd (let z : _≡_ {A = ℕ} 1 2 = ap kind h in omega arith)
-  clear-told Verdict.Fine k e r h = by _ (hit-at n l (six-cell rule-1 p q e)) refl h
+  clear-told Verdict.Fine k e r h = by _ (hits-at how n l p q e) refl h
     where
       by :
-          (there : Hit) (b : Bool) → hit-at n l (six-cell rule-1 p q e) ≡ b → FirstHit.Clear k ≡ cond b (FirstHit.Hit there) (FirstHit.Clear r) →
-          (Verdict.Fine ≡ Verdict.Fine) × (hit-at n l (six-cell rule-1 p q e) ≡ false) × (k ≡ r)
+          (there : Hit) (b : Bool) → hits-at how n l p q e ≡ b → FirstHit.Clear k ≡ cond b (FirstHit.Hit there) (FirstHit.Clear r) →
+          (Verdict.Fine ≡ Verdict.Fine) × (hits-at how n l p q e ≡ false) × (k ≡ r)
       by there true b h = absurd (let z : _≡_ {A = ℕ} 1 0 = ap kind h in omega arith)
       by there false b h = (refl, b, ap (reads-or k) h)
 
-  inside-at : (h : Hit) (e r : ℕ) → e ≤ total (differences p q) → FirstHit.Hit h ≡ by-verdict FirstHit.Refused (answer-at n l p q e r) check →
-      InGrid n (h .cell)
-  inside-at h e r le is =
-      let (fine, hit, there) = hit-told check h e r is in
-      let a = accepted n (length l) p q fine in
-      subst (InGrid n) (sym (ap (λ k. k .cell) there)) (six-inside n p q (a .p-in) (a .q-in) e le)
+  clear-found : (w : Walker) (k : ℕ) → Finds w how n l p q (FirstHit.Clear k) →
+      (check ≡ Verdict.Fine) × (hits-at how n l p q (E w) ≡ false) × (k ≡ reads-of how n l p q w)
+  clear-found w k h = clear-told check k (E w) (reads-of how n l p q w) (found h)
 
-  pub hit-inside : HitInside n l p q
+  pub hit-inside : HitInside how n l p q
   hit-inside =
       record {
-        inside = λ w h a. inside-at h _ _ (end-below n l p q w) (a .says ∙ first-hit-is n l p q w);
+        inside = λ w h a.
+            let (fine, hit, there) = hit-found w h a in
+            let i = accepted n (length l) p q fine in
+            subst (InGrid n) (sym (ap (λ k. k .cell) there)) (six-inside n p q (i .p-in) (i .q-in) (E w) (end-below how n l p q w));
       }
 
-  pub hit-place : HitPlace n l p q
-  hit-place = record { there = λ w h a. at h (end-of n l p q w) (reads-of n l p q w) (end-below n l p q w) (a .says ∙ first-hit-is n l p q w) }
-    where
-      at : (h : Hit) (e r : ℕ) → e ≤ total (differences p q) → FirstHit.Hit h ≡ by-verdict FirstHit.Refused (answer-at n l p q e r) check →
-          (s : ℕ) × OnTheLine n l p q h s
-      at h e r le is =
-          let (fine, hit, there) = hit-told check h e r is in
-          let cell = ap (λ k. k .cell) there in
-          let code = ap (λ k. k .code) there in (
-            e,
-            record {
-              most = le;
-              cell = cell;
-              code = code ∙ ap (byte-of n l) (sym cell);
-              solid-there = ap solid code ∙ hit;
-              place = ap (λ k. k .place) there;
-            },
-          )
+  pub hit-place : HitPlace how n l p q
+  hit-place =
+      record {
+        there = λ w h a.
+            let (fine, hit, there) = hit-found w h a in
+            let cell = ap (λ k. k .cell) there in
+            let code = ap (λ k. k .code) there in (
+              E w,
+              record {
+                most = end-below how n l p q w;
+                cell = cell;
+                code = code ∙ ap (byte-of n l) (sym cell);
+                solid-there = ap solid code ∙ hit-solid how n l p q (E w) hit;
+                place = ap (λ k. k .place) there;
+              },
+            );
+      }
 
-  pub hit-face : HitFace n l p q
+  pub hit-face : HitFace how n l p q
   hit-face =
       record {
         none = λ w h a. let (s, on) = hit-place .there w h a in none-at h s (on .cell) (on .place);
@@ -197,84 +211,79 @@ module _ (n : Counts) (l : List ℕ) (p q : Cell) where
             },
           )
 
-  pub first-solid : FirstSolid n l p q
+  pub first-solid : FirstSolid how n l p q
   first-solid =
       record {
         hit = λ h a.
-            let (fine, hit, there) = hit-told check h (end-of n l p q Plain) (reads-of n l p q Plain) (a .says ∙ first-hit-is n l p q Plain) in (
-              end-of n l p q Plain,
+            let (fine, hit, there) = hit-found Plain h a in (
+              E Plain,
               record {
-                most = end-below n l p q Plain;
+                most = end-below how n l p q Plain;
                 cell = ap (λ k. k .cell) there;
-                solid-there = hit;
-                none-before = plain-first (solid-at n l p q) (total (differences p q)) suc (by-one (total (differences p q)));
+                hit-there = hit;
+                none-before = plain-first (hits-at how n l p q) (total (differences p q)) suc (by-one (total (differences p q)));
                 reads = omega (
                   arith,
                   ap (λ k. k .reads) there,
-                  visits-all (solid-at n l p q) (total (differences p q)) (six-count p q) 0 (omega arith) (omega arith),
+                  visits-all (hits-at how n l p q) (total (differences p q)) (six-count p q) 0 (omega arith) (omega arith),
                 );
               },
             );
         none = λ reads a.
-            let (fine, clear, there) = clear-told check reads (end-of n l p q Plain) (reads-of n l p q Plain) (a .says ∙ first-hit-is n l p q Plain) in
-            plain-clear n l p q clear;
+            let (fine, clear, many) = clear-found Plain reads a in
+            plain-clear how n l p q clear;
       }
 
-  pub never-invented : NeverInvented n l p q
+  pub never-invented : NeverInvented how n l p q
   never-invented =
       record {
         plain-too = λ k rp ha hp.
-            let (fine, hit, is) = hit-told check k (end-of n l p q Adaptive) (reads-of n l p q Adaptive) (ha .says ∙ first-hit-is n l p q Adaptive) in
-            let there : Hit = record {
-              cell = six-cell rule-1 p q (end-of n l p q Plain);
-              code = byte-of n l (six-cell rule-1 p q (end-of n l p q Plain));
-              place = entered-at p q (end-of n l p q Plain);
-              reads = reads-of n l p q Plain;
-            } in (
+            let (fine, hit, is) = hit-found Adaptive k ha in
+            let there : Hit = hit-of (E Plain) (reads-of how n l p q Plain) in (
               there,
-              hp .says ∙ first-hit-is n l p q Plain ∙ ap
-                  (by-verdict FirstHit.Refused (answer-at n l p q (end-of n l p q Plain) (reads-of n l p q Plain))) fine
-                  ∙ ap (λ b. cond b (FirstHit.Hit there) (FirstHit.Clear (reads-of n l p q Plain))) (not-invented n l p q hit),
+              found hp ∙ ap (by-verdict FirstHit.Refused (answered Plain)) fine
+                  ∙ ap (λ b. cond b (FirstHit.Hit there) (FirstHit.Clear (reads-of how n l p q Plain))) (not-invented how n l p q hit),
               subst (λ h. there .place .num * h .place .den ≤ h .place .num * there .place .den) (sym is)
-                  (never-falls p q (end-of n l p q Plain) (end-of n l p q Adaptive) (no-earlier n l p q) (end-below n l p q Adaptive)),
+                  (never-falls p q (E Plain) (E Adaptive) (no-earlier how n l p q) (end-below how n l p q Adaptive)),
               record {
-                of-c = end-of n l p q Plain;
-                of-d = end-of n l p q Adaptive;
+                of-c = E Plain;
+                of-d = E Adaptive;
                 c-is = refl;
                 d-is = ap (λ h. h .cell) is;
-                order = no-earlier n l p q;
-                most = end-below n l p q Adaptive;
+                order = no-earlier how n l p q;
+                most = end-below how n l p q Adaptive;
               },
             );
       }
 
   -- ---- clear
 
-  pub nothing-in-the-way : NothingInTheWay n l p q
+  pub nothing-in-the-way : NothingInTheWay how n l p q
   nothing-in-the-way =
       record {
-        open-way = λ whole reads ha k d c share inside.
-            let (fine, none, many) = clear-told check reads (end-of n l p q Adaptive) (reads-of n l p q Adaptive) (ha .says ∙ first-hit-is n l p q Adaptive) in
-            let free = subst (λ e. hit-at n l (six-cell rule-1 p q e) ≡ false) (alike fine whole) none in
+        open-way = λ whole reads ha k d c share inside tested.
+            let (fine, none, many) = clear-found Adaptive reads ha in
+            let free = subst (λ e. hits-at how n l p q e ≡ false) (alike fine whole) none in
             let (s, le, is) = six-misses-none rule-1 p q k d c share inside in
-            subst (λ w. hit-at n l w ≡ false) is (plain-clear n l p q free s le);
+            subst (λ w. solid (byte-of n l w) ≡ false) is
+            (not-solid how n l p q s (plain-clear how n l p q free s le) (λ e. ap is-tested (tested (sym is ∙ e))));
       }
 
-  pub reads-hold : Reads n l p q
+  pub reads-hold : Reads how n l p q
   reads-hold =
       record {
         plain = λ reads hp.
-            let (fine, none, many) = clear-told check reads (end-of n l p q Plain) (reads-of n l p q Plain) (hp .says ∙ first-hit-is n l p q Plain) in
-            many ∙ plain-clear-reads n l p q none;
+            let (fine, none, many) = clear-found Plain reads hp in
+            many ∙ plain-clear-reads how n l p q none;
         adaptive = λ reads ha.
-            let (fine, none, many) = clear-told check reads (end-of n l p q Adaptive) (reads-of n l p q Adaptive) (ha .says ∙ first-hit-is n l p q Adaptive) in
-            (omega (arith, adaptive-clear-least n l p q none), omega (arith, adaptive-clear-most n l p q none));
+            let (fine, none, many) = clear-found Adaptive reads ha in
+            (omega (arith, adaptive-clear-least how n l p q none), omega (arith, adaptive-clear-most how n l p q none));
       }
 
-  pub walks-end : WalksEnd n l p q
-  walks-end = record { ends = walk-stops n l p q }
+  pub walks-end : WalksEnd how n l p q
+  walks-end = record { ends = walk-stops how n l p q }
 
-  pub hit-once : HitOnce n l p q
+  pub hit-once : HitOnce how n l p q
   hit-once = record { once = λ w r s h k. h .says ∙ sym (k .says) }
 
 -- ---- step by step
@@ -290,7 +299,7 @@ module _ (hit : Cell → Bool) (next : Cell → Cell) (q d : Cell) where
   walk-starts zero w some = absurd (omega arith)
   walk-starts (suc fuel) w some = refl
 
-  -- at a cell that is not the last: neither solid nor Q, and what comes next
+  -- at a cell that is not the last: no hit and not Q, and what comes next
   Going : List Cell → ℕ → Type 0
   Going cells i = (hit (getD cells i d) ≡ false) × (is-cell (getD cells i d) q ≡ false) × (getD cells (suc i) d ≡ next (getD cells i d))
 
@@ -308,23 +317,24 @@ module _ (hit : Cell → Bool) (next : Cell → Cell) (q d : Cell) where
       by false e zero lt further = let (h, c) = neither (hit w) (is-cell w q) e in (h, c, walk-starts fuel (next w) (omega arith))
       by false e (suc i) lt further = further i (omega arith)
 
-module _ (n : Counts) (l : List ℕ) (p q : Cell) where
-  pub step-by-step : StepByStep n l p q
+module _ (how : Manner) (n : Counts) (l : List ℕ) (p q : Cell) where
+  pub step-by-step : StepByStep how n l p q
   unfolding walk-of Going
   step-by-step = record {
-    starts = λ w. (some w, walk-starts (hit-at n l) (next-cell w n l p q) q p (six-count p q) p (some w));
+    starts = λ w. (some w, walk-starts (hit-at how n l p) (next-cell w n l p q) q p (six-count p q) p (some w));
     passes = λ w i lt.
         let (free, other, on) = going w i lt in
         (free, λ e. let z : _≡_ {A = ℕ} 0 1 = ap (λ b. cond b 1 0) (sym other ∙ same-is-cell _ q e) in omega arith);
     goes = λ w i lt. going w i lt .2;
   }
     where
-      some : (w : Walker) → 0 < length (walk-of w n l p q)
-      some w = rw (add-one (total (differences p q))) (walk-some (hit-at n l) (next-cell w n l p q) q p (total (differences p q)) p)
+      some : (w : Walker) → 0 < length (walk-of w how n l p q)
+      some w = rw (add-one (total (differences p q))) (walk-some (hit-at how n l p) (next-cell w n l p q) q p (total (differences p q)) p)
 
-      going : (w : Walker) (i : ℕ) → suc i < length (walk-of w n l p q) → Going (hit-at n l) (next-cell w n l p q) q p (walk-of w n l p q) i
-      going w = walk-goes (hit-at n l) (next-cell w n l p q) q p (six-count p q) p
+      going : (w : Walker) (i : ℕ) → suc i < length (walk-of w how n l p q) → Going (hit-at how n l p) (next-cell w n l p q) q p (walk-of w how n l p q) i
+      going w = walk-goes (hit-at how n l p) (next-cell w n l p q) q p (six-count p q) p
 
+module _ (n : Counts) (l : List ℕ) (p q : Cell) where
   pub adaptive-step : AdaptiveStep n l p q
   adaptive-step =
       record {
@@ -345,6 +355,40 @@ module _ (n : Counts) (l : List ℕ) (p q : Cell) where
       by-face s none face = refl
       by-face s none (long m e h) = absurd (none m (omega (arith, h .below)) (sym (h .cell)))
 
+-- ---- the start
+
+pub start-tests : (n : Counts) (l : List ℕ) (p : Cell) → StartTest n l p
+start-tests n l p =
+    record {
+      tested = λ how is w. tested-test how n l p w (ap is-tested is);
+      other = λ how w far. other-test how n l p w far;
+      exempt = λ how is. exempt-test how n l p (ap is-tested is);
+    }
+
+pub two-starts : (n : Counts) (l : List ℕ) (p q : Cell) → TwoStarts n l p q
+two-starts n l p q =
+    record {
+      alike = λ free w how other r s h k. h .says ∙ modes-alike n l p q w how other free ∙ sym (k .says);
+      never-p = λ w how is h a.
+          let (fine, hit, there) = hit-found how n l p q w h a in
+          beyond h (end-of how n l p q w) (later-hit n l p q how (ap is-tested is) _ hit) (ap (λ k. k .cell) there) (ap (λ k. k .place) there);
+      equal-ends = λ w how is r a. one-read r (walk-check n (length l) p p) (a .says ∙ equal-ends n l p w how (ap is-tested is));
+    }
+  where
+    beyond : (h : Hit) (s : ℕ) → 0 < s → h .cell ≡ six-cell rule-1 p q s → h .place ≡ entered-at p q s →
+        (h .cell ≡ p → ⊥) × (0 < h .place .num) × (h .place .face ≡ Face.None → ⊥)
+    beyond h zero lt cell place = absurd (omega arith)
+    beyond h (suc s) lt cell place = (
+      λ e. absurd (omega (arith, six-different rule-1 p q (suc s) 0 (sym cell ∙ e ∙ sym (six-start rule-1 p q)))),
+      subst (λ k. 0 < k .num) (sym place) (omega (arith, num-is p q s)),
+      λ e. absurd (some-face p q s (sym (ap (λ k. k .face) place) ∙ e)),
+    )
+
+    one-read : (r : FirstHit) (v : Verdict) → r ≡ by-verdict FirstHit.Refused (FirstHit.Clear 1) v →
+        (r ≡ FirstHit.Clear 1) ⊎ ((e : Refusal) × (r ≡ FirstHit.Refused e))
+    one-read r Verdict.Fine h = inl h
+    one-read r (Verdict.Refused e) h = inr (e, h)
+
 -- ---- mark, then walk
 
 pub marked-first : (n : Counts) (l exit : List ℕ) → MarkedFirst n l exit
@@ -362,13 +406,13 @@ face-or (FirstHit.Hit h) = h .place .face
 face-or (FirstHit.Clear r) = Face.None
 face-or (FirstHit.Refused r) = Face.None
 
--- at P there is none, and the other hit in the program's venue is entered by +y
-at-p : (w : Walker) → face-or (first-hit w example-counts marked-cells (at 1 1 0) (at 3 1 0)) ≡ Face.None
-unfolding first-hit face-or
-at-p Plain = refl
-at-p Adaptive = refl
+-- where P is not solid, an answer is the default's
+as-usual : {n : Counts} {l : List ℕ} {p q : Cell} {r : FirstHit} (w : Walker) (how : Manner) → solid (byte-of n l p) ≡ false → Finds w how n l p q r →
+    r ≡ first-hit w usual n l p q
+as-usual {n} {l} {p} {q} w how free h = h .says ∙ modes-alike n l p q w how usual free
 
-by-y : (w : Walker) → face-or (first-hit w example-counts marked-cells (at 0 0 0) (at 3 1 0)) ≡ Face.Plus Y
+-- the hit in the program's venue is entered by +y
+by-y : (w : Walker) → face-or (first-hit w usual example-counts marked-cells (at 0 0 0) (at 3 1 0)) ≡ Face.Plus Y
 unfolding first-hit face-or
 by-y Plain = refl
 by-y Adaptive = refl
@@ -377,16 +421,54 @@ pub wrong-walks : WrongWalks
 unfolding first-hit kind reads-or hit-or face-or
 wrong-walks =
     record {
-      plain-refuses = λ r h. absurd (let z : _≡_ {A = ℕ} 2 0 = ap kind (h .says) in omega arith);
-      adaptive-refuses = λ r h. absurd (let z : _≡_ {A = ℕ} 2 1 = ap kind (h .says) in omega arith);
-      secretly-plain = λ r h k. absurd (let z : _≡_ {A = ℕ} 0 1 = ap kind (sym (h .says) ∙ k .says) in omega arith);
-      plain-in-reads = λ h. absurd (let z : _≡_ {A = ℕ} 4 3 = ap (reads-or 0) (h .says) in omega arith);
-      plain-always-clear = λ reads h. absurd (let z : _≡_ {A = ℕ} 1 0 = ap kind (h .says) in omega arith);
-      adaptive-always-clear = λ reads h. absurd (let z : _≡_ {A = ℕ} 1 0 = ap kind (h .says) in omega arith);
-      reads-made-up = λ reads h. ap (reads-or 0) (h .says);
-      long-at-any-clear = λ h. absurd (let z : _≡_ {A = ℕ} 3 4 = ap (reads-or 0) (h .says) in omega arith);
-      place-of-first-face = λ face h. absurd (let z : _≡_ {A = ℕ} 1 3 = ap (λ a. hit-or (long-hit 0 1 face) a .place .num) (h .says) in omega arith);
-      face-of-first-face = λ num den face other h. other (ap face-or (h .says));
-      sign-turned = λ w num den reads h. absurd (let z : _≡_ {A = ℕ} 0 2 = ap (λ f. up (face-number f)) (ap face-or (h .says) ∙ by-y w) in omega arith);
-      face-at-p = λ w num den reads face other h. other (ap face-or (h .says) ∙ at-p w);
+      plain-refuses = λ how r h. absurd (let z : _≡_ {A = ℕ} 2 0 = ap kind (as-usual Plain how refl h) in omega arith);
+      adaptive-refuses = λ how r h. absurd (let z : _≡_ {A = ℕ} 2 1 = ap kind (as-usual Adaptive how refl h) in omega arith);
+      secretly-plain = λ how r h k.
+          absurd (let z : _≡_ {A = ℕ} 0 1 = ap kind (sym (as-usual Plain how refl h) ∙ as-usual Adaptive how refl k) in omega arith);
+      plain-in-reads = λ how h. absurd (let z : _≡_ {A = ℕ} 4 3 = ap (reads-or 0) (as-usual Adaptive how refl h) in omega arith);
+      plain-always-clear = λ how reads h. absurd (let z : _≡_ {A = ℕ} 1 0 = ap kind (as-usual Plain how refl h) in omega arith);
+      adaptive-always-clear = λ how reads h. absurd (let z : _≡_ {A = ℕ} 1 0 = ap kind (as-usual Adaptive how refl h) in omega arith);
+      reads-made-up = λ how reads h. ap (reads-or 0) (as-usual Adaptive how refl h);
+      long-at-any-clear = λ how h. absurd (let z : _≡_ {A = ℕ} 3 4 = ap (reads-or 0) (as-usual Adaptive how refl h) in omega arith);
+      place-of-first-face = λ how face h.
+          absurd (let z : _≡_ {A = ℕ} 1 3 = ap (λ a. hit-or (long-hit 0 1 face) a .place .num) (as-usual Adaptive how refl h) in omega arith);
+      face-of-first-face = λ how num den face other h. other (ap face-or (as-usual Adaptive how refl h));
+      sign-turned = λ w how num den reads h.
+          absurd (let z : _≡_ {A = ℕ} 0 2 = ap (λ f. up (face-number f)) (ap face-or (as-usual w how refl h) ∙ by-y w) in omega arith);
+      face-at-p = λ w how num den reads face other h. other (hit-face how example-counts marked-cells (at 1 1 0) (at 3 1 0) .none w _ h .1 refl);
+    }
+
+-- ---- wrong starts
+
+-- solid at both ends: a hit, at Q
+ends-hit : (w : Walker) → kind (first-hit w usual (counts 3 2 1) solid-ends (at 0 0 0) (at 2 1 0)) ≡ 0
+unfolding first-hit kind
+ends-hit Plain = refl
+ends-hit Adaptive = refl
+
+-- solid at P alone: clear, but a hit where P is tested
+start-clear : (w : Walker) → kind (first-hit w usual (counts 3 2 1) solid-start (at 0 0 0) (at 2 1 0)) ≡ 1
+unfolding first-hit kind
+start-clear Plain = refl
+start-clear Adaptive = refl
+
+start-hit : (w : Walker) → kind (first-hit w (record { start = Tested }) (counts 3 2 1) solid-start (at 0 0 0) (at 2 1 0)) ≡ 0
+unfolding first-hit kind
+start-hit Plain = refl
+start-hit Adaptive = refl
+
+pub wrong-starts : WrongStarts
+unfolding first-hit kind reads-or
+wrong-starts =
+    record {
+      exempts-q = λ w reads h. absurd (let z : _≡_ {A = ℕ} 1 0 = ap kind (h .says) ∙ ends-hit w in omega arith);
+      not-counted = λ h. absurd (let z : _≡_ {A = ℕ} 3 4 = ap (reads-or 0) (h .says) in omega arith);
+      by-one-face = λ reads h. ap (reads-or 0) (h .says);
+      long-from-solid = λ h. absurd (let z : _≡_ {A = ℕ} 3 4 = ap (reads-or 0) (h .says) in omega arith);
+      steps-over = λ reads h. absurd (let z : _≡_ {A = ℕ} 1 0 = ap kind (h .says) in omega arith);
+      default-tests = λ w h cell a. absurd (let z : _≡_ {A = ℕ} 0 1 = ap kind (a .says) ∙ start-clear w in omega arith);
+      tested-passes = λ w how is reads h.
+          absurd (let z : _≡_ {A = ℕ} 1 0 = ap kind (h .says ∙ ap (λ s. first-hit w (record { start = s }) (counts 3 2 1) solid-start (at 0 0 0) (at 2 1 0)) is)
+          ∙ start-hit w in omega arith);
+      next-exempt = λ reads h. absurd (let z : _≡_ {A = ℕ} 1 0 = ap kind (h .says) in omega arith);
     }

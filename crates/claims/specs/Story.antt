@@ -1,5 +1,5 @@
 -- Demand 3: the plain and the adaptive walk tell one story. Claims about the two first-hit calls, by their contracts: for every grid, every two
--- ends, and all answers that meet the contracts on the same inputs. Assumes nothing.
+-- ends, either start mode, and all answers that meet the contracts on the same inputs. A hit is what the one test of a cell says (13). Assumes nothing.
 use Prim.Native.Nat.{ℕ, suc, _+_, _-_, _*_, _≤_, _<_}
 use mathlib.Core.Path.{_≡_}
 use mathlib.Core.Bool.{true, false}
@@ -12,9 +12,12 @@ use Rattle.cells.specs.declared.Cell.{Cell}
 use Rattle.cells.specs.declared.Counts.{Counts}
 use Rattle.cells.specs.declared.Face.{Face}
 use Rattle.cells.specs.declared.Face.the-variants as Face
+use Rattle.cells.specs.declared.Manner.{Manner}
 use Rattle.cells.specs.declared.Refusal.{Refusal}
+use Rattle.cells.specs.declared.Start.the-variants.{Untested, Tested}
 use Rattle.cells.specs.declared.Verdict.the-variants.{Fine}
 use Rattle.cells.specs.Faces.{back-across}
+use Rattle.cells.specs.Manners.{usual}
 use Rattle.lines.specs.Steps.{total}
 use Rattle.lines.specs.Preference.{rule-1}
 use Rattle.lines.specs.Lines.{differences, longest, six-cell, cell-26}
@@ -40,8 +43,8 @@ pub data SameStory : FirstHit → FirstHit → Type 0 where
   refusals : {r : Refusal} → SameStory (FirstHit.Refused r) (FirstHit.Refused r)
 
 -- 1. Same story: where no clear cell touches a solid one by face, edge or corner.
-pub record OneStory (n : Counts) (l : List ℕ) (p q : Cell) : Type 0 where
-  pub story : complete 3 n l ≡ true → (rp ra : FirstHit) → Finds Plain n l p q rp → Finds Adaptive n l p q ra → SameStory rp ra
+pub record OneStory (how : Manner) (n : Counts) (l : List ℕ) (p q : Cell) : Type 0 where
+  pub story : complete 3 n l ≡ true → (rp ra : FirstHit) → Finds Plain how n l p q rp → Finds Adaptive how n l p q ra → SameStory rp ra
 
 -- cell c stands in the 6-line where d stands, or before it
 pub record NoLater (p q c d : Cell) : Type 0 where
@@ -53,36 +56,39 @@ pub record NoLater (p q c d : Cell) : Type 0 where
   pub most : of-d ≤ total (differences p q)
 
 -- 2. Never invented, never earlier: in any grid whatever, an adaptive hit is a plain hit, there or before.
-pub record NeverInvented (n : Counts) (l : List ℕ) (p q : Cell) : Type 0 where
-  pub plain-too : (k : Hit) (rp : FirstHit) → Finds Adaptive n l p q (FirstHit.Hit k) → Finds Plain n l p q rp →
+pub record NeverInvented (how : Manner) (n : Counts) (l : List ℕ) (p q : Cell) : Type 0 where
+  pub plain-too : (k : Hit) (rp : FirstHit) → Finds Adaptive how n l p q (FirstHit.Hit k) → Finds Plain how n l p q rp →
       (h : Hit) × (rp ≡ FirstHit.Hit h) × (h .place .num * k .place .den ≤ k .place .num * h .place .den) × NoLater p q (h .cell) (k .cell)
 
--- 3. Nothing in the way: marks complete and the adaptive answer clear, then no cell whose open inside the segment meets is solid.
-pub record NothingInTheWay (n : Counts) (l : List ℕ) (p q : Cell) : Type 0 where
-  pub open-way : complete 3 n l ≡ true → (reads : ℕ) → Finds Adaptive n l p q (FirstHit.Clear reads) → (k d : ℕ) (c : Cell) → Share k d →
-      InOpen p q k d c → solid (byte-of n l c) ≡ false
+-- 3. Nothing in the way: marks complete and the adaptive answer clear, then no cell whose open inside the segment meets is solid, P excepted exactly
+-- where it is not tested.
+pub record NothingInTheWay (how : Manner) (n : Counts) (l : List ℕ) (p q : Cell) : Type 0 where
+  pub open-way : complete 3 n l ≡ true → (reads : ℕ) → Finds Adaptive how n l p q (FirstHit.Clear reads) → (k d : ℕ) (c : Cell) → Share k d →
+      InOpen p q k d c → (c ≡ p → how .start ≡ Tested) → solid (byte-of n l c) ≡ false
 
 -- 4. With no hit plain reads A+B+C+1 cells, and adaptive between M+1 and A+B+C+1.
-pub record Reads (n : Counts) (l : List ℕ) (p q : Cell) : Type 0 where
-  pub plain : (reads : ℕ) → Finds Plain n l p q (FirstHit.Clear reads) → reads ≡ total (differences p q) + 1
-  pub adaptive : (reads : ℕ) → Finds Adaptive n l p q (FirstHit.Clear reads) → (longest (differences p q) + 1 ≤ reads) × (reads ≤ total (differences p q) + 1)
+pub record Reads (how : Manner) (n : Counts) (l : List ℕ) (p q : Cell) : Type 0 where
+  pub plain : (reads : ℕ) → Finds Plain how n l p q (FirstHit.Clear reads) → reads ≡ total (differences p q) + 1
+  pub adaptive : (reads : ℕ) → Finds Adaptive how n l p q (FirstHit.Clear reads) →
+      (longest (differences p q) + 1 ≤ reads) × (reads ≤ total (differences p q) + 1)
 
--- 5. What the plain walk finds (SCOPE W2): cell number s of the 6-line is solid and none before it; or none is at all.
-pub record FirstOf (n : Counts) (l : List ℕ) (p q : Cell) (h : Hit) (s : ℕ) : Type 0 where
+-- 5. What the plain walk finds (SCOPE W2): cell number s of the 6-line is a hit and none before it; or none is at all.
+pub record FirstOf (how : Manner) (n : Counts) (l : List ℕ) (p q : Cell) (h : Hit) (s : ℕ) : Type 0 where
   pub most : s ≤ total (differences p q)
   pub cell : h .cell ≡ six-cell rule-1 p q s
-  pub solid-there : hit-at n l (six-cell rule-1 p q s) ≡ true
-  pub none-before : (t : ℕ) → t < s → hit-at n l (six-cell rule-1 p q t) ≡ false
+  pub hit-there : hit-at how n l p (six-cell rule-1 p q s) ≡ true
+  pub none-before : (t : ℕ) → t < s → hit-at how n l p (six-cell rule-1 p q t) ≡ false
   pub reads : h .reads ≡ s + 1
 
-pub record FirstSolid (n : Counts) (l : List ℕ) (p q : Cell) : Type 0 where
-  pub hit : (h : Hit) → Finds Plain n l p q (FirstHit.Hit h) → (s : ℕ) × FirstOf n l p q h s
-  pub none : (reads : ℕ) → Finds Plain n l p q (FirstHit.Clear reads) → (s : ℕ) → s ≤ total (differences p q) → hit-at n l (six-cell rule-1 p q s) ≡ false
+pub record FirstSolid (how : Manner) (n : Counts) (l : List ℕ) (p q : Cell) : Type 0 where
+  pub hit : (h : Hit) → Finds Plain how n l p q (FirstHit.Hit h) → (s : ℕ) × FirstOf how n l p q h s
+  pub none : (reads : ℕ) → Finds Plain how n l p q (FirstHit.Clear reads) → (s : ℕ) → s ≤ total (differences p q) →
+      hit-at how n l p (six-cell rule-1 p q s) ≡ false
 
 -- 6. A hit lies in the grid. It is a solid cell of the 6-line, with the cell's byte as its code, and its place is that of the crossing by which
 -- the 6-line enters this cell, also where a long step reached it.
-pub record HitInside (n : Counts) (l : List ℕ) (p q : Cell) : Type 0 where
-  pub inside : (w : Walker) (h : Hit) → Finds w n l p q (FirstHit.Hit h) → InGrid n (h .cell)
+pub record HitInside (how : Manner) (n : Counts) (l : List ℕ) (p q : Cell) : Type 0 where
+  pub inside : (w : Walker) (h : Hit) → Finds w how n l p q (FirstHit.Hit h) → InGrid n (h .cell)
 
 pub record OnTheLine (n : Counts) (l : List ℕ) (p q : Cell) (h : Hit) (s : ℕ) : Type 0 where
   pub most : s ≤ total (differences p q)
@@ -91,12 +97,12 @@ pub record OnTheLine (n : Counts) (l : List ℕ) (p q : Cell) (h : Hit) (s : ℕ
   pub solid-there : solid (h .code) ≡ true
   pub place : h .place ≡ entered-at p q s
 
-pub record HitPlace (n : Counts) (l : List ℕ) (p q : Cell) : Type 0 where
-  pub there : (w : Walker) (h : Hit) → Finds w n l p q (FirstHit.Hit h) → (s : ℕ) × OnTheLine n l p q h s
+pub record HitPlace (how : Manner) (n : Counts) (l : List ℕ) (p q : Cell) : Type 0 where
+  pub there : (w : Walker) (h : Hit) → Finds w how n l p q (FirstHit.Hit h) → (s : ℕ) × OnTheLine n l p q h s
 
--- 7. Each walk ends: its last cell is solid, or Q. (The number of steps that bounds its definition is never used up.)
-pub record WalksEnd (n : Counts) (l : List ℕ) (p q : Cell) : Type 0 where
-  pub ends : (w : Walker) → (hit-at n l (last-of p (walk-of w n l p q)) ≡ true) ⊎ (last-of p (walk-of w n l p q) ≡ q)
+-- 7. Each walk ends: its last cell is a hit, or Q. (The number of steps that bounds its definition is never used up.)
+pub record WalksEnd (how : Manner) (n : Counts) (l : List ℕ) (p q : Cell) : Type 0 where
+  pub ends : (w : Walker) → (hit-at how n l p (last-of p (walk-of w how n l p q)) ≡ true) ⊎ (last-of p (walk-of w how n l p q) ≡ q)
 
 -- 8. Mark, then walk, or ask first: after an accepted marking the premise of 1 and 3 holds, and where the completeness call says yes.
 pub record MarkedFirst (n : Counts) (l exit : List ℕ) : Type 0 where
@@ -104,19 +110,19 @@ pub record MarkedFirst (n : Counts) (l exit : List ℕ) : Type 0 where
   pub asked : Completes n l Yes → complete 3 n l ≡ true
 
 -- 9. One answer for each input.
-pub record HitOnce (n : Counts) (l : List ℕ) (p q : Cell) : Type 0 where
-  pub once : (w : Walker) (r s : FirstHit) → Finds w n l p q r → Finds w n l p q s → r ≡ s
+pub record HitOnce (how : Manner) (n : Counts) (l : List ℕ) (p q : Cell) : Type 0 where
+  pub once : (w : Walker) (r s : FirstHit) → Finds w how n l p q r → Finds w how n l p q s → r ≡ s
 
--- 10. Each walk starts at P; a cell from which it goes on is neither solid nor Q, and it goes on to what comes next. (7 says where it ends.)
-pub record StepByStep (n : Counts) (l : List ℕ) (p q : Cell) : Type 0 where
+-- 10. Each walk starts at P; a cell from which it goes on is no hit and not Q, and it goes on to what comes next. (7 says where it ends.)
+pub record StepByStep (how : Manner) (n : Counts) (l : List ℕ) (p q : Cell) : Type 0 where
   -- there is a first cell, and it is P
-  pub starts : (w : Walker) → (0 < length (walk-of w n l p q)) × (getD (walk-of w n l p q) 0 p ≡ p)
-  -- a cell of the walk that is not its last is not solid, and not Q
-  pub passes : (w : Walker) (i : ℕ) → suc i < length (walk-of w n l p q) →
-      (hit-at n l (getD (walk-of w n l p q) i p) ≡ false) × (getD (walk-of w n l p q) i p ≡ q → ⊥)
+  pub starts : (w : Walker) → (0 < length (walk-of w how n l p q)) × (getD (walk-of w how n l p q) 0 p ≡ p)
+  -- a cell of the walk that is not its last is no hit, and not Q
+  pub passes : (w : Walker) (i : ℕ) → suc i < length (walk-of w how n l p q) →
+      (hit-at how n l p (getD (walk-of w how n l p q) i p) ≡ false) × (getD (walk-of w how n l p q) i p ≡ q → ⊥)
   -- after it stands what comes next
-  pub goes : (w : Walker) (i : ℕ) → suc i < length (walk-of w n l p q) →
-      getD (walk-of w n l p q) (suc i) p ≡ next-cell w n l p q (getD (walk-of w n l p q) i p)
+  pub goes : (w : Walker) (i : ℕ) → suc i < length (walk-of w how n l p q) →
+      getD (walk-of w how n l p q) (suc i) p ≡ next-cell w n l p q (getD (walk-of w how n l p q) i p)
 
 -- 11. What comes next in the adaptive walk: at a clear cell of the 26-line its next cell, else the next cell of the 6-line.
 pub record AdaptiveStep (n : Counts) (l : List ℕ) (p q : Cell) : Type 0 where
@@ -141,9 +147,24 @@ pub record CameInBy (p q : Cell) (h : Hit) (a : Axis) : Type 0 where
   pub den : h .place .den ≡ 2 * differences p q a
 
 -- 12. The entry face of a hit, by either walk: none exactly where the cell is P; else it lies across an axis, as `CameInBy` says.
-pub record HitFace (n : Counts) (l : List ℕ) (p q : Cell) : Type 0 where
-  pub none : (w : Walker) (h : Hit) → Finds w n l p q (FirstHit.Hit h) → (h .place .face ≡ Face.None) ↔ (h .cell ≡ p)
-  pub crossed : (w : Walker) (h : Hit) → Finds w n l p q (FirstHit.Hit h) → (h .cell ≡ p → ⊥) → (a : Axis) × CameInBy p q h a
+pub record HitFace (how : Manner) (n : Counts) (l : List ℕ) (p q : Cell) : Type 0 where
+  pub none : (w : Walker) (h : Hit) → Finds w how n l p q (FirstHit.Hit h) → (h .place .face ≡ Face.None) ↔ (h .cell ≡ p)
+  pub crossed : (w : Walker) (h : Hit) → Finds w how n l p q (FirstHit.Hit h) → (h .cell ≡ p → ⊥) → (a : Axis) × CameInBy p q h a
+
+-- 13. The one test of a cell: a hit exactly where its byte is solid, except that P is no hit where the start is not tested.
+pub record StartTest (n : Counts) (l : List ℕ) (p : Cell) : Type 0 where
+  pub tested : (how : Manner) → how .start ≡ Tested → (w : Cell) → hit-at how n l p w ≡ solid (byte-of n l w)
+  pub other : (how : Manner) (w : Cell) → (w ≡ p → ⊥) → hit-at how n l p w ≡ solid (byte-of n l w)
+  pub exempt : (how : Manner) → how .start ≡ Untested → hit-at how n l p p ≡ false
+
+-- 14. Where P is not solid the two modes answer alike. Where P is not tested a hit is never P, and equal ends are clear with one read, or refused.
+pub record TwoStarts (n : Counts) (l : List ℕ) (p q : Cell) : Type 0 where
+  pub alike : solid (byte-of n l p) ≡ false → (w : Walker) (how other : Manner) (r s : FirstHit) → Finds w how n l p q r → Finds w other n l p q s → r ≡ s
+  -- a hit lies beyond P, and was entered by a face
+  pub never-p : (w : Walker) (how : Manner) → how .start ≡ Untested → (h : Hit) → Finds w how n l p q (FirstHit.Hit h) →
+      (h .cell ≡ p → ⊥) × (0 < h .place .num) × (h .place .face ≡ Face.None → ⊥)
+  pub equal-ends : (w : Walker) (how : Manner) → how .start ≡ Untested → (r : FirstHit) → Finds w how n l p p r →
+      (r ≡ FirstHit.Clear 1) ⊎ ((e : Refusal) × (r ≡ FirstHit.Refused e))
 
 -- ---- wrong walks, on named inputs
 
@@ -167,20 +188,53 @@ abbrev pub post-hit : (num den : ℕ) → Face → (reads : ℕ) → Hit
 post-hit num den face reads = record { cell = at 1 1 0; code = 2; place = record { num = num; den = den; face = face }; reads = reads }
 
 pub record WrongWalks : Type 0 where
-  pub plain-refuses : (r : Refusal) → Finds Plain example-counts example-cells (at 0 0 0) (at 3 1 0) (FirstHit.Refused r) → ⊥
-  pub adaptive-refuses : (r : Refusal) → Finds Adaptive example-counts example-cells (at 0 0 0) (at 3 1 0) (FirstHit.Refused r) → ⊥
-  pub secretly-plain : (r : FirstHit) → Finds Plain example-counts example-cells (at 0 0 0) (at 3 1 0) r →
-      Finds Adaptive example-counts example-cells (at 0 0 0) (at 3 1 0) r → ⊥
-  pub plain-in-reads : Finds Adaptive (counts 3 2 1) all-clear (at 0 0 0) (at 2 1 0) (FirstHit.Clear 4) → ⊥
-  pub plain-always-clear : (reads : ℕ) → Finds Plain example-counts example-cells (at 0 0 0) (at 3 1 0) (FirstHit.Clear reads) → ⊥
-  pub adaptive-always-clear : (reads : ℕ) → Finds Adaptive example-counts marked-cells (at 0 0 0) (at 3 1 0) (FirstHit.Clear reads) → ⊥
-  pub reads-made-up : (reads : ℕ) → Finds Adaptive example-counts example-cells (at 0 0 0) (at 3 1 0) (FirstHit.Clear reads) → reads ≡ 4
-  pub long-at-any-clear : Finds Adaptive (counts 3 2 1) near-bytes (at 0 0 0) (at 2 1 0) (FirstHit.Clear 3) → ⊥
-  pub place-of-first-face : (face : Face) → Finds Adaptive (counts 6 3 1) long-bytes (at 0 0 0) (at 5 2 0) (FirstHit.Hit (long-hit 1 4 face)) → ⊥
+  pub plain-refuses : (how : Manner) (r : Refusal) → Finds Plain how example-counts example-cells (at 0 0 0) (at 3 1 0) (FirstHit.Refused r) → ⊥
+  pub adaptive-refuses : (how : Manner) (r : Refusal) → Finds Adaptive how example-counts example-cells (at 0 0 0) (at 3 1 0) (FirstHit.Refused r) → ⊥
+  pub secretly-plain : (how : Manner) (r : FirstHit) → Finds Plain how example-counts example-cells (at 0 0 0) (at 3 1 0) r →
+      Finds Adaptive how example-counts example-cells (at 0 0 0) (at 3 1 0) r → ⊥
+  pub plain-in-reads : (how : Manner) → Finds Adaptive how (counts 3 2 1) all-clear (at 0 0 0) (at 2 1 0) (FirstHit.Clear 4) → ⊥
+  pub plain-always-clear : (how : Manner) (reads : ℕ) → Finds Plain how example-counts example-cells (at 0 0 0) (at 3 1 0) (FirstHit.Clear reads) → ⊥
+  pub adaptive-always-clear : (how : Manner) (reads : ℕ) → Finds Adaptive how example-counts marked-cells (at 0 0 0) (at 3 1 0) (FirstHit.Clear reads) → ⊥
+  pub reads-made-up : (how : Manner) (reads : ℕ) → Finds Adaptive how example-counts example-cells (at 0 0 0) (at 3 1 0) (FirstHit.Clear reads) → reads ≡ 4
+  pub long-at-any-clear : (how : Manner) → Finds Adaptive how (counts 3 2 1) near-bytes (at 0 0 0) (at 2 1 0) (FirstHit.Clear 3) → ⊥
+  pub place-of-first-face : (how : Manner) (face : Face) →
+      Finds Adaptive how (counts 6 3 1) long-bytes (at 0 0 0) (at 5 2 0) (FirstHit.Hit (long-hit 1 4 face)) → ⊥
   -- the first face's axis, y, or any face but +x
-  pub face-of-first-face : (num den : ℕ) (face : Face) → (face ≡ Face.Plus X → ⊥) →
-      Finds Adaptive (counts 6 3 1) long-bytes (at 0 0 0) (at 5 2 0) (FirstHit.Hit (long-hit num den face)) → ⊥
-  pub sign-turned : (w : Walker) (num den reads : ℕ) →
-      Finds w example-counts marked-cells (at 0 0 0) (at 3 1 0) (FirstHit.Hit (post-hit num den (Face.Minus Y) reads)) → ⊥
-  pub face-at-p : (w : Walker) (num den reads : ℕ) (face : Face) → (face ≡ Face.None → ⊥) →
-      Finds w example-counts marked-cells (at 1 1 0) (at 3 1 0) (FirstHit.Hit (post-hit num den face reads)) → ⊥
+  pub face-of-first-face : (how : Manner) (num den : ℕ) (face : Face) → (face ≡ Face.Plus X → ⊥) →
+      Finds Adaptive how (counts 6 3 1) long-bytes (at 0 0 0) (at 5 2 0) (FirstHit.Hit (long-hit num den face)) → ⊥
+  pub sign-turned : (w : Walker) (how : Manner) (num den reads : ℕ) →
+      Finds w how example-counts marked-cells (at 0 0 0) (at 3 1 0) (FirstHit.Hit (post-hit num den (Face.Minus Y) reads)) → ⊥
+  pub face-at-p : (w : Walker) (how : Manner) (num den reads : ℕ) (face : Face) → (face ≡ Face.None → ⊥) →
+      Finds w how example-counts marked-cells (at 1 1 0) (at 3 1 0) (FirstHit.Hit (post-hit num den face reads)) → ⊥
+
+-- ---- wrong starts, on named inputs: 3 by 2 by 1, no marks, from (0,0,0) to (2,1,0)
+
+-- solid at P alone
+abbrev pub solid-start : List ℕ
+solid-start = 2 ∷ 0 ∷ 0 ∷ 0 ∷ 0 ∷ 0 ∷ []
+
+-- at P and at Q
+abbrev pub solid-ends : List ℕ
+solid-ends = 2 ∷ 0 ∷ 0 ∷ 0 ∷ 0 ∷ 2 ∷ []
+
+-- at P and at (1,0,0), the cell after it, over which a long step from P would lead
+abbrev pub solid-after : List ℕ
+solid-after = 2 ∷ 2 ∷ 0 ∷ 0 ∷ 0 ∷ 0 ∷ []
+
+pub record WrongStarts : Type 0 where
+  -- Q is exempt too
+  pub exempts-q : (w : Walker) (reads : ℕ) → Finds w usual (counts 3 2 1) solid-ends (at 0 0 0) (at 2 1 0) (FirstHit.Clear reads) → ⊥
+  -- P is not counted as read
+  pub not-counted : Finds Plain usual (counts 3 2 1) solid-start (at 0 0 0) (at 2 1 0) (FirstHit.Clear 3) → ⊥
+  -- from a solid P the adaptive walk goes on by one face, and so reads four cells; with a long step it would read three
+  pub by-one-face : (reads : ℕ) → Finds Adaptive usual (counts 3 2 1) solid-start (at 0 0 0) (at 2 1 0) (FirstHit.Clear reads) → reads ≡ 4
+  pub long-from-solid : Finds Adaptive usual (counts 3 2 1) solid-start (at 0 0 0) (at 2 1 0) (FirstHit.Clear 3) → ⊥
+  -- and would step over the solid cell after P
+  pub steps-over : (reads : ℕ) → Finds Adaptive usual (counts 3 2 1) solid-after (at 0 0 0) (at 2 1 0) (FirstHit.Clear reads) → ⊥
+  -- the default tests P
+  pub default-tests : (w : Walker) (h : Hit) → h .cell ≡ at 0 0 0 → Finds w usual (counts 3 2 1) solid-start (at 0 0 0) (at 2 1 0) (FirstHit.Hit h) → ⊥
+  -- the tested start passes P
+  pub tested-passes : (w : Walker) (how : Manner) → how .start ≡ Tested → (reads : ℕ) →
+      Finds w how (counts 3 2 1) solid-start (at 0 0 0) (at 2 1 0) (FirstHit.Clear reads) → ⊥
+  -- the cell after P is exempt
+  pub next-exempt : (reads : ℕ) → Finds Plain usual (counts 3 2 1) solid-after (at 0 0 0) (at 2 1 0) (FirstHit.Clear reads) → ⊥

@@ -1,11 +1,11 @@
--- The test of a cell, by its number in the 6-line: it is that of the byte, but for P where the start is not tested. Assumes nothing.
-use mathlib.Core.Path.{_≡_, refl, ap, _∙_}
+-- The test of a cell, by itself and by its number in the 6-line: it is that of the byte, but for P where the start is not tested. Assumes nothing.
+use mathlib.Core.Path.{_≡_, refl, sym, ap, ap₂, _∙_}
 use mathlib.Core.Bool.{Bool, true, false, not, _&&_, _||_}
 use mathlib.Core.List.{List}
-use Prim.Native.Nat.{ℕ, _<_}
+use Prim.Native.Nat.{ℕ, zero, suc, _<_}
 use native.Mathlib.Omega.{arith}
 use lib.Dec.{eqb}
-use borrow.Author.Tests.{eq-eqb, ne-eqb}
+use borrow.Author.Tests.{eq-eqb}
 use Rattle.cells.specs.declared.Cell.{Cell}
 use Rattle.cells.specs.declared.Counts.{Counts}
 use Rattle.cells.specs.declared.Manner.{Manner}
@@ -13,11 +13,41 @@ use Rattle.cells.specs.Manners.{is-tested}
 use Rattle.cells.proofs.Touching.{and-both}
 use Rattle.lines.specs.Preference.{rule-1}
 use Rattle.lines.specs.Lines.{six-cell}
-use Rattle.lines.proofs.Cells.{six-start}
+use Rattle.lines.proofs.Cells.{six-start, six-different}
 use Rattle.grids.specs.Grid.{byte-of, solid}
-use Rattle.walks.specs.Walks.{is-cell}
+use Rattle.walks.specs.Walks.{is-cell, hit-at}
 use Rattle.walks.specs.Numbers.{hits-at}
+use Rattle.walks.proofs.Find.{is-cell-self, other-is-not}
 use Rattle.walks.proofs.Numbers.{is-p}
+
+-- ---- by cells
+
+counts : (b t : Bool) → t ≡ true → (b && t) ≡ b
+counts true t h = h
+counts false t h = refl
+
+module _ (how : Manner) (n : Counts) (l : List ℕ) (p : Cell) where
+  -- where the start is tested, the test is that of the byte
+  pub tested-test : (w : Cell) → is-tested (how .start) ≡ true → hit-at how n l p w ≡ solid (byte-of n l w)
+  tested-test w h = counts (solid (byte-of n l w)) _ (ap (λ t. t || not (is-cell w p)) h)
+
+  -- and so it is away from P
+  pub other-test : (w : Cell) → (w ≡ p → ⊥) → hit-at how n l p w ≡ solid (byte-of n l w)
+  other-test w far = counts (solid (byte-of n l w)) _ (ap (λ b. is-tested (how .start) || not b) (other-is-not w p far) ∙ either (is-tested (how .start)))
+    where
+      either : (t : Bool) → (t || true) ≡ true
+      either true = refl
+      either false = refl
+
+  -- a start that is not tested is no hit
+  pub exempt-test : is-tested (how .start) ≡ false → hit-at how n l p p ≡ false
+  exempt-test h = ap₂ (λ t b. solid (byte-of n l p) && (t || not b)) h (is-cell-self p) ∙ none (solid (byte-of n l p))
+    where
+      none : (b : Bool) → (b && false) ≡ false
+      none true = refl
+      none false = refl
+
+-- ---- by numbers
 
 module _ (how : Manner) (n : Counts) (l : List ℕ) (p q : Cell) where
   -- whether the byte of a number is solid
@@ -47,15 +77,12 @@ module _ (how : Manner) (n : Counts) (l : List ℕ) (p q : Cell) where
 
   -- and after it
   pub later-test : (s : ℕ) → 0 < s → hits-at how n l p q s ≡ solid-at s
-  later-test s lt =
-      hits-is s ∙ ap (λ b. solid-at s && (is-tested (how .start) || not b)) (ne-eqb s 0 (λ e. omega arith))
-      ∙ counts (is-tested (how .start)) (solid-at s)
-    where
-      counts : (t b : Bool) → (b && (t || true)) ≡ b
-      counts true true = refl
-      counts true false = refl
-      counts false true = refl
-      counts false false = refl
+  later-test s lt = other-test how n l p (six-cell rule-1 p q s) (λ e. omega (arith, six-different rule-1 p q s 0 (e ∙ sym (six-start rule-1 p q))))
+
+  -- what is no hit is not solid, but for a P that is not tested
+  pub not-solid : (s : ℕ) → hits-at how n l p q s ≡ false → (six-cell rule-1 p q s ≡ p → is-tested (how .start) ≡ true) → solid-at s ≡ false
+  not-solid zero free tested = sym (tested-test how n l p (six-cell rule-1 p q 0) (tested (six-start rule-1 p q))) ∙ free
+  not-solid (suc s) free tested = sym (later-test (suc s) (omega arith)) ∙ free
 
   -- P's byte is that of number 0
   pub start-byte : solid-at 0 ≡ solid (byte-of n l p)
