@@ -8,6 +8,7 @@ use lib.ListN.{length}
 use Rattle.cells.specs.declared.Cell as cell
 use Rattle.cells.specs.declared.Counts.{Counts}
 use Rattle.cells.specs.declared.End.the-variants.{P, Q}
+use Rattle.cells.specs.declared.Manner.{Manner}
 use Rattle.cells.specs.Checks.{_then_, by-verdict}
 use Rattle.cells.specs.Refusals.{Told, told}
 use Rattle.grids.specs.Grid.{shape}
@@ -37,24 +38,24 @@ sight-of (FirstHit.Hit h) =
 sight-of (FirstHit.Refused r) = Refused r
 
 -- SCOPE S10, S11: from the two lookups: a refusal, the camera's before the ball's, or what the adaptive walk finds
-abbrev pub seen : Counts → List ℕ → Lookup → Lookup → Sight
-seen n l (Lookup.Refused r) ball = Refused r
-seen n l (Lookup.Cell c) (Lookup.Refused r) = Refused r
-seen n l (Lookup.Cell c) (Lookup.Cell b) = sight-of (first-hit Adaptive n l c b)
+abbrev pub seen : Manner → Counts → List ℕ → Lookup → Lookup → Sight
+seen how n l (Lookup.Refused r) ball = Refused r
+seen how n l (Lookup.Cell c) (Lookup.Refused r) = Refused r
+seen how n l (Lookup.Cell c) (Lookup.Cell b) = sight-of (first-hit Adaptive how n l c b)
 
 -- the two lookups, camera P and ball Q, counts and placement being tested
-unfoldable pub looked : Counts → List ℕ → Placement → Point → Point → Sight
+unfoldable pub looked : Manner → Counts → List ℕ → Placement → Point → Point → Sight
 unfolding look-up first-hit
-looked n l at camera ball = seen n l (look-up P n at camera) (look-up Q n at ball)
+looked how n l at camera ball = seen how n l (look-up P n at camera) (look-up Q n at ball)
 
 -- SCOPE O6: counts, bytes and placement are tested before any point
-unfoldable pub sight : Counts → List ℕ → Placement → Point → Point → Sight
+unfoldable pub sight : Manner → Counts → List ℕ → Placement → Point → Point → Sight
 unfolding looked shape placement-check
-sight n l at camera ball = by-verdict Refused (looked n l at camera ball) (shape n (length l) then placement-check at)
+sight how n l at camera ball = by-verdict Refused (looked how n l at camera ball) (shape n (length l) then placement-check at)
 
 -- the contract of the sight call
-pub record Sees (n : Counts) (l : List ℕ) (at : Placement) (camera ball : Point) (r : Sight) : Type 0 where
-  pub says : r ≡ sight n l at camera ball
+pub record Sees (how : Manner) (n : Counts) (l : List ℕ) (at : Placement) (camera ball : Point) (r : Sight) : Type 0 where
+  pub says : r ≡ sight how n l at camera ball
 
 -- what a sight says: clear, or the block's values
 pub data SightSaid : Type 0 where

@@ -25,7 +25,7 @@ enum-told c = search needs
 returns : tie.Need-returns
 returns c =
     let a = c .before .before .before .before .before .before .before .before .args in
-    sym (camera-refused (a .n) (a .cells .now) (a .at) (a .camera) (a .ball) (c .before .before .before .before .before .before .look-up .ensures)
+    sym (camera-refused (a .how) (a .n) (a .cells .now) (a .at) (a .camera) (a .ball) (c .before .before .before .before .before .before .look-up .ensures)
     (c .before .before .before .before .from2 .given .1 ∙ c .before .from3 .given .1))
 
 returns-2 : tie.Need-returns-2
@@ -50,7 +50,7 @@ returns-3 : tie.Need-returns-3
 returns-3 c =
     let a = c .before .before .before .before .before .before .before .before .before .before .before .before .args in
     sym
-    (ball-refused (a .n) (a .cells .now) (a .at) (a .camera) (a .ball)
+    (ball-refused (a .how) (a .n) (a .cells .now) (a .at) (a .camera) (a .ball)
     (c .before .before .before .before .before .before .before .before .before .before .look-up .ensures)
     (c .before .before .before .before .before .before .before .before .from .given .1)
     (c .before .before .before .before .before .before .look-up2 .ensures) (c .before .before .before .before .to2 .given .1 ∙ c .before .to3 .given .1))
@@ -74,7 +74,7 @@ returns-5 c =
     let a = c .before .before .before .before .before .before .before .before .before .before .before .args in
     c .sight-of .ensures ∙
     sym
-    (both-found (a .n) (a .cells .now) (a .at) (a .camera) (a .ball)
+    (both-found (a .how) (a .n) (a .cells .now) (a .at) (a .camera) (a .ball)
     (c .before .before .before .before .before .before .before .before .before .look-up .ensures)
     (c .before .before .before .before .before .before .before .from .given .1)
     (c .before .before .before .before .before .look-up2 .ensures) (c .before .before .before .to .given .1)

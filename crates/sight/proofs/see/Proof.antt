@@ -22,7 +22,7 @@ returns c =
     let a = c .before .before .before .before .before .args in
     record {
       says = rw (
-        sight-is (a .n) (a .cells .now) (a .at) (a .camera) (a .ball),
+        sight-is (a .how) (a .n) (a .cells .now) (a .at) (a .camera) (a .ball),
         sym (c .before .before .before .shape .ensures .says)
             ∙ c .before .r .given .1,
       );
@@ -33,7 +33,7 @@ returns-2 c =
     let a = c .before .before .before .before .before .args in
     record {
       says = rw (
-        sight-is (a .n) (a .cells .now) (a .at) (a .camera) (a .ball),
+        sight-is (a .how) (a .n) (a .cells .now) (a .at) (a .camera) (a .ball),
         sym (c .before .before .before .shape .ensures .says)
             ∙ c .before .enum-told .given .1,
         c .look-from .ensures,

@@ -22,15 +22,15 @@ walk-adaptive-requires c κs = (planned (c .before), c .first-spot .ensures)
 answer-of-requires : tie.Need-answer-of-requires
 answer-of-requires c κs =
     let plan = planned (c .before .before) in
-    (plan, stop-byte Adaptive (c .before .before .before .before .args .cells .now) _ plan _ (c .walk-adaptive .ensures))
+    (plan, stop-byte Adaptive (c .before .before .before .before .args .how) (c .before .before .before .before .args .cells .now) _ plan _ (c .walk-adaptive .ensures))
 
 returns : tie.Need-returns
 returns c =
     let r = c .before .before .before in
     let s = r .before .before in
     let a = s .args in
-    found-finds Adaptive (a .n) (a .cells .now) (a .p) (a .q) (r .route-of .result) (s .pre) (r .route-of .ensures)
-    (stop-found Adaptive (a .cells .now) (r .route-of .result) (planned r) _ (c .before .walk-adaptive .ensures) (c .answer-of .ensures))
+    found-finds Adaptive (a .how) (a .n) (a .cells .now) (a .p) (a .q) (r .route-of .result) (s .pre) (r .route-of .ensures)
+    (stop-found Adaptive (a .how) (a .cells .now) (r .route-of .result) (planned r) _ (c .before .walk-adaptive .ensures) (c .answer-of .ensures))
 
 pub walked-spec : {M : Type 1} → statement M
 walked-spec =
