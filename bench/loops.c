@@ -18,11 +18,29 @@ static uint64_t mixed(uint64_t sum, uint64_t value) { return (sum ^ value) * 0x9
 #define REFUSAL(answer) (*(const uint32_t *)&(answer))
 #define CELL(answer) ((uint64_t)((answer).x + 1024 * ((answer).y + 1024 * (answer).z)))
 
-uint64_t loop_hits(hit_call *call, size_t rounds, uint32_t nx, uint32_t ny, uint32_t nz, const uint8_t *cells, const oat_cell *ends, size_t segments) {
+/* From revision 4 on a walk takes its manner, last. Before that the start was tested, so it is tested in the loops that are timed against an earlier
+   commit: they do the same work around any header. Those with `untested` in their name are new with revision 4. */
+#if OAT_REVISION >= 4
+#define HOW , how
+typedef oat_manner manner;
+static const oat_manner tested = {.start = OAT_START_TESTED}, untested = {.start = OAT_START_UNTESTED};
+#else
+#define HOW
+typedef int manner;
+static const int tested = 1;
+#endif
+
+/* the words of a loop over segments, behind its call */
+#define SEGMENTS uint32_t nx, uint32_t ny, uint32_t nz, const uint8_t *cells, const oat_cell *ends, size_t segments
+#define GIVEN nx, ny, nz, cells, ends, segments
+#define INLINE static inline __attribute__((always_inline))
+
+INLINE uint64_t hits(manner how, hit_call *call, size_t rounds, SEGMENTS) {
     uint64_t sum = 0;
     oat_counts n = {nx, ny, nz};
+    (void)how;
     while (rounds--) for (size_t s = 0; s < segments; s++) {
-        __auto_type h = call(n, cells, (size_t)nx * ny * nz, ends[2 * s], ends[2 * s + 1]);
+        __auto_type h = call(n, cells, (size_t)nx * ny * nz, ends[2 * s], ends[2 * s + 1] HOW);
         sum = mixed(sum, REFUSAL(h) + ((uint64_t)h.reads << 32));
         sum = mixed(sum, (uint64_t)h.hit << 40 | CELL(h) << 8 | h.code);
         sum = mixed(sum, (uint64_t)h.num << 32 | h.den);
@@ -33,12 +51,13 @@ uint64_t loop_hits(hit_call *call, size_t rounds, uint32_t nx, uint32_t ny, uint
 static inline oat_point centre(oat_cell c) { return (oat_point){c.x + 0.5, c.y + 0.5, c.z + 0.5}; }
 
 /* from the centre of P to the centre of Q, where a cell is a metre */
-uint64_t loop_sights(sight_call *call, size_t rounds, uint32_t nx, uint32_t ny, uint32_t nz, const uint8_t *cells, const oat_cell *ends, size_t segments) {
+INLINE uint64_t sights(manner how, sight_call *call, size_t rounds, SEGMENTS) {
     uint64_t sum = 0;
     oat_counts n = {nx, ny, nz};
     oat_placement at = {.edge = 1};
+    (void)how;
     while (rounds--) for (size_t s = 0; s < segments; s++) {
-        __auto_type a = call(n, cells, (size_t)nx * ny * nz, at, centre(ends[2 * s]), centre(ends[2 * s + 1]));
+        __auto_type a = call(n, cells, (size_t)nx * ny * nz, at, centre(ends[2 * s]), centre(ends[2 * s + 1]) HOW);
         sum = mixed(sum, REFUSAL(a) + ((uint64_t)a.reads << 32));
         sum = mixed(sum, (uint64_t)a.blocked << 40 | CELL(a) << 8 | a.code);
         sum = mixed(sum, ((union { double value; uint64_t bits; }){a.share}).bits);
@@ -46,23 +65,39 @@ uint64_t loop_sights(sight_call *call, size_t rounds, uint32_t nx, uint32_t ny, 
     return sum;
 }
 
+uint64_t loop_hits(hit_call *call, size_t rounds, SEGMENTS) { return hits(tested, call, rounds, GIVEN); }
+uint64_t loop_sights(sight_call *call, size_t rounds, SEGMENTS) { return sights(tested, call, rounds, GIVEN); }
+
 /* the faces, for comparing. They have sums of their own: a header before revision 3 has no face, and what else an answer says is added up above as
    it was then */
 #if OAT_REVISION >= 3
-uint64_t sum_faces(hit_call *call, uint32_t nx, uint32_t ny, uint32_t nz, const uint8_t *cells, const oat_cell *ends, size_t segments) {
+INLINE uint64_t faces(manner how, hit_call *call, SEGMENTS) {
     uint64_t sum = 0;
+    (void)how;
     for (size_t s = 0; s < segments; s++)
-        sum = mixed(sum, (uint32_t)call((oat_counts){nx, ny, nz}, cells, (size_t)nx * ny * nz, ends[2 * s], ends[2 * s + 1]).face);
+        sum = mixed(sum, (uint32_t)call((oat_counts){nx, ny, nz}, cells, (size_t)nx * ny * nz, ends[2 * s], ends[2 * s + 1] HOW).face);
     return sum;
 }
 
-uint64_t sum_sight_faces(sight_call *call, uint32_t nx, uint32_t ny, uint32_t nz, const uint8_t *cells, const oat_cell *ends, size_t segments) {
+INLINE uint64_t sight_faces(manner how, sight_call *call, SEGMENTS) {
     uint64_t sum = 0;
     oat_placement at = {.edge = 1};
+    (void)how;
     for (size_t s = 0; s < segments; s++)
-        sum = mixed(sum, (uint32_t)call((oat_counts){nx, ny, nz}, cells, (size_t)nx * ny * nz, at, centre(ends[2 * s]), centre(ends[2 * s + 1])).face);
+        sum = mixed(sum, (uint32_t)call((oat_counts){nx, ny, nz}, cells, (size_t)nx * ny * nz, at, centre(ends[2 * s]), centre(ends[2 * s + 1]) HOW).face);
     return sum;
 }
+
+uint64_t sum_faces(hit_call *call, SEGMENTS) { return faces(tested, call, GIVEN); }
+uint64_t sum_sight_faces(sight_call *call, SEGMENTS) { return sight_faces(tested, call, GIVEN); }
+#endif
+
+/* the same with a start that is not tested */
+#if OAT_REVISION >= 4
+uint64_t loop_hits_untested(hit_call *call, size_t rounds, SEGMENTS) { return hits(untested, call, rounds, GIVEN); }
+uint64_t loop_sights_untested(sight_call *call, size_t rounds, SEGMENTS) { return sights(untested, call, rounds, GIVEN); }
+uint64_t sum_faces_untested(hit_call *call, SEGMENTS) { return faces(untested, call, GIVEN); }
+uint64_t sum_sight_faces_untested(sight_call *call, SEGMENTS) { return sight_faces(untested, call, GIVEN); }
 #endif
 
 uint64_t loop_lists(list_call *call, size_t rounds, const oat_cell *ends, size_t segments, int32_t *out, size_t room) {

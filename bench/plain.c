@@ -7,6 +7,7 @@ __typeof__(oat_line6) BY(line6);
 __typeof__(oat_line26) BY(line26);
 __typeof__(oat_plain) BY(plain);
 __typeof__(oat_adaptive) BY(adaptive);
+__typeof__(oat_sight) BY(sight);
 __typeof__(oat_mark) BY(mark);
 __typeof__(oat_complete) BY(complete);
 
@@ -85,36 +86,47 @@ static oat_hit BY(found)(oat_counts n, const uint8_t *cells, const uint8_t *at, 
     return h;
 }
 
-oat_hit BY(plain)(oat_counts n, const uint8_t *cells, size_t bytes, oat_cell p, oat_cell q) {
+/* over the next face of the 6-line */
+#define CROSS                                                 \
+    do {                                                      \
+        if (xy < 0) {                                         \
+            if (xz < 0) at += sx, xy += b2, xz += c2;         \
+            else at += sz, xz -= a2, zy += b2;                \
+        } else {                                              \
+            if (zy < 0) at += sz, xz -= a2, zy += b2;         \
+            else at += sy, xy -= a2, zy -= c2;                \
+        }                                                     \
+    } while (0)
+
+/* a solid start that is not tested is left before the loop, which is then the same for both starts */
+oat_hit BY(plain)(oat_counts n, const uint8_t *cells, size_t bytes, oat_cell p, oat_cell q, oat_manner how) {
     (void)bytes;
     way w = way_of(p, q);
     int xy = w.b - w.a, xz = w.c - w.a, zy = w.b - w.c, a2 = 2 * w.a, b2 = 2 * w.b, c2 = 2 * w.c;
     ptrdiff_t sx = w.x, sy = w.y * (ptrdiff_t)n.nx, sz = w.z * (ptrdiff_t)n.nx * n.ny;
     const uint8_t *at = cells + p.x + (ptrdiff_t)n.nx * (p.y + (ptrdiff_t)n.ny * p.z);
     int faces = w.a + w.b + w.c, left = faces;
-    for (; left && *at < OAT_SOLID_LEAST; left--) {
-        if (xy < 0) {
-            if (xz < 0) at += sx, xy += b2, xz += c2;
-            else at += sz, xz -= a2, zy += b2;
-        } else {
-            if (zy < 0) at += sz, xz -= a2, zy += b2;
-            else at += sy, xy -= a2, zy -= c2;
-        }
+    if (how.start == OAT_START_UNTESTED && *at >= OAT_SOLID_LEAST) {
+        if (!left) return (oat_hit){.reads = 1};
+        CROSS;
+        left--;
     }
+    for (; left && *at < OAT_SOLID_LEAST; left--) CROSS;
     return BY(found)(n, cells, at, p, w, (uint32_t)(faces - left) + 1);
 }
 
 /* The adaptive walk as the paper has it: on clear runs the two values of the 26-line (f and g, of the shorter axes v and w against the longest,
    u), all three of the tripod where the way is near. vw is the third one times U, since it is had from the two others; -1 puts a tie on the
-   side of the axis that goes first. */
-oat_hit BY(adaptive)(oat_counts n, const uint8_t *cells, size_t bytes, oat_cell p, oat_cell q) {
+   side of the axis that goes first. Whether a cell is a start that is not tested is asked of solid ones alone, so it takes no time on the way. */
+oat_hit BY(adaptive)(oat_counts n, const uint8_t *cells, size_t bytes, oat_cell p, oat_cell q, oat_manner how) {
     (void)bytes;
     way way = way_of(p, q);
     int U = longest(way), by_x = U == way.a, by_y = !by_x && U == way.b, by_z = !by_x && !by_y;
     int V = by_x ? way.b : way.a, W = by_z ? way.b : way.c;
     ptrdiff_t sx = way.x, sy = way.y * (ptrdiff_t)n.nx, sz = way.z * (ptrdiff_t)n.nx * n.ny;
     ptrdiff_t su = by_x ? sx : by_y ? sy : sz, sv = by_x ? sy : sx, sw = by_z ? sy : sz;
-    const uint8_t *at = cells + p.x + (ptrdiff_t)n.nx * (p.y + (ptrdiff_t)n.ny * p.z);
+    const uint8_t *at = cells + p.x + (ptrdiff_t)n.nx * (p.y + (ptrdiff_t)n.ny * p.z), *exempt = how.start == OAT_START_UNTESTED ? at : 0;
+    if (!U && exempt) return (oat_hit){.reads = 1};
     int f = 2 * V - U, g = 2 * W - U, U2 = 2 * U, V2 = 2 * V, W2 = 2 * W, left = U;
     uint32_t more = 1; /* reads beyond one a long step */
     while (left) {
@@ -137,7 +149,8 @@ oat_hit BY(adaptive)(oat_counts n, const uint8_t *cells, size_t bytes, oat_cell 
             left--;
             more += (uint32_t)faces - 1;
             do {
-                if (*at >= OAT_SOLID_LEAST) return BY(found)(n, cells, at, p, way, (uint32_t)(U - left) + more - (uint32_t)faces);
+                if (*at >= OAT_SOLID_LEAST && at != exempt)
+                    return BY(found)(n, cells, at, p, way, (uint32_t)(U - left) + more - (uint32_t)faces);
                 if (vw < 0) {
                     if (uv >= 0) at += sv, uv -= U2, vw += vw_v;
                     else at += su, uv += V2, uw += W2;
@@ -149,6 +162,18 @@ oat_hit BY(adaptive)(oat_counts n, const uint8_t *cells, size_t bytes, oat_cell 
         } while (left && *at != OAT_CLEAR);
     }
     return BY(found)(n, cells, at, p, way, (uint32_t)U + more);
+}
+
+/* points within the grid, so that a quotient rounded towards 0 is the cell */
+static inline oat_cell cell_at(oat_placement at, oat_point p) {
+    return (oat_cell){(int)((p.x - at.ox) / at.edge), (int)((p.y - at.oy) / at.edge), (int)((p.z - at.oz) / at.edge)};
+}
+
+oat_sight_answer BY(sight)(oat_counts n, const uint8_t *cells, size_t bytes, oat_placement at, oat_point camera, oat_point ball, oat_manner how) {
+    oat_hit h = BY(adaptive)(n, cells, bytes, cell_at(at, camera), cell_at(at, ball), how);
+    if (!h.hit) return (oat_sight_answer){.blocked = 0};
+    double share = (double)h.num / h.den;
+    return (oat_sight_answer){.blocked = 1, .share = share, .x = h.x, .y = h.y, .z = h.z, .code = h.code, .reads = h.reads, .face = h.face};
 }
 
 /* ---- marks: of three layers the largest byte at each place of a row, kept for three rows; of these the largest; then of three places */

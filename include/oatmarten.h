@@ -1,4 +1,4 @@
-/* Oatmarten: exact sight lines through a voxel grid. The C interface, revision 3 (OAT_REVISION).
+/* Oatmarten: exact sight lines through a voxel grid. The C interface, revision 4 (OAT_REVISION).
 
    Link with liboatmarten.a (x86-64 Linux). docs/C.md has a whole program, docs/SCOPE.md the exact rules, docs/TRUST.md says what is proved
    and what is not.
@@ -28,7 +28,7 @@ extern "C" {
 #endif
 
 /* Grows by one when a struct, a call or a number of this header changes. */
-#define OAT_REVISION 3
+#define OAT_REVISION 4
 
 /* The field `refusal`, with what it names. Where more than one applies, each call below says the order of its tests; ends are looked at P
    before Q, axes in the order x, y, z. */
@@ -59,7 +59,8 @@ enum oat_byte { OAT_CLEAR = 0, OAT_NEAR = 1, OAT_SOLID_LEAST = 2 };
 
 /* The field `face`: which side of the solid cell the line came in by, told by the way in which the line moves. OAT_FACE_PLUS_X: it moves to
    larger x and comes in by the cell's low-x side; OAT_FACE_MINUS_X: it moves to smaller x and comes in by the high-x side; y and z
-   likewise. OAT_FACE_NONE: the solid cell is the start p itself, so the line came in by no side. Opposite moves have opposite numbers. */
+   likewise. OAT_FACE_NONE: the solid cell is the start p itself, so the line came in by no side; that is met with a tested start alone.
+   Opposite moves have opposite numbers. */
 enum oat_face {
     OAT_FACE_NONE = 0,
     OAT_FACE_PLUS_X = 1,
@@ -68,6 +69,12 @@ enum oat_face {
     OAT_FACE_MINUS_Y = -2,
     OAT_FACE_PLUS_Z = 3,
     OAT_FACE_MINUS_Z = -3
+};
+
+/* The field `start` of oat_manner: whether the cell where a walk starts can be what is in the way. */
+enum oat_start {
+    OAT_START_UNTESTED = 0, /* it cannot: it is not tested. The default */
+    OAT_START_TESTED = 1    /* it can: it is tested like any other cell. Any other number than 0 means the same */
 };
 
 #define OAT_COUNT_MOST 1024          /* cells along an axis of a grid */
@@ -109,6 +116,23 @@ typedef struct {
     double y;
     double z;
 } oat_point;
+
+/* How a walk is made. OAT_MANNER_USUAL is the default, and can stand for the argument itself; it has an untested start. Riggers model the
+   box of a camera as solid. The camera stands inside that box, so with a tested start every such camera would be blocked at once, by its own
+   housing. With an untested start the cell p, where the walk starts, is not tested. It is still read, and counted in `reads`. Where it
+   is solid it counts as near, so no long step starts there. Only p is exempt: a second cell of the box is in the way, and so is q where it
+   is solid and not p. Where p is not solid both starts give the same answer.
+   To ask for something else, take the default and change a field, so that the rest stays usual. A zeroed oat_manner is the default now; that
+   may change when the struct gains a field. */
+typedef struct {
+    uint32_t start; /* enum oat_start */
+} oat_manner;
+
+#ifdef __cplusplus
+#define OAT_MANNER_USUAL (oat_manner{OAT_START_UNTESTED})
+#else
+#define OAT_MANNER_USUAL ((oat_manner){OAT_START_UNTESTED})
+#endif
 
 /* ---- what they answer */
 
@@ -186,7 +210,7 @@ typedef struct {
     int32_t y;
     int32_t z;
     uint32_t code;  /* its material code, 2 to 255 */
-    uint32_t num;   /* num/den of the way from P's centre to Q's the line enters it; 0/1 where it is P; not reduced */
+    uint32_t num;   /* num/den of the way from P's centre to Q's the line enters it; not reduced; 0/1 where it is P (a tested start) */
     uint32_t den;
     int32_t face;   /* enum oat_face: the side by which the line enters it, at num/den of the way; OAT_FACE_NONE where it is P */
     uint32_t reads; /* cells of the walk, its last included */
@@ -196,7 +220,7 @@ typedef struct {
 typedef struct {
     oat_said said;
     uint32_t blocked; /* 1: a solid cell is in the way; 0: clear, and the fields below are 0 */
-    double share;     /* of the way at which the line enters that cell, 0 to 1 */
+    double share;     /* of the way at which the line enters that cell, 0 to 1; 0 where it is the camera's (a tested start) */
     int32_t x;        /* the cell in the way */
     int32_t y;
     int32_t z;
@@ -231,14 +255,16 @@ oat_complete_answer oat_complete(oat_counts n, const uint8_t *cells, size_t byte
 /* Where layer z lies: nx*ny bytes. Nothing is copied. */
 oat_part oat_layer(oat_counts n, const uint8_t *cells, size_t bytes, int32_t z);
 
-/* The first solid cell along the 6-line from p to q. Both ends are tested, p first: where p is solid it is the hit, at 0/1 and by no side.
-   Asks for no marks. */
-oat_hit oat_plain(oat_counts n, const uint8_t *cells, size_t bytes, oat_cell p, oat_cell q);
+/* The first solid cell along the 6-line from p to q, made as `how` says. With an untested start it is a later cell than p, q at the last; where q
+   is p the way is clear with one read, whatever the byte. With a tested start p comes first: where it is solid it is the hit, at 0/1 and by
+   no side. Asks for no marks. */
+oat_hit oat_plain(oat_counts n, const uint8_t *cells, size_t bytes, oat_cell p, oat_cell q, oat_manner how);
 
 /* The same with long steps over clear cells: from a clear cell of the 26-line to the next cell of the 26-line; from every other cell to
-   the next of the 6-line. A cell that a long step leads to has the place and the side by which the 6-line enters it. Where the marks are
-   complete it gives the answer of oat_plain, with no more reads; where they are not, it may miss a solid cell, and never makes one up. */
-oat_hit oat_adaptive(oat_counts n, const uint8_t *cells, size_t bytes, oat_cell p, oat_cell q);
+   the next of the 6-line, from a solid p that is not tested too. A cell that a long step leads to has the place and the side by which the
+   6-line enters it. Where the marks are complete it gives the answer that oat_plain gives for the same `how`, with no more reads; where
+   they are not, it may miss a solid cell, and never makes one up. */
+oat_hit oat_adaptive(oat_counts n, const uint8_t *cells, size_t bytes, oat_cell p, oat_cell q, oat_manner how);
 
 /* ---- surveyed points */
 
@@ -247,8 +273,9 @@ oat_hit oat_adaptive(oat_counts n, const uint8_t *cells, size_t bytes, oat_cell 
 oat_found oat_cell_of(oat_counts n, oat_placement at, oat_point point);
 
 /* Whether anything solid is in the way from the camera's cell to the ball's, by the adaptive walk: refusals 2, 3, 7, then the camera (P) by
-   axis 8, 9, then the ball (Q). Both cells are tested too. Takes the marks as they are: mark first. */
-oat_sight_answer oat_sight(oat_counts n, const uint8_t *cells, size_t bytes, oat_placement at, oat_point camera, oat_point ball);
+   axis 8, 9, then the ball (Q). The camera's own cell is tested where `how` says so, and by OAT_MANNER_USUAL it is not; a ball in that same cell is
+   then seen. The ball's cell is tested otherwise. Takes the marks as they are: mark first. */
+oat_sight_answer oat_sight(oat_counts n, const uint8_t *cells, size_t bytes, oat_placement at, oat_point camera, oat_point ball, oat_manner how);
 
 /* ---- records: numbers are big-endian; bytes after a record are not looked at */
 

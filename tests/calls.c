@@ -89,6 +89,17 @@ static double take_f64(void) { return ((union { u64 bits; double value; }){take_
 /* a word that holds this value until its request lands */
 static void take_fixed(long held) { take_between(held, held); }
 
+/* the words start and rule of a walk. start is 0 tested, 1 not tested; in C 0 is not tested and every other number is tested, so each run of a
+   call that is tested has another one */
+static oat_manner take_manner(void) {
+    static const u32 tested[] = {OAT_START_TESTED, 4294967295u, 2, 256, 65536, 16777216, 2147483648u, 4294967294u};
+    static size next;
+    long untested = take_between(0, 1);
+    take_fixed(1);
+    if (untested) return OAT_MANNER_USUAL;
+    return (oat_manner){.start = tested[next++ % (sizeof tested / sizeof *tested)]};
+}
+
 static oat_cell take_cell(void) {
     i32 x = take_i32(), y = take_i32(), z = take_i32();
     return (oat_cell){x, y, z};
@@ -234,13 +245,12 @@ static const char *face_word(i32 face) {
     }
 }
 
-static void first_hit(oat_hit walk(oat_counts, const u8 *, size, oat_cell, oat_cell)) {
+static void first_hit(oat_hit walk(oat_counts, const u8 *, size, oat_cell, oat_cell, oat_manner)) {
     grid g = lend_grid();
     oat_cell p = take_cell(), q = take_cell();
-    take_fixed(0);
-    take_fixed(1);
+    oat_manner how = take_manner();
     only_read(g.cells);
-    oat_hit got = walk(g.n, g.cells.at, g.cells.bytes, p, q);
+    oat_hit got = walk(g.n, g.cells.at, g.cells.bytes, p, q, how);
     take_back(g.cells);
     if (got.said.refusal) say_refused(got.said);
     else if (got.hit == 1)
@@ -281,10 +291,9 @@ static void sight(void) {
     grid g = lend_grid();
     oat_placement at = take_placement();
     oat_point camera = take_point(), ball = take_point();
-    take_fixed(0);
-    take_fixed(1);
+    oat_manner how = take_manner();
     only_read(g.cells);
-    oat_sight_answer got = oat_sight(g.n, g.cells.at, g.cells.bytes, at, camera, ball);
+    oat_sight_answer got = oat_sight(g.n, g.cells.at, g.cells.bytes, at, camera, ball, how);
     take_back(g.cells);
     if (got.said.refusal) say_refused(got.said);
     else if (got.blocked == 1)
@@ -376,7 +385,7 @@ static void answer(void run(void)) {
         if (taken != given) fail("a line has too many numbers");
     }
     if (strcmp(answers[0].at, answers[1].at)) {
-        printf("the answer depends on where the slices stand\n  %s\n  %s\n", answers[0].at, answers[1].at);
+        printf("the answer depends on where the slices stand, or on the number that says tested\n  %s\n  %s\n", answers[0].at, answers[1].at);
         fflush(0);
         exit(1);
     }

@@ -20,6 +20,7 @@ int main(void) {
     const oat_cell p = {.x = 8, .y = 0, .z = 1}, q = {.x = 0, .y = 7, .z = 4};
     const oat_placement at = {.ox = -10, .oy = 20, .oz = 3, .edge = 0.5};
     const oat_point camera = {.x = -5.75, .y = 20.25, .z = 3.75}, ball = {.x = -9.75, .y = 23.75, .z = 5.25};
+    const oat_manner tested = {.start = OAT_START_TESTED}, untested = {.start = OAT_START_UNTESTED}, zeroed = {0};
     const uint8_t pair[OAT_PAIR_BYTES] = {0, 0, 0, 13, 1, 255, 255, 0, 2, 255, 253, 0, 4, 255, 251, 0, 6};
 
     /* ends and axes */
@@ -38,27 +39,44 @@ int main(void) {
     SHOW(oat_complete_answer, oat_complete(n, cells, sizeof cells));
     SHOW(oat_part, oat_layer(n, cells, sizeof cells, 3));
     SHOW(oat_part, oat_layer(n, cells, sizeof cells, 7));
-    SHOW(oat_hit, oat_plain(n, cells, sizeof cells, p, q));
-    SHOW(oat_hit, oat_adaptive(n, cells, sizeof cells, p, q));
-    SHOW(oat_hit, oat_plain(n, cells, sizeof cells, p, (oat_cell){.x = 0, .y = 0, .z = 7}));
+    SHOW(oat_hit, oat_plain(n, cells, sizeof cells, p, q, tested));
+    SHOW(oat_hit, oat_adaptive(n, cells, sizeof cells, p, q, untested));
+    SHOW(oat_hit, oat_plain(n, cells, sizeof cells, p, (oat_cell){.x = 0, .y = 0, .z = 7}, OAT_MANNER_USUAL));
 
-    /* that cell by each of its sides, then as the start, then not met */
+    /* that cell by each of its sides, then as the start, then not met; the start is tested */
     const oat_cell ways[][2] = {
         {{.x = 0, .y = 6, .z = 3}, {.x = 8, .y = 6, .z = 3}}, {{.x = 8, .y = 6, .z = 3}, {.x = 0, .y = 6, .z = 3}},
         {{.x = 2, .y = 0, .z = 3}, {.x = 2, .y = 7, .z = 3}}, {{.x = 2, .y = 7, .z = 3}, {.x = 2, .y = 0, .z = 3}},
         {{.x = 2, .y = 6, .z = 0}, {.x = 2, .y = 6, .z = 6}}, {{.x = 2, .y = 6, .z = 6}, {.x = 2, .y = 6, .z = 0}},
         {{.x = 2, .y = 6, .z = 3}, {.x = 0, .y = 0, .z = 0}}, {{.x = 0, .y = 0, .z = 0}, {.x = 8, .y = 0, .z = 0}},
     };
-    for (size_t k = 0; k < sizeof ways / sizeof *ways; k++) SHOW(oat_hit, oat_plain(n, cells, sizeof cells, ways[k][0], ways[k][1]));
+    for (size_t k = 0; k < sizeof ways / sizeof *ways; k++) SHOW(oat_hit, oat_plain(n, cells, sizeof cells, ways[k][0], ways[k][1], tested));
+
+    /* that cell as the start: not tested by the default, by its name and by 0; tested by any other number, here each of the 32 bits alone */
+    const oat_cell solid = {.x = 2, .y = 6, .z = 3}, away = {.x = 0, .y = 6, .z = 3};
+    SHOW(oat_hit, oat_plain(n, cells, sizeof cells, solid, away, OAT_MANNER_USUAL));
+    SHOW(oat_hit, oat_plain(n, cells, sizeof cells, solid, away, untested));
+    SHOW(oat_hit, oat_adaptive(n, cells, sizeof cells, solid, away, zeroed));
+    SHOW(oat_hit, oat_adaptive(n, cells, sizeof cells, solid, solid, OAT_MANNER_USUAL));
+    for (int bit = 0; bit < 32; bit++) {
+        oat_manner how = OAT_MANNER_USUAL;
+        how.start = (uint32_t)1 << bit;
+        SHOW(oat_hit, oat_adaptive(n, cells, sizeof cells, solid, away, how));
+    }
 
     /* surveyed points */
     SHOW(oat_found, oat_cell_of(n, at, ball));
     SHOW(oat_found, oat_cell_of(n, (oat_placement){.ox = 0, .oy = 0, .oz = 0, .edge = 0}, ball));
     SHOW(oat_found, oat_cell_of(n, at, (oat_point){.x = -9, .y = 1 / 0.0, .z = 3}));
-    SHOW(oat_sight_answer, oat_sight(n, cells, sizeof cells, at, camera, ball));
+    SHOW(oat_sight_answer, oat_sight(n, cells, sizeof cells, at, camera, ball, OAT_MANNER_USUAL));
     SHOW(oat_sight_answer, oat_sight(n, cells, sizeof cells, at, (oat_point){.x = -8.75, .y = 23.25, .z = 6.25},
-                                     (oat_point){.x = -8.75, .y = 23.25, .z = 3.25}));
-    SHOW(oat_sight_answer, oat_sight(n, cells, sizeof cells, at, camera, (oat_point){.x = -9.75, .y = 23.75, .z = 6.5}));
+                                     (oat_point){.x = -8.75, .y = 23.25, .z = 3.25}, tested));
+    SHOW(oat_sight_answer, oat_sight(n, cells, sizeof cells, at, camera, (oat_point){.x = -9.75, .y = 23.75, .z = 6.5}, untested));
+
+    /* from the solid cell */
+    const oat_point inside = {.x = -8.75, .y = 23.25, .z = 4.75};
+    SHOW(oat_sight_answer, oat_sight(n, cells, sizeof cells, at, inside, ball, tested));
+    SHOW(oat_sight_answer, oat_sight(n, cells, sizeof cells, at, inside, ball, OAT_MANNER_USUAL));
 
     /* records */
     SHOW(oat_written, oat_write_venue(n, cells, sizeof cells, record, sizeof record - 2));
