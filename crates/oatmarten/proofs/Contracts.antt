@@ -2,7 +2,7 @@
 -- inputs a, its answer r and the memory at exit e. A weaker `ensures` fails here, in its own crate. Assumes nothing.
 use lib.ListN.{length}
 use Rattle.walks.specs.declared.Walker.the-variants.{Plain, Adaptive}
-use Rattle.oatmarten.specs.Inputs.{as-cell, as-counts, as-placement, as-point}
+use Rattle.oatmarten.specs.Inputs.{as-cell, as-counts, as-manner, as-placement, as-point}
 use Rattle.oatmarten.specs.LineCalls.{FlatLine6, FlatLine26}
 use Rattle.oatmarten.specs.GridCalls.{FlatMarks, FlatCompletes, FlatGivesLayerPart}
 use Rattle.oatmarten.specs.WalkCalls.{FlatFinds}
@@ -37,18 +37,19 @@ pub of-layer : (κs : _) (a : _) (r : _) (e : _) → layer.Post κs a r e → Fl
 of-layer κs a r e h = h
 
 pub of-plain : (κs : _) (a : _) (r : _) (e : _) → plain.Post κs a r e →
-    FlatFinds Plain (as-counts (a .0)) (a .1 .0 .now) (as-cell (a .1 .1 .0)) (as-cell (a .1 .1 .1 .0)) r
+    FlatFinds Plain (as-manner (a .1 .1 .1 .1 .0)) (as-counts (a .0)) (a .1 .0 .now) (as-cell (a .1 .1 .0)) (as-cell (a .1 .1 .1 .0)) r
 of-plain κs a r e h = h
 
 pub of-adaptive : (κs : _) (a : _) (r : _) (e : _) → adaptive.Post κs a r e →
-    FlatFinds Adaptive (as-counts (a .0)) (a .1 .0 .now) (as-cell (a .1 .1 .0)) (as-cell (a .1 .1 .1 .0)) r
+    FlatFinds Adaptive (as-manner (a .1 .1 .1 .1 .0)) (as-counts (a .0)) (a .1 .0 .now) (as-cell (a .1 .1 .0)) (as-cell (a .1 .1 .1 .0)) r
 of-adaptive κs a r e h = h
 
 pub of-cell-of : (κs : _) (a : _) (r : _) (e : _) → cell-of.Post κs a r e → FlatLooksUp (as-counts (a .0)) (as-placement (a .1 .0)) (as-point (a .1 .1 .0)) r
 of-cell-of κs a r e h = h
 
 pub of-sight : (κs : _) (a : _) (r : _) (e : _) → sight.Post κs a r e →
-    FlatSees (as-counts (a .0)) (a .1 .0 .now) (as-placement (a .1 .1 .0)) (as-point (a .1 .1 .1 .0)) (as-point (a .1 .1 .1 .1 .0)) r
+    FlatSees (as-manner (a .1 .1 .1 .1 .1 .0)) (as-counts (a .0)) (a .1 .0 .now) (as-placement (a .1 .1 .0)) (as-point (a .1 .1 .1 .0))
+    (as-point (a .1 .1 .1 .1 .0)) r
 of-sight κs a r e h = h
 
 pub of-read-venue : (κs : _) (a : _) (r : _) (e : _) → read-venue.Post κs a r e → FlatReadsVenue (a .0 .now) r

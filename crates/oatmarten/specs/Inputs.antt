@@ -1,8 +1,15 @@
 -- What C's structs that go into a call mean. Assumes nothing.
+use Prim.Native.Nat.{ℕ}
+use mathlib.Core.Bool.{cond}
+use lib.Dec.{eqb}
 use Rattle.cells.specs.declared.Cell.{Cell}
 use Rattle.cells.specs.declared.Counts.{Counts}
+use Rattle.cells.specs.declared.Manner.{Manner}
+use Rattle.cells.specs.declared.Start.{Start}
+use Rattle.cells.specs.declared.Start.the-variants.{Untested, Tested}
 use Rattle.oatmarten.specs.declared.inputs.OatCell.{OatCell}
 use Rattle.oatmarten.specs.declared.inputs.OatCounts.{OatCounts}
+use Rattle.oatmarten.specs.declared.inputs.OatManner.{OatManner}
 use Rattle.oatmarten.specs.declared.inputs.OatPlacement.{OatPlacement}
 use Rattle.oatmarten.specs.declared.inputs.OatPoint.{OatPoint}
 use Rattle.survey.specs.declared.Placement.{Placement}
@@ -15,6 +22,13 @@ as-cell c = record { x = c .x; y = c .y; z = c .z }
 -- the counts that C's struct means
 abbrev pub as-counts : OatCounts → Counts
 as-counts n = record { nx = n .nx; ny = n .ny; nz = n .nz }
+
+-- the manner that C's struct means: 0 stands for a start that is not tested, any other number for one that is
+abbrev pub as-start : ℕ → Start
+as-start number = cond (eqb number 0) Untested Tested
+
+abbrev pub as-manner : OatManner → Manner
+as-manner how = record { start = as-start (how .start) }
 
 -- the placement and the point that C's structs mean
 abbrev pub as-placement : OatPlacement → Placement

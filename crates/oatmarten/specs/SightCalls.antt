@@ -3,6 +3,7 @@ use Prim.Native.Nat.{ℕ}
 use mathlib.Core.List.{List}
 use lib.IntN.{pos}
 use Rattle.cells.specs.declared.Counts.{Counts}
+use Rattle.cells.specs.declared.Manner.{Manner}
 use Rattle.oatmarten.specs.declared.refusals.OatSaid.{OatSaid}
 use Rattle.oatmarten.specs.declared.sight_calls.OatFound.{OatFound}
 use Rattle.survey.specs.declared.Placement.{Placement}
@@ -60,5 +61,5 @@ flat-sight (Sight.Refused r) = unblocked (flat-refusal r)
 abbrev pub FlatLooksUp : Counts → Placement → Point → OatFound → Type 0
 FlatLooksUp n at p = Flattens flat-found (LooksUp n at p)
 
-abbrev pub FlatSees : Counts → List ℕ → Placement → Point → Point → OatSight → Type 0
-FlatSees n cells at camera ball = Flattens flat-sight (Sees n cells at camera ball)
+abbrev pub FlatSees : Manner → Counts → List ℕ → Placement → Point → Point → OatSight → Type 0
+FlatSees how n cells at camera ball = Flattens flat-sight (Sees how n cells at camera ball)

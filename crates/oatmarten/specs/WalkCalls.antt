@@ -4,6 +4,7 @@ use mathlib.Core.List.{List}
 use lib.IntN.{pos}
 use Rattle.cells.specs.declared.Cell.{Cell}
 use Rattle.cells.specs.declared.Counts.{Counts}
+use Rattle.cells.specs.declared.Manner.{Manner}
 use Rattle.walks.specs.declared.Walker.{Walker}
 use Rattle.walks.specs.declared.FirstHit.{FirstHit}
 use Rattle.walks.specs.declared.FirstHit.the-variants as FirstHit
@@ -50,5 +51,5 @@ flat-hit (FirstHit.Refused r) = no-hit (flat-refusal r) 0
 
 -- ---- the contract, of either walk
 
-abbrev pub FlatFinds : Walker → Counts → List ℕ → Cell → Cell → OatHit → Type 0
-FlatFinds w n cells p q = Flattens flat-hit (Finds w n cells p q)
+abbrev pub FlatFinds : Walker → Manner → Counts → List ℕ → Cell → Cell → OatHit → Type 0
+FlatFinds w how n cells p q = Flattens flat-hit (Finds w how n cells p q)

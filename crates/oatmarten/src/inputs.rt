@@ -1,6 +1,6 @@
 // C's structs that go into a call, and the values that they mean.
 ghost use mathlib.Core.Path.{_≡_};
-ghost use Rattle.oatmarten.specs.Inputs.{as-cell, as-counts, as-manner, as-placement, as-point};
+ghost use Rattle.oatmarten.specs.Inputs.{as-cell, as-counts, as-start, as-manner, as-placement, as-point};
 use cells::Cell;
 use cells::Counts;
 use cells::Manner;
@@ -51,18 +51,23 @@ pub struct OatManner {
     pub start: u32,
 }
 
+// A start by C's number.
+fn start_of(number: u32) -> Start
+    ensures { λ r. ⌜ r ≡ as-start number ⌝ }
+{
+    if number == 0 {
+        Start::Untested
+    } else {
+        Start::Tested
+    }
+}
+
 // A manner of C's as such.
 pub(crate) fn manner(how: OatManner) -> Manner
     ensures { λ r. ⌜ r ≡ as-manner how ⌝ }
 {
-    if how.start == 0 {
-        Manner {
-            start: Start::Untested,
-        }
-    } else {
-        Manner {
-            start: Start::Tested,
-        }
+    Manner {
+        start: start_of(how.start),
     }
 }
 

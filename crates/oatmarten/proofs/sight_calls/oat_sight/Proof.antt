@@ -15,6 +15,9 @@ point-requires c κs = search needs
 point-requires-2 : tie.Need-point-requires-2
 point-requires-2 c κs = search needs
 
+manner-requires : tie.Need-manner-requires
+manner-requires c κs = search needs
+
 see-requires : tie.Need-see-requires
 see-requires c κs = search needs
 
@@ -28,10 +31,11 @@ returns c =
       meets = record {
         says = rw (
           c .before .see .ensures .says,
-          c .before .before .point2 .ensures,
-          c .before .before .before .point .ensures,
-          c .before .before .before .before .placement .ensures,
-          c .before .before .before .before .before .counts .ensures,
+          c .before .before .manner .ensures,
+          c .before .before .before .point2 .ensures,
+          c .before .before .before .before .point .ensures,
+          c .before .before .before .before .before .placement .ensures,
+          c .before .before .before .before .before .before .counts .ensures,
         );
       };
       flat = c .flat-sight .ensures;
@@ -45,6 +49,7 @@ oat-sight-spec =
     placement-requires
     point-requires
     point-requires-2
+    manner-requires
     see-requires
     flat-sight-requires
     returns)

@@ -12,6 +12,9 @@ cell-requires c κs = search needs
 cell-requires-2 : tie.Need-cell-requires-2
 cell-requires-2 c κs = search needs
 
+manner-requires : tie.Need-manner-requires
+manner-requires c κs = search needs
+
 first-plain-requires : tie.Need-first-plain-requires
 first-plain-requires c κs = search needs
 
@@ -25,9 +28,10 @@ returns c =
       meets = record {
         says = rw (
           c .before .first-plain .ensures .says,
-          c .before .before .cell2 .ensures,
-          c .before .before .before .cell .ensures,
-          c .before .before .before .before .counts .ensures,
+          c .before .before .manner .ensures,
+          c .before .before .before .cell2 .ensures,
+          c .before .before .before .before .cell .ensures,
+          c .before .before .before .before .before .counts .ensures,
         );
       };
       flat = c .flat-hit .ensures;
@@ -40,6 +44,7 @@ oat-plain-spec =
     counts-requires
     cell-requires
     cell-requires-2
+    manner-requires
     first-plain-requires
     flat-hit-requires
     returns)
