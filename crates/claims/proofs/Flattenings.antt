@@ -19,6 +19,7 @@ use Rattle.cells.specs.declared.Face.the-variants as Face
 use Rattle.cells.specs.declared.Part.{Part}
 use Rattle.cells.specs.declared.Part.the-variants.{OriginX, OriginY, OriginZ, Edge}
 use Rattle.cells.specs.declared.Refusal.{Refusal}
+use Rattle.cells.specs.declared.Start.the-variants.{Untested, Tested}
 use Rattle.cells.specs.declared.Refusal.the-variants.{Limit, Count, Bytes, Layer, OffGrid, Room, Placement, NotFinite, OffSurvey, Record, Version}
 use Rattle.cells.specs.declared.Verdict.{Verdict}
 use Rattle.cells.specs.declared.Verdict.the-variants as Verdict
@@ -169,7 +170,7 @@ said-numbers =
       version = refl;
       in-table = in-table;
       apart = tells-apart flat-refusal (λ s. untold (meant s)) refusal-back;
-      q-off-y = λ r h. ap (λ f. f .said) (h .flat ∙ ap flat-hit (h .meets .says));
+      q-off-y = λ how r h. ap (λ f. f .said) (h .flat ∙ ap flat-hit (h .meets .says));
     }
 
 -- ---- each flattening: what C reads, and a left inverse
@@ -386,6 +387,8 @@ input-rows =
     record {
       cell = λ x y z. refl;
       counts = λ nx ny nz. refl;
+      untested = refl;
+      tested = λ number other. λ i. record { start = cond (ne-eqb number 0 other i) Untested Tested };
       placement = λ ox oy oz edge. refl;
       point = λ x y z. refl;
     }

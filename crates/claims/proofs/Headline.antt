@@ -14,7 +14,7 @@ use Rattle.claims.proofs.Grids as grids
 use Rattle.claims.proofs.Points as points
 use Rattle.claims.proofs.Records as records
 use Rattle.claims.proofs.Sights.{seen-once, nothing-in-sight}
-use Rattle.claims.proofs.Story.{hit-once, hit-face, first-solid, walks-end, step-by-step, adaptive-step, one-story, never-invented}
+use Rattle.claims.proofs.Story.{hit-once, hit-face, first-solid, walks-end, step-by-step, adaptive-step, one-story, never-invented, start-tests, two-starts}
 
 pub takes-anything : TakesAnything
 takes-anything =
@@ -45,7 +45,8 @@ are-the-papers =
       none-missing = λ p q. no-cell-missing rule-1 p q .found;
       twenty-six = line-26-holds rule-1;
       listed = cells-listed;
-      walks = λ n l p q. (step-by-step n l p q, walks-end n l p q);
+      walks = λ how n l p q. (step-by-step how n l p q, walks-end how n l p q);
+      tests = start-tests;
       adaptive = adaptive-step;
       plain = first-solid;
       read-back = λ n cells entry exit k. records.read-back-same n cells entry .same exit k;
@@ -54,8 +55,9 @@ are-the-papers =
 pub tell-one-story : TellOneStory
 tell-one-story =
     record {
-      same = λ n l p q yes. one-story n l p q .story (grids.says-complete n l .yes yes);
-      clear = λ n l at camera ball yes. nothing-in-sight n l at camera ball .open-way (grids.says-complete n l .yes yes);
-      never-invented = λ n l p q k plain ha hp. let (h, is, place, order) = never-invented n l p q .plain-too k plain ha hp in (h, is, order);
+      same = λ how n l p q yes. one-story how n l p q .story (grids.says-complete n l .yes yes);
+      clear = λ how n l at camera ball yes. nothing-in-sight how n l at camera ball .open-way (grids.says-complete n l .yes yes);
+      never-invented = λ how n l p q k plain ha hp. let (h, is, place, order) = never-invented how n l p q .plain-too k plain ha hp in (h, is, order);
       faces = hit-face;
+      starts = two-starts;
     }

@@ -12,6 +12,7 @@ use Rattle.cells.specs.declared.Axis.{Axis}
 use Rattle.cells.specs.declared.Axis.the-variants.{X, Y, Z}
 use Rattle.cells.specs.declared.Cell.{Cell}
 use Rattle.cells.specs.declared.Counts.{Counts}
+use Rattle.cells.specs.declared.Manner.{Manner}
 use Rattle.cells.specs.declared.End.{End}
 use Rattle.cells.specs.declared.End.the-variants.{P, Q}
 use Rattle.cells.specs.declared.Refusal.the-variants.{OffGrid}
@@ -20,8 +21,6 @@ use Rattle.cells.specs.declared.Verdict.the-variants.{Fine, Refused}
 use Rattle.cells.specs.Checks.{refuse-when, _then_}
 use Rattle.cells.proofs.Checks.{by-fine}
 use Rattle.cells.specs.Refusals.{told}
-use Rattle.lines.specs.Preference.{rule-1}
-use Rattle.lines.specs.Lines.{six-cell}
 use Rattle.grids.specs.Grid.{shape}
 use Rattle.grids.specs.Inside.{off-axis, grid-check, walk-check}
 use Rattle.walks.specs.declared.Walker.{Walker}
@@ -29,9 +28,8 @@ use Rattle.walks.specs.declared.Walker.the-variants.{Plain, Adaptive}
 use Rattle.walks.specs.declared.FirstHit.{FirstHit}
 use Rattle.walks.specs.declared.Hit.{Hit}
 use Rattle.walks.specs.declared.FirstHit.the-variants as FirstHit
-use Rattle.walks.specs.Walks.{hit-at}
 use Rattle.walks.specs.Answers.{first-hit}
-use Rattle.walks.specs.Numbers.{end-of}
+use Rattle.walks.specs.Numbers.{hits-at, end-of}
 use Rattle.walks.proofs.Story.{first-hit-is}
 use Rattle.records.specs.declared.pairs.Pair.{Pair}
 use Rattle.records.specs.declared.pairs.PairRead.the-variants as PairRead
@@ -236,8 +234,8 @@ walk-five n bytes p q fine =
     (five-then (grid-check P n p) _ (five-at P n p) (five-at Q n q))
 
 -- where all tests are passed, a walk is made
-walked : (w : Walker) (n : Counts) (l : List ℕ) (p q : Cell) → walk-check n (length l) p q ≡ Fine → Walked (first-hit w n l p q)
-walked w n l p q fine = subst Walked (sym (first-hit-is n l p q w)) (rw fine (by (hit-at n l (six-cell rule-1 p q (end-of n l p q w))) _ _))
+walked : (w : Walker) (how : Manner) (n : Counts) (l : List ℕ) (p q : Cell) → walk-check n (length l) p q ≡ Fine → Walked (first-hit w how n l p q)
+walked w how n l p q fine = subst Walked (sym (first-hit-is how n l p q w)) (rw fine (by (hits-at how n l p q (end-of how n l p q w)) _ _))
   where
     by : (b : Bool) (h : Hit) (reads : ℕ) → Walked (cond b (FirstHit.Hit h) (FirstHit.Clear reads))
     by true h reads = tt
@@ -285,7 +283,7 @@ five-or-lines bytes given t v e =
     by : (k : ℕ) → shape n (length cells) ≡ Fine → {said : Said} → said ≡ said-of-walks k (walk-check n (length cells) p q) found
         → (w : Verdict) → walk-check n (length cells) p q ≡ w
         → (said ≡ going-on k (pair-refused-line k 5)) ⊎ ((said ≡ going-on k (walk-lines k found)) × AllWalked found)
-    by k fine is Fine w = inr (is ∙ ap (λ u. said-of-walks k u found) w, (walked Plain n cells p q w, (walked Adaptive n cells p q w, tt)))
+    by k fine is Fine w = inr (is ∙ ap (λ u. said-of-walks k u found) w, (walked Plain _ n cells p q w, (walked Adaptive _ n cells p q w, tt)))
     by k fine is (Refused r) w =
         let five : told r .number ≡ 5 = subst FineOrFive w (walk-five n (length cells) p q fine) in
         inl (is ∙ ap (λ u. said-of-walks k u found) w ∙ ap (λ number. record { text = pair-refused-line k number; next = after-refusal k number }) five)

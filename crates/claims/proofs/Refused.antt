@@ -10,6 +10,7 @@ use lib.ListN.{length}
 use denote.Ref.{RefT}
 use Rattle.cells.specs.declared.Cell as cell
 use Rattle.cells.specs.declared.Counts.{Counts}
+use Rattle.cells.specs.declared.Manner.{Manner}
 use Rattle.cells.specs.declared.End.the-variants.{P, Q}
 use Rattle.cells.specs.declared.Verdict.{Verdict}
 use Rattle.cells.specs.declared.Verdict.the-variants.{Fine, Refused}
@@ -79,9 +80,10 @@ lines-told p q entry exit r =
 -- ---- grids
 
 -- what a walk answers is no refusal
-hit-told : (n : Counts) (l : List ℕ) (p q : cell.Cell) (cells : List cell.Cell) → (w : WalkSaid) × (told-hit (answer-of n l p q cells) ≡ inr w)
+hit-told : (how : Manner) (n : Counts) (l : List ℕ) (p q : cell.Cell) (cells : List cell.Cell) →
+    (w : WalkSaid) × (told-hit (answer-of how n l p q cells) ≡ inr w)
 unfolding answer-of
-hit-told n l p q cells = by (hit-at n l (last-of p cells)) _ _
+hit-told how n l p q cells = by (hit-at how n l p (last-of p cells)) _ _
   where
     by : (b : Bool) (h : Hit) (reads : ℕ) → (w : WalkSaid) × (told-hit (cond b (FirstHit.Hit h) (FirstHit.Clear reads)) ≡ inr w)
     by true h reads = (hit h, refl)
@@ -125,9 +127,9 @@ grids-told n l =
           (λ fine. (complete 3 n l, yes-or-no-told (complete 3 n l))) (c .says);
       layer-part = layer-part-told n l;
       layer = layer-told n;
-      first-hit = λ k p q r c.
-          answered told-hit (by-verdict FirstHit.Refused (answer-of n l p q (walk-of k n l p q))) (λ r. refl) (walk-judged n (length l) p q)
-          (λ fine. hit-told n l p q (walk-of k n l p q)) (c .says);
+      first-hit = λ k how p q r c.
+          answered told-hit (by-verdict FirstHit.Refused (answer-of how n l p q (walk-of k how n l p q))) (λ r. refl) (walk-judged n (length l) p q)
+          (λ fine. hit-told how n l p q (walk-of k how n l p q)) (c .says);
     }
 
 -- ---- surveyed points
@@ -154,7 +156,7 @@ sight-told (FirstHit.Clear reads) w e = (sights.clear, refl)
 sight-told (FirstHit.Hit h) w e = (_, refl)
 sight-told (FirstHit.Refused r) w e = one-of-two e
 
-module _ (n : Counts) (l : List ℕ) (at : Placement) (camera ball : Point) where
+module _ (how : Manner) (n : Counts) (l : List ℕ) (at : Placement) (camera ball : Point) where
   abbrev from : cell.Cell
   from = cell-at n (quotients at camera)
 
@@ -165,13 +167,13 @@ module _ (n : Counts) (l : List ℕ) (at : Placement) (camera ball : Point) wher
   abbrev sight-check : Verdict
   sight-check = shape n (length l) then placement-check at then point-check P n camera (quotients at camera) then point-check Q n ball (quotients at ball)
 
-  sight-by : sight n l at camera ball ≡ by-verdict Sight.Refused (sight-of (first-hit Adaptive n l from to)) sight-check
+  sight-by : sight how n l at camera ball ≡ by-verdict Sight.Refused (sight-of (first-hit Adaptive how n l from to)) sight-check
   unfolding sight looked look-up
   sight-by = in-one (shape n (length l)) (placement-check at) (point-check P n camera (quotients at camera)) (point-check Q n ball (quotients at ball))
     where
       in-one : (u v w x : Verdict) → by-verdict Sight.Refused
-          (seen n l (by-verdict Lookup.Refused (Lookup.Cell from) w) (by-verdict Lookup.Refused (Lookup.Cell to) x)) (u then v)
-          ≡ by-verdict Sight.Refused (sight-of (first-hit Adaptive n l from to)) (u then v then w then x)
+          (seen how n l (by-verdict Lookup.Refused (Lookup.Cell from) w) (by-verdict Lookup.Refused (Lookup.Cell to) x)) (u then v)
+          ≡ by-verdict Sight.Refused (sight-of (first-hit Adaptive how n l from to)) (u then v then w then x)
       in-one (Refused r) v w x = refl
       in-one Fine (Refused r) w x = refl
       in-one Fine Fine (Refused r) x = refl
@@ -179,7 +181,7 @@ module _ (n : Counts) (l : List ℕ) (at : Placement) (camera ball : Point) wher
       in-one Fine Fine Fine Fine = refl
 
   -- where they pass, both cells lie in the grid, and the walk between them is not refused
-  walked : sight-check ≡ Fine → (w : WalkSaid) × (told-hit (first-hit Adaptive n l from to) ≡ inr w)
+  walked : sight-check ≡ Fine → (w : WalkSaid) × (told-hit (first-hit Adaptive how n l from to) ≡ inr w)
   unfolding first-hit
   walked fine =
       let (shaped, rest) = each-fine _ _ fine in
@@ -189,17 +191,17 @@ module _ (n : Counts) (l : List ℕ) (at : Placement) (camera ball : Point) wher
       let walks : walk-check n (length l) from to ≡ Fine =
       walkable n (length l) at camera ball from to shaped tested
       (lookup-found P n at camera refl refl seen-from refl) (lookup-found Q n at ball refl refl seen-to refl) in
-      rw walks (hit-told n l from to (walk-of Adaptive n l from to))
+      rw walks (hit-told how n l from to (walk-of Adaptive how n l from to))
 
-  see-told : (r : Sight) → Sees n l at camera ball r → ByTests (sight-tests n (length l) at camera ball) (told-sight r)
+  see-told : (r : Sight) → Sees how n l at camera ball r → ByTests (sight-tests n (length l) at camera ball) (told-sight r)
   see-told r c =
-      answered told-sight (by-verdict Sight.Refused (sight-of (first-hit Adaptive n l from to))) (λ r. refl)
+      answered told-sight (by-verdict Sight.Refused (sight-of (first-hit Adaptive how n l from to))) (λ r. refl)
       (shape-judged n (length l) next placement-judged at next point-judged P n at camera next point-judged Q n at ball)
-      (λ fine. let (w, is) = walked fine in sight-told (first-hit Adaptive n l from to) w is)
+      (λ fine. let (w, is) = walked fine in sight-told (first-hit Adaptive how n l from to) w is)
       (c .says ∙ sight-by)
 
 pub points-told : (n : Counts) (at : Placement) → PointsTold n at
-points-told n at = record { cell-of = cell-told n at; see = λ l. see-told n l at }
+points-told n at = record { cell-of = cell-told n at; see = λ how l. see-told how n l at }
 
 -- ---- records
 

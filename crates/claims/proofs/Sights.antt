@@ -1,6 +1,7 @@
 -- The claims about the sight call, from its definition and the claims about the adaptive walk. Assumes nothing.
 use Prim.Native.Nat.{ℕ}
 use mathlib.Core.Path.{_≡_, refl, sym, ap, ap₂, _∙_}
+use mathlib.Core.Bool.{cond}
 use mathlib.Core.List.{List}
 use native.Mathlib.Omega.{arith}
 use lib.Ieee.{le, lt, ofInt, div, sub}
@@ -8,7 +9,13 @@ use lib.ListN.{length}
 use Rattle.cells.specs.declared.Cell as cell
 use Rattle.cells.specs.declared.Counts.{Counts}
 use Rattle.cells.specs.declared.End.the-variants.{P, Q}
+use Rattle.cells.specs.declared.Axis.the-variants.{Y}
+use Rattle.cells.specs.declared.Face.the-variants as Face
+use Rattle.cells.specs.declared.Manner.{Manner}
 use Rattle.cells.specs.declared.Refusal.{Refusal}
+use Rattle.cells.specs.declared.Start.{Start}
+use Rattle.cells.specs.declared.Start.the-variants.{Untested, Tested}
+use Rattle.cells.specs.Manners.{is-tested}
 use Rattle.cells.specs.Checks.{_then_, by-verdict}
 use Rattle.cells.proofs.Checks.{by-fine}
 use Rattle.grids.specs.Grid.{shape}
@@ -28,7 +35,7 @@ use Rattle.sight.specs.declared.Sight.the-variants.{Clear, Blocked, Refused}
 use Rattle.sight.specs.Sight.{share-of, sight-of, seen, looked, sight, Sees}
 use Rattle.sight.proofs.Seen.{looked-is, sight-is, camera-refused, both-found}
 use Rattle.claims.proofs.Story.{nothing-in-the-way}
-use Rattle.claims.specs.Sights.{SeenOnce, AsTheWalk, NothingInSight, CameraFirst, BlockedAsHit, WrongSights}
+use Rattle.claims.specs.Sights.{SeenOnce, AsTheWalk, NothingInSight, CameraFirst, BlockedAsHit, Seen-there, Housed, WrongSights}
 
 -- 0 clear, 1 blocked, 2 refused
 kind : Sight → ℕ
@@ -73,39 +80,39 @@ not-blocked b r e = let z : _≡_ {A = ℕ} 2 1 = ap kind e in omega arith
 -- ---- a sight that is no refusal is what the adaptive walk says between the two cells that were found
 
 -- the two lookups found them
-record Looked (n : Counts) (l : List ℕ) (f t : Lookup) (s : Sight) : Type 0 where
+record Looked (how : Manner) (n : Counts) (l : List ℕ) (f t : Lookup) (s : Sight) : Type 0 where
   from : cell.Cell
   to : cell.Cell
   from-is : f ≡ Lookup.Cell from
   to-is : t ≡ Lookup.Cell to
-  walk : sight-of (first-hit Adaptive n l from to) ≡ s
+  walk : sight-of (first-hit Adaptive how n l from to) ≡ s
 
-seen-by : (n : Counts) (l : List ℕ) (f t : Lookup) {s : Sight} → ((r : Refusal) → ¬ (Refused r ≡ s)) → seen n l f t ≡ s → Looked n l f t s
-seen-by n l (Lookup.Cell c) (Lookup.Cell b) other e = record { from = c; to = b; from-is = refl; to-is = refl; walk = e }
-seen-by n l (Lookup.Cell c) (Lookup.Refused r) other e = absurd (other r e)
-seen-by n l (Lookup.Refused r) t other e = absurd (other r e)
+seen-by : (how : Manner) (n : Counts) (l : List ℕ) (f t : Lookup) {s : Sight} → ((r : Refusal) → ¬ (Refused r ≡ s)) → seen how n l f t ≡ s → Looked how n l f t s
+seen-by how n l (Lookup.Cell c) (Lookup.Cell b) other e = record { from = c; to = b; from-is = refl; to-is = refl; walk = e }
+seen-by how n l (Lookup.Cell c) (Lookup.Refused r) other e = absurd (other r e)
+seen-by how n l (Lookup.Refused r) t other e = absurd (other r e)
 
 -- ---- the claims
 
-module _ (n : Counts) (l : List ℕ) (at : Placement) (camera ball : Point) where
-  pub seen-once : SeenOnce n l at camera ball
+module _ (how : Manner) (n : Counts) (l : List ℕ) (at : Placement) (camera ball : Point) where
+  pub seen-once : SeenOnce how n l at camera ball
   seen-once = record { once = λ r s h k. h .says ∙ sym (k .says) }
 
-  pub as-the-walk : AsTheWalk n l at camera ball
+  pub as-the-walk : AsTheWalk how n l at camera ball
   as-the-walk =
       record {
         same = λ c b r h fine placed from to sees hit.
-            sees .says ∙ sight-is n l at camera ball ∙
-            ap₂ (λ v w. by-verdict Refused (looked n l at camera ball) (v then w)) fine placed ∙
-            both-found n l at camera ball (sym from) refl (sym to) refl (hit .says);
+            sees .says ∙ sight-is how n l at camera ball ∙
+            ap₂ (λ v w. by-verdict Refused (looked how n l at camera ball) (v then w)) fine placed ∙
+            both-found how n l at camera ball (sym from) refl (sym to) refl (hit .says);
       }
 
-  looked-by : {s : Sight} → ((r : Refusal) → ¬ (Refused r ≡ s)) → Sees n l at camera ball s → Looked n l (look-up P n at camera) (look-up Q n at ball) s
+  looked-by : {s : Sight} → ((r : Refusal) → ¬ (Refused r ≡ s)) → Sees how n l at camera ball s → Looked how n l (look-up P n at camera) (look-up Q n at ball) s
   looked-by other sees =
-      let (fine, is) = by-fine Refused (shape n (length l) then placement-check at) _ other (sym (sight-is n l at camera ball) ∙ sym (sees .says)) in
-      seen-by n l _ _ other (sym (looked-is n l at camera ball) ∙ is)
+      let (fine, is) = by-fine Refused (shape n (length l) then placement-check at) _ other (sym (sight-is how n l at camera ball) ∙ sym (sees .says)) in
+      seen-by how n l _ _ other (sym (looked-is how n l at camera ball) ∙ is)
 
-  pub nothing-in-sight : NothingInSight n l at camera ball
+  pub nothing-in-sight : NothingInSight how n l at camera ball
   nothing-in-sight =
       record {
         open-way = λ whole sees.
@@ -116,11 +123,11 @@ module _ (n : Counts) (l : List ℕ) (at : Placement) (camera ball : Point) wher
               to = k .to;
               from-is = k .from-is;
               to-is = k .to-is;
-              free = nothing-in-the-way n l (k .from) (k .to) .open-way whole reads (record { says = sym is });
+              free = nothing-in-the-way how n l (k .from) (k .to) .open-way whole reads (record { says = sym is });
             };
       }
 
-  pub blocked-as-hit : BlockedAsHit n l at camera ball
+  pub blocked-as-hit : BlockedAsHit how n l at camera ball
   blocked-as-hit =
       record {
         as-hit = λ b sees.
@@ -141,17 +148,17 @@ module _ (n : Counts) (l : List ℕ) (at : Placement) (camera ball : Point) wher
             };
       }
 
-pub camera-first : (n : Counts) (l : List ℕ) (at : Placement) (camera : Point) → CameraFirst n l at camera
-camera-first n l at camera =
+pub camera-first : (how : Manner) (n : Counts) (l : List ℕ) (at : Placement) (camera : Point) → CameraFirst how n l at camera
+camera-first how n l at camera =
     record {
       refusal = λ r fine placed lost ball s hs. hs .says ∙ alike r lost ball ∙ ap₂ (λ v w. by-verdict Refused (Refused r) (v then w)) fine placed;
       any-ball = λ r lost ball other s t hs ht. hs .says ∙ alike r lost ball ∙ sym (alike r lost other) ∙ sym (ht .says);
     }
   where
     alike : (r : Refusal) → look-up P n at camera ≡ Lookup.Refused r → (ball : Point) →
-        sight n l at camera ball ≡ by-verdict Refused (Refused r) (shape n (length l) then placement-check at)
-    alike r lost ball = sight-is n l at camera ball
-        ∙ ap (λ s. by-verdict Refused s (shape n (length l) then placement-check at)) (camera-refused n l at camera ball (sym lost) refl)
+        sight how n l at camera ball ≡ by-verdict Refused (Refused r) (shape n (length l) then placement-check at)
+    alike r lost ball = sight-is how n l at camera ball
+        ∙ ap (λ s. by-verdict Refused s (shape n (length l) then placement-check at)) (camera-refused how n l at camera ball (sym lost) refl)
 
 -- ---- wrong sights
 
@@ -159,7 +166,25 @@ pub wrong-sights : WrongSights
 unfolding kind block-or sight le lt ofInt div sub
 wrong-sights =
     record {
-      clear-always = λ h. let z : _≡_ {A = ℕ} 0 1 = ap kind (h .says) in omega arith;
-      refuses-always = λ r h. let z : _≡_ {A = ℕ} 2 1 = ap kind (h .says) in omega arith;
-      other-face = λ b other h. other (ap (λ s. block-or b s .face) (h .says));
+      clear-always = λ how. not-there (how .start);
+      refuses-always = λ how. not-refused (how .start);
+      other-face = λ how. one-face (how .start);
+      own-housing = λ b h. let z : _≡_ {A = ℕ} 1 0 = ap kind (h .says) in omega arith;
+      housing-passed = λ how tested h. blocked-there (how .start) tested h;
     }
+  where
+    not-there : (s : Start) → Seen-there (record { start = s }) Clear → ⊥
+    not-there Untested h = let z : _≡_ {A = ℕ} 0 1 = ap kind (h .says) in omega arith
+    not-there Tested h = let z : _≡_ {A = ℕ} 0 1 = ap kind (h .says) in omega arith
+
+    not-refused : (s : Start) (r : Refusal) → Seen-there (record { start = s }) (Refused r) → ⊥
+    not-refused Untested r h = let z : _≡_ {A = ℕ} 2 1 = ap kind (h .says) in omega arith
+    not-refused Tested r h = let z : _≡_ {A = ℕ} 2 1 = ap kind (h .says) in omega arith
+
+    one-face : (s : Start) (b : Block) → (b .face ≡ Face.Plus Y → ⊥) → Seen-there (record { start = s }) (Blocked b) → ⊥
+    one-face Untested b other h = other (ap (λ s. block-or b s .face) (h .says))
+    one-face Tested b other h = other (ap (λ s. block-or b s .face) (h .says))
+
+    blocked-there : (s : Start) → s ≡ Tested → Housed (record { start = s }) Clear → ⊥
+    blocked-there Untested e h = let z : _≡_ {A = ℕ} 0 1 = ap (λ s. cond (is-tested s) 1 0) e in omega arith
+    blocked-there Tested e h = let z : _≡_ {A = ℕ} 0 1 = ap kind (h .says) in omega arith

@@ -12,7 +12,7 @@ use Rattle.texts.specs.Text.{decimal, hit-line, clear-line}
 use Rattle.program.specs.Program.{beyond, output}
 use Rattle.sight.specs.Sight.{sight}
 use Rattle.claims.specs.Program.{example-input, example-output}
-use Rattle.claims.specs.Starred.{Every, no-more, _and_, program-rows, record-rows, sight-rows, table}
+use Rattle.claims.specs.Starred.{Every, no-more, _and_, program-rows, record-rows, sight-rows, start-rows, table}
 
 pub example-writes : output example-input ≡ example-output
 unfolding beyond output decimal hit-line clear-line shape whole-check venue-version venue-head venue-check venue-read venue-cells signed pair-version
@@ -30,7 +30,11 @@ records-hold = refl and refl and refl and refl and programs-hold
 
 sights-hold : Every sight-rows
 unfolding sight le lt ofInt ofBits div sub
-sights-hold = refl and refl and records-hold
+sights-hold = refl and refl and refl and refl and refl and records-hold
+
+starts-hold : Every start-rows
+unfolding first-hit
+starts-hold = refl and refl and refl and refl and refl and refl and refl and refl and refl and refl and refl and refl and refl and sights-hold
 
 pub starred : Every table
 unfolding six-line line-26 marked first-hit
@@ -38,4 +42,4 @@ starred =
     refl and refl and refl and refl and refl and refl and refl and refl and refl and refl and refl and refl and refl and refl and refl and refl and
     refl and refl and refl and refl and refl and refl and refl and refl and refl and refl and refl and
     refl and refl and refl and refl and refl and refl and refl and refl and refl and refl and refl and
-    refl and refl and refl and refl and refl and refl and refl and refl and refl and refl and sights-hold
+    refl and refl and refl and refl and refl and refl and refl and refl and refl and refl and starts-hold

@@ -16,14 +16,18 @@ use Rattle.lines.specs.Preference.{rule-1}
 use Rattle.lines.proofs.Cells.{centre-inside}
 use Rattle.grids.specs.Grid.{count-check, shape, layer-part, layer}
 use Rattle.grids.specs.Marks.{marked, complete, completeness}
+use Rattle.cells.specs.Manners.{usual}
+use Rattle.walks.specs.declared.Walker.the-variants.{Plain, Adaptive}
 use Rattle.walks.specs.Answers.{first-hit}
+use Rattle.walks.proofs.Modes.{modes-alike}
 use Rattle.survey.specs.Survey.{placement-check, cell-of}
 use Rattle.sight.specs.Sight.{sight}
 use Rattle.records.specs.Heads.{whole-check}
 use Rattle.records.specs.Venues.{venue-version, venue-head, venue-check, venue-read, venue-cells}
 use Rattle.records.specs.Pairs.{signed, pair-version, pair-length, pair-check, pair-read}
 use Rattle.records.specs.Writing.{write-check}
-use Rattle.claims.specs.Example.{at}
+use Rattle.claims.specs.Example.{counts, at, example-counts, marked-cells}
+use Rattle.claims.specs.Story.{all-clear}
 use Rattle.claims.specs.Witnesses.{steps-there, OfLines, OfGrids, OfPoints, OfRecords, OfPrograms}
 use Rattle.claims.specs.Records.{example-venue, example-pair}
 use Rattle.claims.proofs.Records.{accepted}
@@ -65,11 +69,15 @@ of-grids =
       part = record { says = refl };
       layer = record { says = refl; there = record { block = refl; offset = refl } };
       not-marked = record { says = refl; holds = refl };
-      plain-hits = record { says = refl };
-      adaptive-hits = record { says = refl };
+      plain-hits = λ how. record { says = modes-alike example-counts marked-cells (at 0 0 0) (at 3 1 0) Plain usual how refl };
+      adaptive-hits = λ how. record { says = modes-alike example-counts marked-cells (at 0 0 0) (at 3 1 0) Adaptive usual how refl };
       clear-marks = refl;
-      plain-clear = record { says = refl };
-      adaptive-clear = record { says = refl };
+      plain-clear = λ how. record { says = modes-alike (counts 3 2 1) all-clear (at 0 0 0) (at 2 1 0) Plain usual how refl };
+      adaptive-clear = λ how. record { says = modes-alike (counts 3 2 1) all-clear (at 0 0 0) (at 2 1 0) Adaptive usual how refl };
+      solid-start = refl;
+      passed = λ w. elim w [ Plain ↦ record { says = refl } | Adaptive ↦ record { says = refl } ];
+      not-passed = λ w. elim w [ Plain ↦ record { says = refl } | Adaptive ↦ record { says = refl } ];
+      clear-start = refl;
     }
 
 pub of-points : OfPoints

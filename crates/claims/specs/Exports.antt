@@ -5,6 +5,7 @@ use mathlib.Core.List.{List}
 use lib.IntN.{ℤ, pos}
 use Rattle.cells.specs.declared.Cell.{Cell}
 use Rattle.cells.specs.declared.Counts.{Counts}
+use Rattle.cells.specs.declared.Manner.{Manner}
 use Rattle.cells.specs.declared.Verdict.{Verdict}
 use Rattle.lists.specs.declared.Listed.{Listed}
 use Rattle.lists.specs.Lists.{Line6, Line26}
@@ -62,9 +63,9 @@ pub record ExportsOnce : Type 0 where
   pub mark : (n : Counts) (entry : List ℕ) → OneEach (FlatMarks n entry)
   pub complete : (n : Counts) (cells : List ℕ) → One (FlatCompletes n cells)
   pub layer : (n : Counts) (bytes : ℕ) (z : ℤ) → One (FlatGivesLayerPart n bytes z)
-  pub walks : (w : Walker) (n : Counts) (cells : List ℕ) (p q : Cell) → One (FlatFinds w n cells p q)
+  pub walks : (w : Walker) (how : Manner) (n : Counts) (cells : List ℕ) (p q : Cell) → One (FlatFinds w how n cells p q)
   pub found : (n : Counts) (at : Placement) (p : Point) → One (FlatLooksUp n at p)
-  pub seen : (n : Counts) (cells : List ℕ) (at : Placement) (camera ball : Point) → One (FlatSees n cells at camera ball)
+  pub seen : (how : Manner) (n : Counts) (cells : List ℕ) (at : Placement) (camera ball : Point) → One (FlatSees how n cells at camera ball)
   pub venue : (bytes : List ℕ) → One (FlatReadsVenue bytes)
   pub pair : (bytes : List ℕ) → One (FlatReadsPair bytes)
   pub written : (n : Counts) (cells entry : List ℕ) → OneEach (FlatWritesVenue n cells entry)
@@ -101,11 +102,11 @@ pub record ExportsAre : Type 0 where
   pub complete : (n : Counts) (cells : List ℕ) (r : OatComplete) → FlatCompletes n cells r → (a : Completeness) × Completes n cells a × (r ≡ flat-complete a)
   pub layer : (n : Counts) (bytes : ℕ) (z : ℤ) (r : OatPart) → FlatGivesLayerPart n bytes z r →
       (a : LayerPart) × GivesLayerPart n bytes z a × (r ≡ flat-part a)
-  pub walks : (w : Walker) (n : Counts) (cells : List ℕ) (p q : Cell) (r : OatHit) → FlatFinds w n cells p q r →
-      (a : FirstHit) × Finds w n cells p q a × (r ≡ flat-hit a)
+  pub walks : (w : Walker) (how : Manner) (n : Counts) (cells : List ℕ) (p q : Cell) (r : OatHit) → FlatFinds w how n cells p q r →
+      (a : FirstHit) × Finds w how n cells p q a × (r ≡ flat-hit a)
   pub found : (n : Counts) (at : Placement) (p : Point) (r : OatFound) → FlatLooksUp n at p r → (a : Lookup) × LooksUp n at p a × (r ≡ flat-found a)
-  pub seen : (n : Counts) (cells : List ℕ) (at : Placement) (camera ball : Point) (r : OatSight) → FlatSees n cells at camera ball r →
-      (a : Sight) × Sees n cells at camera ball a × (r ≡ flat-sight a)
+  pub seen : (how : Manner) (n : Counts) (cells : List ℕ) (at : Placement) (camera ball : Point) (r : OatSight) → FlatSees how n cells at camera ball r →
+      (a : Sight) × Sees how n cells at camera ball a × (r ≡ flat-sight a)
   pub venue : (bytes : List ℕ) (r : OatVenue) → FlatReadsVenue bytes r → (a : VenueRead) × ReadsVenue bytes a × (r ≡ flat-venue a)
   pub pair : (bytes : List ℕ) (r : OatPair) → FlatReadsPair bytes r → (a : PairRead) × ReadsPair bytes a × (r ≡ flat-pair a)
   pub written : (n : Counts) (cells entry exit : List ℕ) (r : OatWritten) → FlatWritesVenue n cells entry r exit →

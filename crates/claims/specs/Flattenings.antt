@@ -13,9 +13,12 @@ use Rattle.cells.specs.declared.Face.{Face}
 use Rattle.cells.specs.declared.Face.the-variants as Face
 use Rattle.cells.specs.declared.Part.{Part}
 use Rattle.cells.specs.declared.Part.the-variants.{OriginX, OriginY, OriginZ, Edge}
+use Rattle.cells.specs.declared.Manner.{Manner}
 use Rattle.cells.specs.declared.Refusal.{Refusal}
 use Rattle.cells.specs.declared.Refusal.the-variants as Refusal
 use Rattle.cells.specs.declared.Verdict.the-variants as Verdict
+use Rattle.cells.specs.declared.Start.the-variants.{Tested}
+use Rattle.cells.specs.Manners.{usual}
 use Rattle.cells.specs.Refusals.{Told, told-verdict}
 use Rattle.lists.specs.declared.Listed.the-variants as Listed
 use Rattle.lists.specs.Lists.{told-listed}
@@ -41,7 +44,7 @@ use Rattle.oatmarten.specs.declared.refusals.OatSaid.{OatSaid}
 use Rattle.oatmarten.specs.declared.walk_calls.OatHit.{OatHit}
 use Rattle.oatmarten.specs.Refusals.{end-number, axis-number, part-number, accepted, flat-refusal, said-of}
 use Rattle.oatmarten.specs.Faces.{face-number}
-use Rattle.oatmarten.specs.Inputs.{as-cell, as-counts, as-placement, as-point}
+use Rattle.oatmarten.specs.Inputs.{as-cell, as-counts, as-manner, as-placement, as-point}
 use Rattle.oatmarten.specs.LineCalls.{flat-listed}
 use Rattle.oatmarten.specs.GridCalls.{flat-verdict, flat-complete, flat-part}
 use Rattle.oatmarten.specs.WalkCalls.{flat-hit, FlatFinds}
@@ -103,7 +106,7 @@ pub record SaidNumbers : Type 0 where
   pub version : flat-refusal Refusal.Version ≡ three 11 0 0
   pub in-table : (r : Refusal) → InTable (flat-refusal r .refusal)
   pub apart : (r s : Refusal) → flat-refusal r ≡ flat-refusal s → r ≡ s
-  pub q-off-y : (r : OatHit) → FlatFinds Plain example-counts example-cells (at 0 0 0) (at 0 2 0) r → r .said ≡ three 5 2 2
+  pub q-off-y : (how : Manner) (r : OatHit) → FlatFinds Plain how example-counts example-cells (at 0 0 0) (at 0 2 0) r → r .said ≡ three 5 2 2
 
 -- 3. What each struct holds, for all values. Of an accepted answer: 0, 0, 0 in `said`, each value in its own field, and 0 in the fields that the
 -- answer does not speak of. Of a refused one: the refusal's three numbers in `said`, and 0 in every other field.
@@ -157,10 +160,13 @@ pub record FlatRows : Type 0 where
   pub written : (many : ℕ) → flat-written (Written.Wrote many) ≡ record { said = three 0 0 0; written = many }
   pub written-refused : (r : Refusal) → flat-written (Written.Refused r) ≡ record { said = flat-refusal r; written = 0 }
 
--- 4. What the structs that the calls take mean, for all values: the cell, counts, placement and point with the same value under each name.
+-- 4. What the structs that the calls take mean, for all values: the cell, counts, placement and point with the same value under each name; the number
+-- 0 is a start that is not tested, the default, and any other number is one that is.
 pub record InputRows : Type 0 where
   pub cell : (x y z : ℤ) → as-cell (record { x = x; y = y; z = z }) ≡ record { x = x; y = y; z = z }
   pub counts : (nx ny nz : ℕ) → as-counts (record { nx = nx; ny = ny; nz = nz }) ≡ record { nx = nx; ny = ny; nz = nz }
+  pub untested : as-manner (record { start = 0 }) ≡ usual
+  pub tested : (number : ℕ) → (number ≡ 0 → ⊥) → as-manner (record { start = number }) ≡ record { start = Tested }
   pub placement : (ox oy oz edge : Float) →
       as-placement (record { ox = ox; oy = oy; oz = oz; edge = edge }) ≡ record { ox = ox; oy = oy; oz = oz; edge = edge }
   pub point : (x y z : Float) → as-point (record { x = x; y = y; z = z }) ≡ record { x = x; y = y; z = z }

@@ -8,6 +8,7 @@ use lib.ListN.{take}
 use denote.Ref.{RefT}
 use Rattle.cells.specs.declared.Cell.{Cell}
 use Rattle.cells.specs.declared.Counts.{Counts}
+use Rattle.cells.specs.declared.Manner.{Manner}
 use Rattle.cells.specs.declared.Refusal.{Refusal}
 use Rattle.lines.specs.Steps.{total}
 use Rattle.lines.specs.Preference.{rule-1}
@@ -41,7 +42,7 @@ use Rattle.claims.specs.Grids as grids
 use Rattle.claims.specs.Points as points
 use Rattle.claims.specs.Records as records
 use Rattle.claims.specs.Sights.{SeenOnce, OpenWay}
-use Rattle.claims.specs.Story.{SameStory, NoLater, FirstSolid, HitFace, HitOnce, WalksEnd, StepByStep, AdaptiveStep}
+use Rattle.claims.specs.Story.{SameStory, NoLater, FirstSolid, HitFace, HitOnce, WalksEnd, StepByStep, AdaptiveStep, StartTest, TwoStarts}
 
 -- 1. Every public call takes any numbers and any lent memory, has one answer and one final memory for each input, and refuses by number exactly
 -- where SCOPE's table says, in its order; a refusal writes nothing.
@@ -53,9 +54,9 @@ pub record TakesAnything : Type 1 where
   pub lists : (line : List Cell) (p q : Cell) (entry : List ℤ) → ListedOnce line p q entry
   pub grid-calls : grids.OneAnswer
   pub marking : (n : Counts) (l : List ℕ) → grids.MarkedCall n l
-  pub walks : (n : Counts) (l : List ℕ) (p q : Cell) → HitOnce n l p q
+  pub walks : (how : Manner) (n : Counts) (l : List ℕ) (p q : Cell) → HitOnce how n l p q
   pub cells : (n : Counts) (at : Placement) (p : Point) → points.OneAnswer n at p
-  pub sights : (n : Counts) (l : List ℕ) (at : Placement) (camera ball : Point) → SeenOnce n l at camera ball
+  pub sights : (how : Manner) (n : Counts) (l : List ℕ) (at : Placement) (camera ball : Point) → SeenOnce how n l at camera ball
   pub record-calls : records.OneAnswer
   pub list-refusals : (p q : Cell) (entry exit : List ℤ) (r : Listed) → LinesTold p q entry exit r
   pub grid-refusals : (n : Counts) (l : List ℕ) → GridsTold n l
@@ -65,8 +66,9 @@ pub record TakesAnything : Type 1 where
 
 -- 2. The lines are the paper's, made exact: at each place of the 6-line every crossing made comes before every one not made, ties by rule 1, and no
 -- other place has that; its cells go from P to Q, each touched by the segment, and no cell is missing whose inside the segment enters. The list
--- calls write just these cells. Both walks start at P and go on by what comes next, to the first solid cell or to Q: for the plain walk that is the
--- 6-line to its first solid cell, for the adaptive one long steps at clear cells of the 26-line. A venue written and read back is the same venue.
+-- calls write just these cells. Both walks start at P and go on by what comes next, to the first hit or to Q: for the plain walk that is the 6-line to
+-- its first hit, for the adaptive one long steps at clear cells of the 26-line. A hit is a solid cell; P is none where the start is not tested. Of
+-- either start mode. A venue written and read back is the same venue.
 pub record AreThePapers : Type 0 where
   pub order : (p q : Cell) → OnePlace rule-1 (differences p q)
   pub six : (p q : Cell) → SixLine rule-1 p q
@@ -74,22 +76,25 @@ pub record AreThePapers : Type 0 where
   pub none-missing : (p q : Cell) (k d : ℕ) (c : Cell) → Share k d → InOpen p q k d c → (n : ℕ) × (n ≤ total (differences p q)) × (six-cell rule-1 p q n ≡ c)
   pub twenty-six : (p q : Cell) → TwentySixLine rule-1 p q
   pub listed : (p q : Cell) (entry exit : List ℤ) (k : ℕ) → CellsListed p q entry exit k
-  pub walks : (n : Counts) (l : List ℕ) (p q : Cell) → StepByStep n l p q × WalksEnd n l p q
+  pub walks : (how : Manner) (n : Counts) (l : List ℕ) (p q : Cell) → StepByStep how n l p q × WalksEnd how n l p q
+  pub tests : (n : Counts) (l : List ℕ) (p : Cell) → StartTest n l p
   pub adaptive : (n : Counts) (l : List ℕ) (p q : Cell) → AdaptiveStep n l p q
-  pub plain : (n : Counts) (l : List ℕ) (p q : Cell) → FirstSolid n l p q
+  pub plain : (how : Manner) (n : Counts) (l : List ℕ) (p q : Cell) → FirstSolid how n l p q
   pub read-back : (n : Counts) (cells entry exit : List ℕ) (k : ℕ) → WritesVenue n cells entry (Wrote k) exit →
       (rest : List ℕ) (bytes part : RefT (List ℕ)) (r : VenueRead) →
       bytes .now ≡ take k exit ++ rest → ReadsVenue (bytes .now) r → GivesCells bytes part → records.SameVenue n cells bytes part r
 
 -- 3. Where the completeness call says yes, the adaptive and the plain walk find the same first solid cell, code, place and entry face, or both none,
--- and the adaptive one reads no more cells; and a clear sight has nothing solid in its way. In any grid whatever, an adaptive hit is a plain hit,
--- there or before; and a hit of either walk says the face by which the 6-line enters its cell, at its place.
+-- and the adaptive one reads no more cells; and a clear sight has nothing solid in its way, but for the camera's own cell where it is not tested. In
+-- any grid whatever, an adaptive hit is a plain hit, there or before; and a hit of either walk says the face by which the 6-line enters its cell, at
+-- its place. All this in either start mode; where P is not solid the two answer alike, and where it is not tested it is never the hit.
 pub record TellOneStory : Type 0 where
-  pub same : (n : Counts) (l : List ℕ) (p q : Cell) → Completes n l Yes → (plain adaptive : FirstHit) → Finds Plain n l p q plain →
-      Finds Adaptive n l p q adaptive → SameStory plain adaptive
-  pub clear : (n : Counts) (l : List ℕ) (at : Placement) (camera ball : Point) → Completes n l Yes → Sees n l at camera ball Sight.Clear →
-      OpenWay n l at camera ball
-  pub never-invented : (n : Counts) (l : List ℕ) (p q : Cell) (k : Hit) (plain : FirstHit) → Finds Adaptive n l p q (FirstHit.Hit k) →
-      Finds Plain n l p q plain →
+  pub same : (how : Manner) (n : Counts) (l : List ℕ) (p q : Cell) → Completes n l Yes → (plain adaptive : FirstHit) →
+      Finds Plain how n l p q plain → Finds Adaptive how n l p q adaptive → SameStory plain adaptive
+  pub clear : (how : Manner) (n : Counts) (l : List ℕ) (at : Placement) (camera ball : Point) → Completes n l Yes →
+      Sees how n l at camera ball Sight.Clear → OpenWay how n l at camera ball
+  pub never-invented : (how : Manner) (n : Counts) (l : List ℕ) (p q : Cell) (k : Hit) (plain : FirstHit) → Finds Adaptive how n l p q (FirstHit.Hit k) →
+      Finds Plain how n l p q plain →
       (h : Hit) × (plain ≡ FirstHit.Hit h) × NoLater p q (h .cell) (k .cell)
-  pub faces : (n : Counts) (l : List ℕ) (p q : Cell) → HitFace n l p q
+  pub faces : (how : Manner) (n : Counts) (l : List ℕ) (p q : Cell) → HitFace how n l p q
+  pub starts : (n : Counts) (l : List ℕ) (p q : Cell) → TwoStarts n l p q

@@ -15,6 +15,7 @@ use Rattle.cells.specs.declared.Axis.{Axis}
 use Rattle.cells.specs.declared.Axis.the-variants.{X, Y, Z}
 use Rattle.cells.specs.declared.Cell.{Cell}
 use Rattle.cells.specs.declared.Counts.{Counts}
+use Rattle.cells.specs.declared.Manner.{Manner}
 use Rattle.cells.specs.declared.End.{End}
 use Rattle.cells.specs.declared.End.the-variants.{P, Q}
 use Rattle.cells.specs.declared.Part.the-variants.{OriginX, OriginY, OriginZ, Edge}
@@ -166,12 +167,12 @@ pub record GridsTold (n : Counts) (l : List ℕ) : Type 0 where
   pub layer-part : (z : ℤ) (r : LayerPart) → GivesLayerPart n (length l) z r → ByTests (layer-tests n (length l) z) (told-part r)
   pub layer : (z : ℤ) (cells part : RefT (List ℕ)) → GivesLayer n cells z part →
       (part .now ≡ []) ↔ ((t : Told) × First (layer-tests n (length (cells .now)) z) t)
-  pub first-hit : (k : Walker) (p q : Cell) (r : FirstHit) → Finds k n l p q r → ByTests (walk-tests n (length l) p q) (told-hit r)
+  pub first-hit : (k : Walker) (how : Manner) (p q : Cell) (r : FirstHit) → Finds k how n l p q r → ByTests (walk-tests n (length l) p q) (told-hit r)
 
 -- surveyed points
 pub record PointsTold (n : Counts) (at : Placement) : Type 0 where
   pub cell-of : (p : Point) (r : Lookup) → LooksUp n at p r → ByTests (cell-tests n at p) (told-lookup r)
-  pub see : (l : List ℕ) (camera ball : Point) (r : Sight) → Sees n l at camera ball r → ByTests (sight-tests n (length l) at camera ball) (told-sight r)
+  pub see : (how : Manner) (l : List ℕ) (camera ball : Point) (r : Sight) → Sees how n l at camera ball r → ByTests (sight-tests n (length l) at camera ball) (told-sight r)
 
 -- records; a venue's part is empty exactly where its partner refuses
 pub record RecordsTold : Type 0 where

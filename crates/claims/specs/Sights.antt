@@ -1,4 +1,4 @@
--- What is claimed of the sight call, by its contract: for every grid, placement, camera and ball. Assumes nothing.
+-- What is claimed of the sight call, by its contract: for either start mode, every grid, placement, camera and ball. Assumes nothing.
 use Prim.Native.Nat.{ℕ}
 use mathlib.Core.Path.{_≡_}
 use mathlib.Core.Bool.{true, false}
@@ -10,8 +10,11 @@ use Rattle.cells.specs.declared.Axis.the-variants.{Y}
 use Rattle.cells.specs.declared.End.the-variants.{P, Q}
 use Rattle.cells.specs.declared.Face.{Face}
 use Rattle.cells.specs.declared.Face.the-variants as Face
+use Rattle.cells.specs.declared.Manner.{Manner}
 use Rattle.cells.specs.declared.Refusal.{Refusal}
+use Rattle.cells.specs.declared.Start.the-variants.{Tested}
 use Rattle.cells.specs.declared.Verdict.the-variants.{Fine}
+use Rattle.cells.specs.Manners.{usual}
 use Rattle.lines.specs.Segment.{Share, InOpen}
 use Rattle.grids.specs.Grid.{shape, byte-of, solid}
 use Rattle.grids.specs.Marks.{complete}
@@ -32,35 +35,36 @@ use Rattle.claims.specs.Points.{metres, placement, point}
 use Rattle.claims.specs.Example.{example-counts, marked-cells}
 use Rattle.claims.specs.Starred.{halves}
 
-module _ (n : Counts) (l : List ℕ) (at : Placement) where
+module _ (how : Manner) (n : Counts) (l : List ℕ) (at : Placement) where
   -- 1. One answer for each input.
   pub record SeenOnce (camera ball : Point) : Type 0 where
-    pub once : (r s : Sight) → Sees n l at camera ball r → Sees n l at camera ball s → r ≡ s
+    pub once : (r s : Sight) → Sees how n l at camera ball r → Sees how n l at camera ball s → r ≡ s
 
   -- 2. Where both points have a cell, blocked or clear is what the adaptive first-hit call says of the two cells.
   pub record AsTheWalk (camera ball : Point) : Type 0 where
     pub same : (c b : cell.Cell) (r : Sight) (h : FirstHit) → shape n (length l) ≡ Fine → placement-check at ≡ Fine →
-        look-up P n at camera ≡ Lookup.Cell c → look-up Q n at ball ≡ Lookup.Cell b → Sees n l at camera ball r → Finds Adaptive n l c b h → r ≡ sight-of h
+        look-up P n at camera ≡ Lookup.Cell c → look-up Q n at ball ≡ Lookup.Cell b → Sees how n l at camera ball r → Finds Adaptive how n l c b h → r ≡ sight-of h
 
-  -- camera and ball have cells, and no cell whose open inside the segment between their centres meets is solid
+  -- camera and ball have cells, and no cell whose open inside the segment between their centres meets is solid, the camera's own excepted exactly
+  -- where it is not tested
   pub record OpenWay (camera ball : Point) : Type 0 where
     pub from : cell.Cell
     pub to : cell.Cell
     pub from-is : look-up P n at camera ≡ Lookup.Cell from
     pub to-is : look-up Q n at ball ≡ Lookup.Cell to
-    pub free : (k d : ℕ) (c : cell.Cell) → Share k d → InOpen from to k d c → solid (byte-of n l c) ≡ false
+    pub free : (k d : ℕ) (c : cell.Cell) → Share k d → InOpen from to k d c → (c ≡ from → how .start ≡ Tested) → solid (byte-of n l c) ≡ false
 
   -- 3. Nothing in the way: marks complete and the sight clear.
   pub record NothingInSight (camera ball : Point) : Type 0 where
-    pub open-way : complete 3 n l ≡ true → Sees n l at camera ball Clear → OpenWay camera ball
+    pub open-way : complete 3 n l ≡ true → Sees how n l at camera ball Clear → OpenWay camera ball
 
   -- 4. Where the camera's point has no cell, its refusal is the answer; so the answer does not depend on the ball, whatever else is refused.
   pub record CameraFirst (camera : Point) : Type 0 where
     pub refusal : (r : Refusal) → shape n (length l) ≡ Fine → placement-check at ≡ Fine → look-up P n at camera ≡ Lookup.Refused r →
         (ball : Point) (s : Sight) →
-        Sees n l at camera ball s → s ≡ Refused r
+        Sees how n l at camera ball s → s ≡ Refused r
     pub any-ball : (r : Refusal) → look-up P n at camera ≡ Lookup.Refused r → (ball other : Point) (s t : Sight) →
-        Sees n l at camera ball s → Sees n l at camera other t → s ≡ t
+        Sees how n l at camera ball s → Sees how n l at camera other t → s ≡ t
 
   -- 5. A blocked sight is the adaptive hit between the cells of camera and ball: its cell, code, reads and entry face, and its place as a share.
   pub record BlockedBy (camera ball : Point) (b : Block) : Type 0 where
@@ -69,7 +73,7 @@ module _ (n : Counts) (l : List ℕ) (at : Placement) where
     pub hit : Hit
     pub from-is : look-up P n at camera ≡ Lookup.Cell from
     pub to-is : look-up Q n at ball ≡ Lookup.Cell to
-    pub found : Finds Adaptive n l from to (FirstHit.Hit hit)
+    pub found : Finds Adaptive how n l from to (FirstHit.Hit hit)
     pub same-cell : b .cell ≡ hit .cell
     pub same-code : b .code ≡ hit .code
     pub same-reads : b .reads ≡ hit .reads
@@ -77,17 +81,26 @@ module _ (n : Counts) (l : List ℕ) (at : Placement) where
     pub its-share : b .share ≡ share-of (hit .place .num) (hit .place .den)
 
   pub record BlockedAsHit (camera ball : Point) : Type 0 where
-    pub as-hit : (b : Block) → Sees n l at camera ball (Blocked b) → BlockedBy camera ball b
+    pub as-hit : (b : Block) → Sees how n l at camera ball (Blocked b) → BlockedBy camera ball b
 
 -- ---- wrong answers, on the program's venue with its marks: a camera and a ball in the middles of (0,0,0) and (3,1,0)
 
-abbrev pub Seen-there : Sight → Type 0
-Seen-there =
-    Sees example-counts marked-cells (placement (metres 0) (metres 1)) (point (halves 1) (halves 1) (halves 1))
+abbrev pub Seen-there : Manner → Sight → Type 0
+Seen-there how =
+    Sees how example-counts marked-cells (placement (metres 0) (metres 1)) (point (halves 1) (halves 1) (halves 1))
+    (point (halves 7) (halves 3) (halves 1))
+
+-- and from the solid cell itself, (1,1,0): a camera in its housing
+abbrev pub Housed : Manner → Sight → Type 0
+Housed how =
+    Sees how example-counts marked-cells (placement (metres 0) (metres 1)) (point (halves 3) (halves 3) (halves 1))
     (point (halves 7) (halves 3) (halves 1))
 
 pub record WrongSights : Type 0 where
-  pub clear-always : Seen-there Clear → ⊥
-  pub refuses-always : (r : Refusal) → Seen-there (Refused r) → ⊥
+  pub clear-always : (how : Manner) → Seen-there how Clear → ⊥
+  pub refuses-always : (how : Manner) (r : Refusal) → Seen-there how (Refused r) → ⊥
   -- the line comes in by +y
-  pub other-face : (b : Block) → (b .face ≡ Face.Plus Y → ⊥) → Seen-there (Blocked b) → ⊥
+  pub other-face : (how : Manner) (b : Block) → (b .face ≡ Face.Plus Y → ⊥) → Seen-there how (Blocked b) → ⊥
+  -- the default blocks a camera by its own housing; the tested start does not
+  pub own-housing : (b : Block) → Housed usual (Blocked b) → ⊥
+  pub housing-passed : (how : Manner) → how .start ≡ Tested → Housed how Clear → ⊥

@@ -12,7 +12,9 @@ use Rattle.cells.specs.declared.Axis.the-variants.{X, Y, Z}
 use Rattle.cells.specs.declared.End.the-variants.{P, Q}
 use Rattle.cells.specs.declared.Face.{Face}
 use Rattle.cells.specs.declared.Face.the-variants as Face
+use Rattle.cells.specs.declared.Manner.{Manner}
 use Rattle.cells.specs.Checks.{by-verdict}
+use Rattle.cells.specs.Manners.{usual}
 use Rattle.cells.specs.Refusals.{Told, alone, at-end}
 use Rattle.lines.specs.Preference.{rule-1}
 use Rattle.lines.specs.Lines.{six-line, line-26}
@@ -29,9 +31,10 @@ use Rattle.walks.specs.Answers.{first-hit, told-hit, WalkSaid}
 use Rattle.survey.specs.declared.Placement.{Placement}
 use Rattle.survey.specs.declared.Point.{Point}
 use Rattle.survey.specs.Quotient.{as-f64}
+use Rattle.sight.specs.Sight as sights
 use Rattle.sight.specs.Sight.{sight, told-sight, blocked}
 use Rattle.claims.specs.Points.{metres, placement, point}
-use Rattle.claims.specs.Example.{counts, at, example-counts, example-cells, marked-cells}
+use Rattle.claims.specs.Example.{counts, at, tested-start, example-counts, example-cells, marked-cells}
 use Rattle.claims.specs.Story.{long-bytes}
 use Rattle.claims.specs.Records.{example-venue, example-pair, minus-one-pair}
 use Rattle.claims.specs.Program.{example-input, example-output, marked-input, marked-output}
@@ -53,20 +56,21 @@ abbrev pub halves : ℕ → Float
 halves k = div binary64 (as-f64 k) (as-f64 2)
 
 -- a row: the ends P and Q and the cells of the line between them; the ends, room for so many numbers, and what the 6-line's call answers; counts,
--- bytes, and the bytes marked; a walk, its grid and ends, and what it finds; a venue's record, its counts and its cells; a pair's record, P and Q;
--- the program's whole input and output; or a grid, its placement, camera and ball, and the 64 bits of the share, the cell, code, reads and entry face
--- of what is in the way
+-- bytes, and the bytes marked; a walk, its manner, its grid and ends, and what it finds; a venue's record, its counts and its cells; a pair's record, P and Q;
+-- the program's whole input and output; or a manner, a grid, its placement, camera and ball, and the 64 bits of the share, the cell, code, reads and
+-- entry face of what is in the way, or that nothing is
 pub data Row : Type 0 where
   six : Cell → Cell → List Cell → Row
   twenty-six : Cell → Cell → List Cell → Row
   lists : Cell → Cell → ℕ → Told ⊎ ℕ → Row
   marks : Counts → List ℕ → List ℕ → Row
-  finds : Walker → Counts → List ℕ → Cell → Cell → Told ⊎ WalkSaid → Row
+  finds : Walker → Manner → Counts → List ℕ → Cell → Cell → Told ⊎ WalkSaid → Row
   venue : List ℕ → Counts → List ℕ → Row
   venue-part : List ℕ → List ℕ → Row
   pair : List ℕ → Cell → Cell → Row
   writes : List ℕ → List ℕ → Row
-  sees : Counts → List ℕ → Placement → Point → Point → ℕ → Cell → ℕ → ℕ → Face → Row
+  sees : Manner → Counts → List ℕ → Placement → Point → Point → ℕ → Cell → ℕ → ℕ → Face → Row
+  sees-clear : Manner → Counts → List ℕ → Placement → Point → Point → Row
 
 -- what a row says
 abbrev pub Holds : Row → Type 0
@@ -75,11 +79,12 @@ Holds (twenty-six p q l) = line-26 p q ≡ l
 Holds (lists p q room says) = told-listed
     (by-verdict Listed.Refused (Listed.Cells (length (six-line rule-1 p q))) (list-check p q (length (six-line rule-1 p q)) room)) ≡ says
 Holds (marks n l m) = marked 3 n l ≡ m
-Holds (finds w n l p q says) = told-hit (first-hit w n l p q) ≡ says
+Holds (finds w how n l p q says) = told-hit (first-hit w how n l p q) ≡ says
 Holds (venue s n cells) = told-venue (venue-read s) ≡ inr (n, length s - length cells, length cells)
 Holds (venue-part s cells) = venue-cells s ≡ cells
-Holds (sees n l place camera ball share c code reads face) =
-    told-sight (sight n l place camera ball) ≡ inr (blocked (record { share = ofBits binary64 share; cell = c; code = code; reads = reads; face = face }))
+Holds (sees how n l place camera ball share c code reads face) =
+    told-sight (sight how n l place camera ball) ≡ inr (blocked (record { share = ofBits binary64 share; cell = c; code = code; reads = reads; face = face }))
+Holds (sees-clear how n l place camera ball) = told-sight (sight how n l place camera ball) ≡ inr sights.clear
 Holds (pair s p q) = told-pair (pair-read s) ≡ inr (p, q)
 Holds (writes s out) = output s ≡ out
 
@@ -106,13 +111,43 @@ record-rows =
 -- the marked program's venue, its origin 0, its edge 1 metre, from the middle of (0,0,0) to the middle of (3,1,0): share 0.5
 abbrev pub sight-rows : List Row
 sight-rows =
-    sees example-counts marked-cells (placement (metres 0) (metres 1)) (point (halves 1) (halves 1) (halves 1))
+    sees tested-start example-counts marked-cells (placement (metres 0) (metres 1)) (point (halves 1) (halves 1) (halves 1))
     (point (halves 7) (halves 3) (halves 1)) 0x3fe0_0000_0000_0000 (at 1 1 0) 2 3 (Face.Plus Y)
     -- a place of 3 over 10, from the camera on
-    ∷ sees (counts 6 3 1) long-bytes (placement (metres 0) (metres 1)) (point (halves 1) (halves 1) (halves 1))
+    ∷ sees tested-start (counts 6 3 1) long-bytes (placement (metres 0) (metres 1)) (point (halves 1) (halves 1) (halves 1))
     (point (halves 11) (halves 5) (halves 1)) 0x3fd3_3333_3333_3333 (at 2 1 0) 2 3 (Face.Plus X)
+    -- a camera in its housing, the solid cell (1,1,0), and the ball in (3,1,0): clear, and where the start is tested blocked at share 0
+    ∷ sees-clear usual example-counts marked-cells (placement (metres 0) (metres 1)) (point (halves 3) (halves 3) (halves 1))
+    (point (halves 7) (halves 3) (halves 1))
+    ∷ sees tested-start example-counts marked-cells (placement (metres 0) (metres 1)) (point (halves 3) (halves 3) (halves 1))
+    (point (halves 7) (halves 3) (halves 1)) 0 (at 1 1 0) 2 1 Face.None
+    -- and in a housing of two cells: the one beside it is in the way, at share 0.25
+    ∷ sees usual (counts 3 1 1) (2 ∷ 2 ∷ 0 ∷ []) (placement (metres 0) (metres 1)) (point (halves 1) (halves 1) (halves 1))
+    (point (halves 5) (halves 1) (halves 1)) 0x3fd0_0000_0000_0000 (at 1 0 0) 2 2 (Face.Plus X)
     ∷ record-rows
 
+-- where the start is not tested: a solid P is read and passed, and no long step starts there; a clear P may step long
+abbrev pub start-rows : List Row
+start-rows =
+    finds Plain usual example-counts marked-cells (at 1 1 0) (at 3 1 0) (clear 3)
+    ∷ finds Adaptive usual example-counts marked-cells (at 1 1 0) (at 3 1 0) (clear 3)
+    ∷ finds Plain usual (counts 3 2 1) (2 ∷ 0 ∷ 0 ∷ 0 ∷ 0 ∷ 0 ∷ []) (at 0 0 0) (at 2 1 0) (clear 4)
+    ∷ finds Adaptive usual (counts 3 2 1) (2 ∷ 0 ∷ 0 ∷ 0 ∷ 0 ∷ 0 ∷ []) (at 0 0 0) (at 2 1 0) (clear 4)
+    ∷ finds Adaptive usual (counts 3 2 1) (0 ∷ 0 ∷ 0 ∷ 0 ∷ 0 ∷ 0 ∷ []) (at 0 0 0) (at 2 1 0) (clear 3)
+    -- the solid cell beside P is the hit, at its own face
+    ∷ finds Plain usual (counts 3 1 1) (2 ∷ 3 ∷ 0 ∷ []) (at 0 0 0) (at 2 0 0) (hit (at 1 0 0) 3 1 4 (Face.Plus X) 2)
+    ∷ finds Adaptive usual (counts 3 1 1) (2 ∷ 3 ∷ 0 ∷ []) (at 0 0 0) (at 2 0 0) (hit (at 1 0 0) 3 1 4 (Face.Plus X) 2)
+    -- Q is tested, also beside P
+    ∷ finds Plain usual (counts 2 1 1) (2 ∷ 9 ∷ []) (at 0 0 0) (at 1 0 0) (hit (at 1 0 0) 9 1 2 (Face.Plus X) 2)
+    ∷ finds Adaptive usual (counts 2 1 1) (2 ∷ 9 ∷ []) (at 0 0 0) (at 1 0 0) (hit (at 1 0 0) 9 1 2 (Face.Plus X) 2)
+    -- equal ends, solid: clear with one read; where the start is tested a hit
+    ∷ finds Plain usual example-counts marked-cells (at 1 1 0) (at 1 1 0) (clear 1)
+    ∷ finds Adaptive usual example-counts marked-cells (at 1 1 0) (at 1 1 0) (clear 1)
+    ∷ finds Plain tested-start example-counts marked-cells (at 1 1 0) (at 1 1 0) (hit (at 1 1 0) 2 0 1 Face.None 1)
+    ∷ finds Adaptive tested-start example-counts marked-cells (at 1 1 0) (at 1 1 0) (hit (at 1 1 0) 2 0 1 Face.None 1)
+    ∷ sight-rows
+
+-- the base's cases, with the start tested as it was then, and those of the start
 abbrev pub table : List Row
 table =
     six (at 0 0 0) (at 2 1 0) (at 0 0 0 ∷ at 1 0 0 ∷ at 1 1 0 ∷ at 2 1 0 ∷ [])
@@ -141,41 +176,41 @@ table =
     ∷ marks (counts 1 1 3) (2 ∷ 0 ∷ 0 ∷ []) (2 ∷ 1 ∷ 0 ∷ [])
     -- a corner touches
     ∷ marks (counts 2 2 2) (0 ∷ 0 ∷ 0 ∷ 0 ∷ 0 ∷ 0 ∷ 0 ∷ 9 ∷ []) (1 ∷ 1 ∷ 1 ∷ 1 ∷ 1 ∷ 1 ∷ 1 ∷ 9 ∷ [])
-    ∷ finds Plain example-counts example-cells (at 0 0 0) (at 3 1 0) (hit (at 1 1 0) 2 1 2 (Face.Plus Y) 3)
-    ∷ finds Adaptive example-counts example-cells (at 0 0 0) (at 3 1 0) (clear 4)
-    ∷ finds Plain example-counts marked-cells (at 0 0 0) (at 3 1 0) (hit (at 1 1 0) 2 1 2 (Face.Plus Y) 3)
-    ∷ finds Adaptive example-counts marked-cells (at 0 0 0) (at 3 1 0) (hit (at 1 1 0) 2 1 2 (Face.Plus Y) 3)
+    ∷ finds Plain tested-start example-counts example-cells (at 0 0 0) (at 3 1 0) (hit (at 1 1 0) 2 1 2 (Face.Plus Y) 3)
+    ∷ finds Adaptive tested-start example-counts example-cells (at 0 0 0) (at 3 1 0) (clear 4)
+    ∷ finds Plain tested-start example-counts marked-cells (at 0 0 0) (at 3 1 0) (hit (at 1 1 0) 2 1 2 (Face.Plus Y) 3)
+    ∷ finds Adaptive tested-start example-counts marked-cells (at 0 0 0) (at 3 1 0) (hit (at 1 1 0) 2 1 2 (Face.Plus Y) 3)
     -- equal ends: one cell, one read
-    ∷ finds Plain example-counts marked-cells (at 3 1 0) (at 3 1 0) (clear 1)
-    ∷ finds Adaptive example-counts marked-cells (at 3 1 0) (at 3 1 0) (clear 1)
+    ∷ finds Plain tested-start example-counts marked-cells (at 3 1 0) (at 3 1 0) (clear 1)
+    ∷ finds Adaptive tested-start example-counts marked-cells (at 3 1 0) (at 3 1 0) (clear 1)
     -- a hit at P: 0 over 1, and no face
-    ∷ finds Plain example-counts marked-cells (at 1 1 0) (at 3 1 0) (hit (at 1 1 0) 2 0 1 Face.None 1)
-    ∷ finds Adaptive example-counts marked-cells (at 1 1 0) (at 3 1 0) (hit (at 1 1 0) 2 0 1 Face.None 1)
+    ∷ finds Plain tested-start example-counts marked-cells (at 1 1 0) (at 3 1 0) (hit (at 1 1 0) 2 0 1 Face.None 1)
+    ∷ finds Adaptive tested-start example-counts marked-cells (at 1 1 0) (at 3 1 0) (hit (at 1 1 0) 2 0 1 Face.None 1)
     -- the bytes lie x fastest, then y, then z: byte 4 of 2 by 3 by 2 is (0,2,0)
-    ∷ finds Plain (counts 2 3 2) (0 ∷ 0 ∷ 0 ∷ 0 ∷ 2 ∷ 0 ∷ 0 ∷ 0 ∷ 0 ∷ 0 ∷ 0 ∷ 0 ∷ []) (at 0 0 0) (at 0 2 0) (hit (at 0 2 0) 2 3 4 (Face.Plus Y) 3)
+    ∷ finds Plain tested-start (counts 2 3 2) (0 ∷ 0 ∷ 0 ∷ 0 ∷ 2 ∷ 0 ∷ 0 ∷ 0 ∷ 0 ∷ 0 ∷ 0 ∷ 0 ∷ []) (at 0 0 0) (at 0 2 0) (hit (at 0 2 0) 2 3 4 (Face.Plus Y) 3)
     -- 255 is solid; a place is not reduced, 3 over 6
-    ∷ finds Plain (counts 2 1 1) (0 ∷ 255 ∷ []) (at 0 0 0) (at 1 0 0) (hit (at 1 0 0) 255 1 2 (Face.Plus X) 2)
-    ∷ finds Plain (counts 4 1 1) (0 ∷ 0 ∷ 2 ∷ 0 ∷ []) (at 0 0 0) (at 3 0 0) (hit (at 2 0 0) 2 3 6 (Face.Plus X) 3)
+    ∷ finds Plain tested-start (counts 2 1 1) (0 ∷ 255 ∷ []) (at 0 0 0) (at 1 0 0) (hit (at 1 0 0) 255 1 2 (Face.Plus X) 2)
+    ∷ finds Plain tested-start (counts 4 1 1) (0 ∷ 0 ∷ 2 ∷ 0 ∷ []) (at 0 0 0) (at 3 0 0) (hit (at 2 0 0) 2 3 6 (Face.Plus X) 3)
     -- a tie of three: each face by which the 6-line goes on, there and back
-    ∷ finds Plain (counts 2 2 2) (0 ∷ 0 ∷ 2 ∷ 0 ∷ 0 ∷ 0 ∷ 0 ∷ 0 ∷ []) (at 0 0 0) (at 1 1 1) (hit (at 0 1 0) 2 1 2 (Face.Plus Y) 2)
-    ∷ finds Plain (counts 2 2 2) (0 ∷ 0 ∷ 0 ∷ 0 ∷ 0 ∷ 0 ∷ 2 ∷ 0 ∷ []) (at 0 0 0) (at 1 1 1) (hit (at 0 1 1) 2 1 2 (Face.Plus Z) 3)
-    ∷ finds Plain (counts 2 2 2) (0 ∷ 0 ∷ 0 ∷ 0 ∷ 0 ∷ 0 ∷ 0 ∷ 2 ∷ []) (at 0 0 0) (at 1 1 1) (hit (at 1 1 1) 2 1 2 (Face.Plus X) 4)
-    ∷ finds Plain (counts 2 2 2) (0 ∷ 0 ∷ 0 ∷ 0 ∷ 0 ∷ 2 ∷ 0 ∷ 0 ∷ []) (at 1 1 1) (at 0 0 0) (hit (at 1 0 1) 2 1 2 (Face.Minus Y) 2)
-    ∷ finds Plain (counts 2 2 2) (0 ∷ 2 ∷ 0 ∷ 0 ∷ 0 ∷ 0 ∷ 0 ∷ 0 ∷ []) (at 1 1 1) (at 0 0 0) (hit (at 1 0 0) 2 1 2 (Face.Minus Z) 3)
-    ∷ finds Plain (counts 2 2 2) (2 ∷ 0 ∷ 0 ∷ 0 ∷ 0 ∷ 0 ∷ 0 ∷ 0 ∷ []) (at 1 1 1) (at 0 0 0) (hit (at 0 0 0) 2 1 2 (Face.Minus X) 4)
+    ∷ finds Plain tested-start (counts 2 2 2) (0 ∷ 0 ∷ 2 ∷ 0 ∷ 0 ∷ 0 ∷ 0 ∷ 0 ∷ []) (at 0 0 0) (at 1 1 1) (hit (at 0 1 0) 2 1 2 (Face.Plus Y) 2)
+    ∷ finds Plain tested-start (counts 2 2 2) (0 ∷ 0 ∷ 0 ∷ 0 ∷ 0 ∷ 0 ∷ 2 ∷ 0 ∷ []) (at 0 0 0) (at 1 1 1) (hit (at 0 1 1) 2 1 2 (Face.Plus Z) 3)
+    ∷ finds Plain tested-start (counts 2 2 2) (0 ∷ 0 ∷ 0 ∷ 0 ∷ 0 ∷ 0 ∷ 0 ∷ 2 ∷ []) (at 0 0 0) (at 1 1 1) (hit (at 1 1 1) 2 1 2 (Face.Plus X) 4)
+    ∷ finds Plain tested-start (counts 2 2 2) (0 ∷ 0 ∷ 0 ∷ 0 ∷ 0 ∷ 2 ∷ 0 ∷ 0 ∷ []) (at 1 1 1) (at 0 0 0) (hit (at 1 0 1) 2 1 2 (Face.Minus Y) 2)
+    ∷ finds Plain tested-start (counts 2 2 2) (0 ∷ 2 ∷ 0 ∷ 0 ∷ 0 ∷ 0 ∷ 0 ∷ 0 ∷ []) (at 1 1 1) (at 0 0 0) (hit (at 1 0 0) 2 1 2 (Face.Minus Z) 3)
+    ∷ finds Plain tested-start (counts 2 2 2) (2 ∷ 0 ∷ 0 ∷ 0 ∷ 0 ∷ 0 ∷ 0 ∷ 0 ∷ []) (at 1 1 1) (at 0 0 0) (hit (at 0 0 0) 2 1 2 (Face.Minus X) 4)
     -- one long step over all three: the face crossed last
-    ∷ finds Adaptive (counts 2 2 2) (0 ∷ 0 ∷ 0 ∷ 0 ∷ 0 ∷ 0 ∷ 0 ∷ 2 ∷ []) (at 0 0 0) (at 1 1 1) (hit (at 1 1 1) 2 1 2 (Face.Plus X) 2)
-    ∷ finds Adaptive (counts 2 2 2) (2 ∷ 0 ∷ 0 ∷ 0 ∷ 0 ∷ 0 ∷ 0 ∷ 0 ∷ []) (at 1 1 1) (at 0 0 0) (hit (at 0 0 0) 2 1 2 (Face.Minus X) 2)
+    ∷ finds Adaptive tested-start (counts 2 2 2) (0 ∷ 0 ∷ 0 ∷ 0 ∷ 0 ∷ 0 ∷ 0 ∷ 2 ∷ []) (at 0 0 0) (at 1 1 1) (hit (at 1 1 1) 2 1 2 (Face.Plus X) 2)
+    ∷ finds Adaptive tested-start (counts 2 2 2) (2 ∷ 0 ∷ 0 ∷ 0 ∷ 0 ∷ 0 ∷ 0 ∷ 0 ∷ []) (at 1 1 1) (at 0 0 0) (hit (at 0 0 0) 2 1 2 (Face.Minus X) 2)
     -- complete marks, both clear, the adaptive walk reads fewer
-    ∷ finds Plain (counts 3 2 1) (0 ∷ 0 ∷ 0 ∷ 0 ∷ 0 ∷ 0 ∷ []) (at 0 0 0) (at 2 1 0) (clear 4)
-    ∷ finds Adaptive (counts 3 2 1) (0 ∷ 0 ∷ 0 ∷ 0 ∷ 0 ∷ 0 ∷ []) (at 0 0 0) (at 2 1 0) (clear 3)
+    ∷ finds Plain tested-start (counts 3 2 1) (0 ∷ 0 ∷ 0 ∷ 0 ∷ 0 ∷ 0 ∷ []) (at 0 0 0) (at 2 1 0) (clear 4)
+    ∷ finds Adaptive tested-start (counts 3 2 1) (0 ∷ 0 ∷ 0 ∷ 0 ∷ 0 ∷ 0 ∷ []) (at 0 0 0) (at 2 1 0) (clear 3)
     -- also where y or z is the longest axis
-    ∷ finds Adaptive (counts 2 3 1) (0 ∷ 0 ∷ 0 ∷ 0 ∷ 0 ∷ 0 ∷ []) (at 0 0 0) (at 1 2 0) (clear 3)
-    ∷ finds Adaptive (counts 1 2 3) (0 ∷ 0 ∷ 0 ∷ 0 ∷ 0 ∷ 0 ∷ []) (at 0 0 0) (at 0 1 2) (clear 3)
+    ∷ finds Adaptive tested-start (counts 2 3 1) (0 ∷ 0 ∷ 0 ∷ 0 ∷ 0 ∷ 0 ∷ []) (at 0 0 0) (at 1 2 0) (clear 3)
+    ∷ finds Adaptive tested-start (counts 1 2 3) (0 ∷ 0 ∷ 0 ∷ 0 ∷ 0 ∷ 0 ∷ []) (at 0 0 0) (at 0 1 2) (clear 3)
     -- missing marks: a long step lands on the hit
-    ∷ finds Plain (counts 6 3 1) long-bytes (at 0 0 0) (at 5 2 0) (hit (at 2 1 0) 2 3 10 (Face.Plus X) 4)
-    ∷ finds Adaptive (counts 6 3 1) long-bytes (at 0 0 0) (at 5 2 0) (hit (at 2 1 0) 2 3 10 (Face.Plus X) 3)
+    ∷ finds Plain tested-start (counts 6 3 1) long-bytes (at 0 0 0) (at 5 2 0) (hit (at 2 1 0) 2 3 10 (Face.Plus X) 4)
+    ∷ finds Adaptive tested-start (counts 6 3 1) long-bytes (at 0 0 0) (at 5 2 0) (hit (at 2 1 0) 2 3 10 (Face.Plus X) 3)
     -- missing marks: the adaptive walk is clear and reads more than the plain one
-    ∷ finds Plain (counts 3 2 1) (0 ∷ 0 ∷ 0 ∷ 0 ∷ 2 ∷ 0 ∷ []) (at 0 1 0) (at 2 0 0) (hit (at 1 1 0) 2 1 4 (Face.Plus X) 2)
-    ∷ finds Adaptive (counts 3 2 1) (0 ∷ 0 ∷ 0 ∷ 0 ∷ 2 ∷ 0 ∷ []) (at 0 1 0) (at 2 0 0) (clear 3)
-    ∷ sight-rows
+    ∷ finds Plain tested-start (counts 3 2 1) (0 ∷ 0 ∷ 0 ∷ 0 ∷ 2 ∷ 0 ∷ []) (at 0 1 0) (at 2 0 0) (hit (at 1 1 0) 2 1 4 (Face.Plus X) 2)
+    ∷ finds Adaptive tested-start (counts 3 2 1) (0 ∷ 0 ∷ 0 ∷ 0 ∷ 2 ∷ 0 ∷ []) (at 0 1 0) (at 2 0 0) (clear 3)
+    ∷ start-rows

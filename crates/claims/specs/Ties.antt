@@ -43,10 +43,13 @@ pub record Promised : Type 1 where
   pub of-layer : (κs : _) (a : _) (r : _) (e : _) → layer.Post κs a r e → GivesLayer (a .0) (a .1 .0) (a .1 .1 .0) r
   pub of-mark : (κs : _) (a : _) (r : _) (e : _) → mark.Post κs a r e → Marks (a .0) (a .1 .0 .now) r (e .1 .0 .now)
   pub of-complete : (κs : _) (a : _) (r : _) (e : _) → complete.Post κs a r e → Completes (a .0) (a .1 .0 .now) r
-  pub of-plain : (κs : _) (a : _) (r : _) (e : _) → plain.Post κs a r e → Finds Plain (a .0) (a .1 .0 .now) (a .1 .1 .0) (a .1 .1 .1 .0) r
-  pub of-adaptive : (κs : _) (a : _) (r : _) (e : _) → adaptive.Post κs a r e → Finds Adaptive (a .0) (a .1 .0 .now) (a .1 .1 .0) (a .1 .1 .1 .0) r
+  pub of-plain : (κs : _) (a : _) (r : _) (e : _) → plain.Post κs a r e →
+      Finds Plain (a .1 .1 .1 .1 .0) (a .0) (a .1 .0 .now) (a .1 .1 .0) (a .1 .1 .1 .0) r
+  pub of-adaptive : (κs : _) (a : _) (r : _) (e : _) → adaptive.Post κs a r e →
+      Finds Adaptive (a .1 .1 .1 .1 .0) (a .0) (a .1 .0 .now) (a .1 .1 .0) (a .1 .1 .1 .0) r
   pub of-cell-of : (κs : _) (a : _) (r : _) (e : _) → cell-of.Post κs a r e → LooksUp (a .0) (a .1 .0) (a .1 .1 .0) r
-  pub of-see : (κs : _) (a : _) (r : _) (e : _) → see.Post κs a r e → Sees (a .0) (a .1 .0 .now) (a .1 .1 .0) (a .1 .1 .1 .0) (a .1 .1 .1 .1 .0) r
+  pub of-see : (κs : _) (a : _) (r : _) (e : _) → see.Post κs a r e →
+      Sees (a .1 .1 .1 .1 .1 .0) (a .0) (a .1 .0 .now) (a .1 .1 .0) (a .1 .1 .1 .0) (a .1 .1 .1 .1 .0) r
   pub of-read-venue : (κs : _) (a : _) (r : _) (e : _) → read-venue.Post κs a r e → ReadsVenue (a .0 .now) r
   pub of-venue-cells : (κs : _) (a : _) (r : _) (e : _) → venue-cells.Post κs a r e → GivesCells (a .0) r
   pub of-read-pair : (κs : _) (a : _) (r : _) (e : _) → read-pair.Post κs a r e → ReadsPair (a .0 .now) r

@@ -2,7 +2,7 @@
 -- refused here. Assumes nothing.
 use Prim.Native.Nat.{ℕ, _+_, _≤_}
 use mathlib.Core.Path.{_≡_}
-use mathlib.Core.Bool.{true}
+use mathlib.Core.Bool.{true, false}
 use mathlib.Core.List.{List, [], _∷_, _++_}
 use lib.IntN.{pos}
 use lib.ListN.{length}
@@ -15,6 +15,8 @@ use Rattle.cells.specs.declared.End.the-variants.{P}
 use Rattle.cells.specs.declared.Verdict.the-variants as Verdict
 use Rattle.cells.specs.declared.Verdict.the-variants.{Fine}
 use Rattle.cells.specs.Refusals.{NumberOf}
+use Rattle.cells.specs.declared.Manner.{Manner}
+use Rattle.cells.specs.Manners.{usual}
 use Rattle.cells.specs.Touching.{Touches}
 use Rattle.lines.specs.Steps.{Steps}
 use Rattle.lines.specs.Crossings.{InOrder, LastMade, next, place}
@@ -25,8 +27,9 @@ use Rattle.lists.specs.declared.Listed.the-variants as Listed
 use Rattle.lists.specs.Lists.{Line6, Line26}
 use Rattle.grids.specs.declared.Completeness.the-variants.{Yes, No}
 use Rattle.grids.specs.declared.LayerPart.the-variants.{Part}
-use Rattle.grids.specs.Grid.{size, count-check, Shapes, GivesLayerPart, GivesLayer}
+use Rattle.grids.specs.Grid.{size, count-check, byte-of, solid, Shapes, GivesLayerPart, GivesLayer}
 use Rattle.grids.specs.Marks.{complete, Marks, Completes}
+use Rattle.walks.specs.declared.Walker.{Walker}
 use Rattle.walks.specs.declared.Walker.the-variants.{Plain, Adaptive}
 use Rattle.walks.specs.declared.Hit.{Hit}
 use Rattle.walks.specs.declared.FirstHit.the-variants as FirstHit
@@ -45,7 +48,7 @@ use Rattle.records.specs.Writing.{WritesVenue}
 use Rattle.texts.specs.Text.{decimal, Puts}
 use Rattle.oatmarten.specs.GridCalls.{FlatMarks, FlatCompletes}
 use Rattle.claims.specs.Program.{Runs, example-input, example-output}
-use Rattle.claims.specs.Example.{counts, at, example-counts, example-cells, marked-cells}
+use Rattle.claims.specs.Example.{tested-start, counts, at, example-counts, example-cells, marked-cells}
 use Rattle.claims.specs.Lists.{lowest, highest, room}
 use Rattle.claims.specs.Points.{Finite, InItsCell, cube, metres, tenths, placement, point}
 use Rattle.claims.specs.Records.{Right, RightPair, example-venue, example-pair, example-room}
@@ -80,6 +83,10 @@ lent l = record { ptr = (0, 0); name = 0; now = l }
 abbrev pub the-hit : Hit
 the-hit = record { cell = at 1 1 0; code = 2; place = record { num = 1; den = 2; face = Face.Plus Y }; reads = 3 }
 
+-- and that at P, from the solid cell, where it is tested
+abbrev pub the-start : Hit
+the-start = record { cell = at 1 1 0; code = 2; place = record { num = 0; den = 1; face = Face.None }; reads = 1 }
+
 pub record OfGrids : Type 0 where
   -- cells that touch by a corner, and the number of a refusal
   pub corner : Touches 3 (at 0 0 0) (at 1 1 1)
@@ -93,12 +100,18 @@ pub record OfGrids : Type 0 where
   pub part : GivesLayerPart example-counts 8 (pos 0) (Part 0 8)
   pub layer : GivesLayer example-counts (lent example-cells) (pos 0) (lent example-cells)
   pub not-marked : Marks example-counts (0 ∷ []) (Verdict.Refused Bytes) (0 ∷ [])
-  -- walks: a hit of each, and a clear one, with complete marks
-  pub plain-hits : Finds Plain example-counts marked-cells (at 0 0 0) (at 3 1 0) (FirstHit.Hit the-hit)
-  pub adaptive-hits : Finds Adaptive example-counts marked-cells (at 0 0 0) (at 3 1 0) (FirstHit.Hit the-hit)
+  -- walks of either mode: a hit of each, and a clear one, with complete marks
+  pub plain-hits : (how : Manner) → Finds Plain how example-counts marked-cells (at 0 0 0) (at 3 1 0) (FirstHit.Hit the-hit)
+  pub adaptive-hits : (how : Manner) → Finds Adaptive how example-counts marked-cells (at 0 0 0) (at 3 1 0) (FirstHit.Hit the-hit)
   pub clear-marks : complete 3 (counts 3 2 1) all-clear ≡ true
-  pub plain-clear : Finds Plain (counts 3 2 1) all-clear (at 0 0 0) (at 2 1 0) (FirstHit.Clear 4)
-  pub adaptive-clear : Finds Adaptive (counts 3 2 1) all-clear (at 0 0 0) (at 2 1 0) (FirstHit.Clear 3)
+  pub plain-clear : (how : Manner) → Finds Plain how (counts 3 2 1) all-clear (at 0 0 0) (at 2 1 0) (FirstHit.Clear 4)
+  pub adaptive-clear : (how : Manner) → Finds Adaptive how (counts 3 2 1) all-clear (at 0 0 0) (at 2 1 0) (FirstHit.Clear 3)
+  -- from the solid cell: clear where it is not tested, with complete marks; a hit at P where it is
+  pub solid-start : solid (byte-of example-counts marked-cells (at 1 1 0)) ≡ true
+  pub passed : (w : Walker) → Finds w usual example-counts marked-cells (at 1 1 0) (at 3 1 0) (FirstHit.Clear 3)
+  pub not-passed : (w : Walker) → Finds w tested-start example-counts marked-cells (at 1 1 0) (at 3 1 0) (FirstHit.Hit the-start)
+  -- and a start that is not solid
+  pub clear-start : solid (byte-of example-counts marked-cells (at 0 0 0)) ≡ false
 
 pub record OfPoints : Type 0 where
   pub tested : Tested (cube 4) (placement (metres 0) (metres 1))
@@ -108,10 +121,10 @@ pub record OfPoints : Type 0 where
   -- a camera on the far wall has no cell
   pub off-survey : look-up P (cube 4) (placement (metres 0) (metres 1)) (point (metres 4) (metres 0) (metres 0)) ≡ Lookup.Refused (OffSurvey P X)
   -- a clear sight over complete marks
-  pub seen : Sees (counts 3 2 1) all-clear (placement (metres 0) (metres 1)) (point (halves 1) (halves 1) (halves 1))
+  pub seen : Sees usual (counts 3 2 1) all-clear (placement (metres 0) (metres 1)) (point (halves 1) (halves 1) (halves 1))
       (point (halves 5) (halves 3) (halves 1)) Sight.Clear
   -- a blocked one, in the program's venue, marked
-  pub blocked : Sees example-counts marked-cells (placement (metres 0) (metres 1)) (point (halves 1) (halves 1) (halves 1))
+  pub blocked : Sees tested-start example-counts marked-cells (placement (metres 0) (metres 1)) (point (halves 1) (halves 1) (halves 1))
       (point (halves 7) (halves 3) (halves 1))
       (Sight.Blocked (record { share = share-of 1 2; cell = at 1 1 0; code = 2; reads = 3; face = Face.Plus Y }))
 
