@@ -124,7 +124,7 @@ fn walk_line(text: &mut [u8], at: usize, k: u64, letter: u8, a: FirstHit) -> usi
     }
 }
 
-// How the program's walks are made: the camera's own cell is tested, as it always was here.
+// How the program's walks are made: the start is tested, so that what it writes stays as it always was.
 const MANNER: Manner = Manner {
     start: Start::Tested,
 };
@@ -134,14 +134,10 @@ fn walk_lines(n: Counts, cells: &[u8], k: u64, p: Cell, q: Cell, text: &mut [u8]
     requires { ⌜ text-room ≤ length (now text) ⌝ }
     ensures { λ r. ⌜ Puts (walk-lines k (answers n (now (cells .entry)) p q)) 0 (now (text .entry)) r (now (text .exit)) ⌝ }
 {
-    let plain = walk_line(text, 0, k, b'P', hits::first_plain(n, cells, p, q, MANNER));
-    walk_line(
-        text,
-        plain,
-        k,
-        b'A',
-        hits::first_adaptive(n, cells, p, q, MANNER),
-    )
+    let plain = hits::first_plain(n, cells, p, q, MANNER);
+    let next = walk_line(text, 0, k, b'P', plain);
+    let adaptive = hits::first_adaptive(n, cells, p, q, MANNER);
+    walk_line(text, next, k, b'A', adaptive)
 }
 
 // The walks between the ends of a pair.

@@ -29,8 +29,8 @@ returns c =
     let k = start .args .k in
     let room = start .pre in
     let after-plain = plain .walk-line .ensures .1 in
-    let one = and-line k plain-letter (omega arith) (no-line k) (plain .walk-line .ensures .0) (plain .before .first-plain .ensures .says) in
-    and-line k adaptive-letter (omega arith) one (adaptive .walk-line2 .ensures .0) (adaptive .before .first-adaptive .ensures .says) .puts
+    let one = and-line k plain-letter (omega arith) (no-line k) (plain .walk-line .ensures .0) (plain .before .before .first-plain .ensures .says) in
+    and-line k adaptive-letter (omega arith) one (adaptive .walk-line2 .ensures .0) (adaptive .before .before .first-adaptive .ensures .says) .puts
 
 pub walk-lines-spec : {M : Type 1} → statement M
 walk-lines-spec =
