@@ -466,7 +466,7 @@ wrong-starts =
       by-one-face = λ reads h. ap (reads-or 0) (h .says);
       long-from-solid = λ h. absurd (let z : _≡_ {A = ℕ} 3 4 = ap (reads-or 0) (h .says) in omega arith);
       steps-over = λ reads h. absurd (let z : _≡_ {A = ℕ} 1 0 = ap kind (h .says) in omega arith);
-      default-tests = λ w h cell a. absurd (let z : _≡_ {A = ℕ} 0 1 = ap kind (a .says) ∙ start-clear w in omega arith);
+      default-tests = λ w h a. absurd (let z : _≡_ {A = ℕ} 0 1 = ap kind (a .says) ∙ start-clear w in omega arith);
       tested-passes = λ w how is reads h.
           absurd (let z : _≡_ {A = ℕ} 1 0 = ap kind (h .says ∙ ap (λ s. first-hit w (record { start = s }) (counts 3 2 1) solid-start (at 0 0 0) (at 2 1 0)) is)
           ∙ start-hit w in omega arith);

@@ -133,6 +133,8 @@ start-rows =
     ∷ finds Adaptive usual example-counts marked-cells (at 1 1 0) (at 3 1 0) (clear 3)
     ∷ finds Plain usual (counts 3 2 1) (2 ∷ 0 ∷ 0 ∷ 0 ∷ 0 ∷ 0 ∷ []) (at 0 0 0) (at 2 1 0) (clear 4)
     ∷ finds Adaptive usual (counts 3 2 1) (2 ∷ 0 ∷ 0 ∷ 0 ∷ 0 ∷ 0 ∷ []) (at 0 0 0) (at 2 1 0) (clear 4)
+    ∷ finds Plain tested-start (counts 3 2 1) (2 ∷ 0 ∷ 0 ∷ 0 ∷ 0 ∷ 0 ∷ []) (at 0 0 0) (at 2 1 0) (hit (at 0 0 0) 2 0 1 Face.None 1)
+    ∷ finds Adaptive tested-start (counts 3 2 1) (2 ∷ 0 ∷ 0 ∷ 0 ∷ 0 ∷ 0 ∷ []) (at 0 0 0) (at 2 1 0) (hit (at 0 0 0) 2 0 1 Face.None 1)
     ∷ finds Adaptive usual (counts 3 2 1) (0 ∷ 0 ∷ 0 ∷ 0 ∷ 0 ∷ 0 ∷ []) (at 0 0 0) (at 2 1 0) (clear 3)
     -- the solid cell beside P is the hit, at its own face
     ∷ finds Plain usual (counts 3 1 1) (2 ∷ 3 ∷ 0 ∷ []) (at 0 0 0) (at 2 0 0) (hit (at 1 0 0) 3 1 4 (Face.Plus X) 2)

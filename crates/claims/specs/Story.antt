@@ -232,7 +232,7 @@ pub record WrongStarts : Type 0 where
   -- and would step over the solid cell after P
   pub steps-over : (reads : ℕ) → Finds Adaptive usual (counts 3 2 1) solid-after (at 0 0 0) (at 2 1 0) (FirstHit.Clear reads) → ⊥
   -- the default tests P
-  pub default-tests : (w : Walker) (h : Hit) → h .cell ≡ at 0 0 0 → Finds w usual (counts 3 2 1) solid-start (at 0 0 0) (at 2 1 0) (FirstHit.Hit h) → ⊥
+  pub default-tests : (w : Walker) (h : Hit) → Finds w usual (counts 3 2 1) solid-start (at 0 0 0) (at 2 1 0) (FirstHit.Hit h) → ⊥
   -- the tested start passes P
   pub tested-passes : (w : Walker) (how : Manner) → how .start ≡ Tested → (reads : ℕ) →
       Finds w how (counts 3 2 1) solid-start (at 0 0 0) (at 2 1 0) (FirstHit.Clear reads) → ⊥
