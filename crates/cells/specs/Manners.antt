@@ -12,3 +12,7 @@ is-tested Tested = true
 -- SCOPE W10: the default: the start is not tested
 abbrev pub usual : Manner
 usual = record { start = Untested }
+
+-- the start tested
+abbrev pub tested-start : Manner
+tested-start = record { start = Tested }

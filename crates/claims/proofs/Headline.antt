@@ -14,7 +14,8 @@ use Rattle.claims.proofs.Grids as grids
 use Rattle.claims.proofs.Points as points
 use Rattle.claims.proofs.Records as records
 use Rattle.claims.proofs.Sights.{seen-once, nothing-in-sight}
-use Rattle.claims.proofs.Story.{hit-once, hit-face, first-solid, walks-end, step-by-step, adaptive-step, one-story, never-invented, start-tests, two-starts}
+use Rattle.claims.proofs.Story.{hit-once, hit-face, first-on-line, walks-end, step-by-step, adaptive-step, as-its-walk}
+use Rattle.claims.proofs.Story.{one-story, never-invented, start-tests, two-starts}
 
 pub takes-anything : TakesAnything
 takes-anything =
@@ -47,8 +48,9 @@ are-the-papers =
       listed = cells-listed;
       walks = λ how n l p q. (step-by-step how n l p q, walks-end how n l p q);
       tests = start-tests;
+      answers = as-its-walk;
       adaptive = adaptive-step;
-      plain = first-solid;
+      plain = first-on-line;
       read-back = λ n cells entry exit k. records.read-back-same n cells entry .same exit k;
     }
 

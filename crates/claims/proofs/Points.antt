@@ -21,7 +21,7 @@ use Rattle.survey.specs.declared.Placement.{Placement}
 use Rattle.survey.specs.declared.Point.{Point}
 use Rattle.survey.specs.Quotient.{outside, cell-number}
 use Rattle.survey.specs.Search.{Inside, AllInside}
-use Rattle.survey.specs.Survey.{Tested, quotients, point-check, cell-at, look-up, cell-of, LooksUp, told-lookup}
+use Rattle.survey.specs.Survey.{PlacedGrid, quotients, point-check, cell-at, look-up, cell-of, LooksUp, told-lookup}
 use Rattle.survey.proofs.Whole.{whole-exact}
 use Rattle.survey.proofs.Finite.{quotient-no-nan}
 use Rattle.survey.proofs.Numbers.{one-number, number-whole-part, number-found, number-in, cell-not-outside, outside-exactly}
@@ -78,22 +78,22 @@ the-cell n at p = record {
         subst (InItsCell n (quotients at p)) (sym same)
         (record { x = coordinate (n .nx) _ (inside .x); y = coordinate (n .ny) _ (inside .y); z = coordinate (n .nz) _ (inside .z) })
 
-    given : (c : cell.Cell) → LooksUp n at p (Cell c) → Tested n at × InItsCell n (quotients at p) c
+    given : (c : cell.Cell) → LooksUp n at p (Cell c) → PlacedGrid n at × InItsCell n (quotients at p) c
     given c h = let (tested, inside, same) = cell-given n at p c (sym (h .says)) in (tested, in-it c inside same)
 
-    end-given : (e : End) (c : cell.Cell) → Tested n at → look-up e n at p ≡ Cell c → InItsCell n (quotients at p) c
+    end-given : (e : End) (c : cell.Cell) → PlacedGrid n at → look-up e n at p ≡ Cell c → InItsCell n (quotients at p) c
     end-given e c t h = let (inside, same) = look-given e n at p c t h in in-it c inside same
 
-    fine : (e : End) (c : cell.Cell) → Tested n at → Finite p → InItsCell n (quotients at p) c → point-check e n p (quotients at p) ≡ Fine
+    fine : (e : End) (c : cell.Cell) → PlacedGrid n at → Finite p → InItsCell n (quotients at p) c → point-check e n p (quotients at p) ≡ Fine
     fine e c t f i =
         let range = counted n (t .counts) in
         point-fine e n p (quotients at p) (f .x) (f .y) (f .z) (coordinate-inside (n .nx) _ (c .x) (range .x .most) (i .x))
         (coordinate-inside (n .ny) _ (c .y) (range .y .most) (i .y)) (coordinate-inside (n .nz) _ (c .z) (range .z .most) (i .z))
 
-    is-at : (c : cell.Cell) → Tested n at → InItsCell n (quotients at p) c → c ≡ cell-at n (quotients at p)
+    is-at : (c : cell.Cell) → PlacedGrid n at → InItsCell n (quotients at p) c → c ≡ cell-at n (quotients at p)
     is-at c t i = cell-is-at n (quotients at p) c (counted n (t .counts)) i
 
-    end-found : (e : End) (c : cell.Cell) → Tested n at → Finite p → InItsCell n (quotients at p) c → look-up e n at p ≡ Cell c
+    end-found : (e : End) (c : cell.Cell) → PlacedGrid n at → Finite p → InItsCell n (quotients at p) c → look-up e n at p ≡ Cell c
     end-found e c t f i = rw (fine e c t f i) (ap Cell (sym (is-at c t i)))
 
 -- ---- outside, and exact conversion

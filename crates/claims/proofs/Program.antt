@@ -1,7 +1,7 @@
 -- The program's claims: what a step says of a frame it says of all that is left of the input, so the steps give the whole output. Assumes nothing.
 use Prim.Native.Nat.{ℕ, zero, suc, _≤_}
 use mathlib.Core.Path.{_≡_, refl, sym, ap, ap₂, _∙_, subst}
-use mathlib.Core.List.{List, [], _++_, append-nil}
+use mathlib.Core.List.{List, [], _∷_, _++_, append-nil}
 use mathlib.Core.Bool.{Bool, true, false, cond}
 use mathlib.Core.Logic.{_⊎_, inl, inr}
 use native.Mathlib.Omega.{arith}
@@ -13,6 +13,7 @@ use Rattle.cells.specs.declared.Axis.the-variants.{X, Y, Z}
 use Rattle.cells.specs.declared.Cell.{Cell}
 use Rattle.cells.specs.declared.Counts.{Counts}
 use Rattle.cells.specs.declared.Manner.{Manner}
+use Rattle.cells.specs.Manners.{tested-start}
 use Rattle.cells.specs.declared.End.{End}
 use Rattle.cells.specs.declared.End.the-variants.{P, Q}
 use Rattle.cells.specs.declared.Refusal.the-variants.{OffGrid}
@@ -48,7 +49,7 @@ use Rattle.program.specs.Program.{Said, venue-most, pair-most, beyond, venue-sa
 use Rattle.program.specs.Program.{after-frame, Says, text-room, after-refusal, answers, walk-line, walk-lines, said-of-walks}
 use Rattle.program.proofs.Frames.{venue-framed, venue-on, venue-taken, read-framed, cells-framed, pair-framed, pair-on, after-same, less-left, beyond-is}
 use Rattle.claims.specs.Program.{Pairs, last, next, Runs, ends, begins, Writes, OneStep, example-input}
-use Rattle.claims.specs.Program.{WrongPrograms, Walked, AllWalked, going-on, FiveOrLines, LineOf}
+use Rattle.claims.specs.Program.{WrongPrograms, Walked, AllWalked, going-on, FiveOrLines, LineOf, TestedStart}
 use Rattle.texts.specs.Text.{pair-refused-line}
 use Rattle.claims.proofs.Starred.{example-writes}
 use denote.Ref.{RefT}
@@ -300,6 +301,15 @@ one-step entry = record { venue = λ frame r t x y. one; pair = λ n cells k fra
 -- the end is no number
 over-not-on : (k : ℕ) {next : Next} → next ≡ Over → next ≡ On k → ⊥
 over-not-on k e f = let g : On k ≡ Over = sym f ∙ e in let z : _≡_ {A = ℕ} 0 1 = cc in omega arith
+
+pub starts-tested : (n : Counts) (cells : List ℕ) (p q : Cell) → TestedStart n cells p q
+starts-tested n cells p q =
+    record {
+      walks = λ how is plain adaptive hp ha.
+          let named : (w : Walker) → first-hit w tested-start n cells p q ≡ first-hit w how n cells p q =
+          λ w. ap (λ s. first-hit w (record { start = s }) n cells p q) (sym is) in
+          ap₂ (λ x y. (80, x) ∷ (65, y) ∷ []) (named Plain ∙ sym (hp .says)) (named Adaptive ∙ sym (ha .says));
+    }
 
 pub line-of : (k letter : ℕ) → LineOf k letter
 unfolding walk-line

@@ -42,7 +42,7 @@ use Rattle.survey.specs.declared.Lookup.{Lookup}
 use Rattle.survey.specs.declared.Lookup.the-variants as Lookup
 use Rattle.survey.specs.declared.Placement.{Placement}
 use Rattle.survey.specs.declared.Point.{Point}
-use Rattle.survey.specs.Survey.{placement-check, Tested, quotients, point-check, cell-at, look-up, cell-of, LooksUp, told-lookup}
+use Rattle.survey.specs.Survey.{placement-check, PlacedGrid, quotients, point-check, cell-at, look-up, cell-of, LooksUp, told-lookup}
 use Rattle.survey.proofs.Lookups.{lookup-found}
 use Rattle.sight.specs.declared.Sight.{Sight}
 use Rattle.sight.specs.declared.Sight.the-variants as Sight
@@ -187,7 +187,7 @@ module _ (how : Manner) (n : Counts) (l : List ℕ) (at : Placement) (camera bal
       let (shaped, rest) = each-fine _ _ fine in
       let (placed, points) = each-fine _ _ rest in
       let (seen-from, seen-to) = each-fine _ _ points in
-      let tested : Tested n at = record { counts = shape-counts n (length l) shaped; placed = placed } in
+      let tested : PlacedGrid n at = record { counts = shape-counts n (length l) shaped; placed = placed } in
       let walks : walk-check n (length l) from to ≡ Fine =
       walkable n (length l) at camera ball from to shaped tested
       (lookup-found P n at camera refl refl seen-from refl) (lookup-found Q n at ball refl refl seen-to refl) in

@@ -87,7 +87,8 @@ record Looked (how : Manner) (n : Counts) (l : List ℕ) (f t : Lookup) (s : Sig
   to-is : t ≡ Lookup.Cell to
   walk : sight-of (first-hit Adaptive how n l from to) ≡ s
 
-seen-by : (how : Manner) (n : Counts) (l : List ℕ) (f t : Lookup) {s : Sight} → ((r : Refusal) → ¬ (Refused r ≡ s)) → seen how n l f t ≡ s → Looked how n l f t s
+seen-by : (how : Manner) (n : Counts) (l : List ℕ) (f t : Lookup) {s : Sight} → ((r : Refusal) → ¬ (Refused r ≡ s)) → seen how n l f t ≡ s →
+    Looked how n l f t s
 seen-by how n l (Lookup.Cell c) (Lookup.Cell b) other e = record { from = c; to = b; from-is = refl; to-is = refl; walk = e }
 seen-by how n l (Lookup.Cell c) (Lookup.Refused r) other e = absurd (other r e)
 seen-by how n l (Lookup.Refused r) t other e = absurd (other r e)

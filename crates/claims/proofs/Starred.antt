@@ -35,7 +35,8 @@ sights-hold = refl and refl and refl and refl and refl and records-hold
 starts-hold : Every start-rows
 unfolding first-hit
 starts-hold =
-    refl and refl and refl and refl and refl and refl and refl and refl and refl and refl and refl and refl and refl and refl and refl and sights-hold
+    refl and refl and refl and refl and refl and refl and refl and refl and refl and
+    refl and refl and refl and refl and refl and refl and refl and refl and sights-hold
 
 pub starred : Every table
 unfolding six-line line-26 marked first-hit

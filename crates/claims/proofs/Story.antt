@@ -45,7 +45,7 @@ use Rattle.grids.proofs.Inside.{accepted}
 use Rattle.walks.proofs.Inside.{six-inside}
 use Rattle.walks.proofs.Find.{same-is-cell}
 use Rattle.walks.proofs.Safe.{complete-safe}
-use Rattle.walks.proofs.Numbers.{adaptive-next, Way, face, long, way}
+use Rattle.walks.proofs.Numbers.{adaptive-next, Way, face, long, way, walk-length, walk-last}
 use Rattle.walks.proofs.Testing.{hit-solid, not-solid, tested-test, other-test, exempt-test}
 use Rattle.walks.proofs.Modes.{modes-alike, later-hit, equal-ends}
 use Rattle.walks.proofs.Long.{go-long, go-face}
@@ -55,8 +55,8 @@ use Rattle.walks.proofs.Story.{plain-clear, plain-clear-reads, adaptive-clear-m
 use Rattle.survey.proofs.Tests.{neither}
 use Rattle.oatmarten.specs.Faces.{face-number}
 use Rattle.claims.specs.Story.{SameStory, hits, clears, refusals, OneStory, NeverInvented, NothingInTheWay, Reads, WalksEnd}
-use Rattle.claims.specs.Story.{FirstSolid, HitInside, MarkedFirst, HitOnce, WrongWalks, OnTheLine, HitPlace, CameInBy, HitFace, StepByStep}
-use Rattle.claims.specs.Story.{AdaptiveStep, StartTest, TwoStarts, WrongStarts, long-hit, solid-start, solid-ends}
+use Rattle.claims.specs.Story.{FirstOnLine, HitInside, MarkedFirst, HitOnce, WrongWalks, OnTheLine, HitPlace, CameInBy, HitFace, StepByStep}
+use Rattle.claims.specs.Story.{AdaptiveStep, StartTest, TwoStarts, AsItsWalk, WrongStarts, long-hit, solid-start, solid-ends}
 use Rattle.claims.specs.Example.{counts, at, example-counts, marked-cells}
 use Rattle.claims.proofs.Grids.{says-complete}
 
@@ -211,8 +211,8 @@ module _ (how : Manner) (n : Counts) (l : List ℕ) (p q : Cell) where
             },
           )
 
-  pub first-solid : FirstSolid how n l p q
-  first-solid =
+  pub first-on-line : FirstOnLine how n l p q
+  first-on-line =
       record {
         hit = λ h a.
             let (fine, hit, there) = hit-found Plain h a in (
@@ -282,6 +282,21 @@ module _ (how : Manner) (n : Counts) (l : List ℕ) (p q : Cell) where
 
   pub walks-end : WalksEnd how n l p q
   walks-end = record { ends = walk-stops how n l p q }
+
+  pub as-its-walk : AsItsWalk how n l p q
+  as-its-walk =
+      record {
+        hit = λ w h a.
+            let (fine, hit, there) = hit-found w h a in
+            (ap (λ k. k .cell) there ∙ sym (walk-last how n l p q w p), ap (λ k. k .reads) there ∙ sym (walk-length how n l p q w));
+        clear = λ w reads a.
+            let (fine, none, many) = clear-found w reads a in
+            let free = ap (hit-at how n l p) (walk-last how n l p q w p) ∙ none in (
+              ⊎-elim (λ hit. absurd (let z : _≡_ {A = ℕ} 0 1 = ap (λ b. cond b 1 0) (sym free ∙ hit) in omega arith)) (λ last. last)
+                  (walk-stops how n l p q w),
+              many ∙ sym (walk-length how n l p q w),
+            );
+      }
 
   pub hit-once : HitOnce how n l p q
   hit-once = record { once = λ w r s h k. h .says ∙ sym (k .says) }

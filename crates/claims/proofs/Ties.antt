@@ -5,6 +5,7 @@ pub promised : Promised
 promised =
     record {
       of-number = λ κs a r e h. h;
+      of-usual = λ κs a r e h. h;
       of-line6 = λ κs a r e h. h;
       of-line26 = λ κs a r e h. h;
       of-shape = λ κs a r e h. h;
@@ -29,6 +30,7 @@ pub asks-nothing : AsksNothing
 asks-nothing =
     record {
       number-asks = λ κs a. tt;
+      usual-asks = λ κs a. tt;
       line6-asks = λ κs a. tt;
       line26-asks = λ κs a. tt;
       shape-asks = λ κs a. tt;

@@ -4,8 +4,6 @@ use mathlib.Core.List.{List, [], _∷_}
 use lib.IntN.{pos}
 use Rattle.cells.specs.declared.Cell.{Cell}
 use Rattle.cells.specs.declared.Counts.{Counts}
-use Rattle.cells.specs.declared.Manner.{Manner}
-use Rattle.cells.specs.declared.Start.the-variants.{Tested}
 
 -- counts
 abbrev pub counts : (nx ny nz : ℕ) → Counts
@@ -14,10 +12,6 @@ counts nx ny nz = record { nx = nx; ny = ny; nz = nz }
 -- the cell (x, y, z)
 abbrev pub at : (x y z : ℕ) → Cell
 at x y z = record { x = pos x; y = pos y; z = pos z }
-
--- a walk whose start is tested
-abbrev pub tested-start : Manner
-tested-start = record { start = Tested }
 
 -- 4 by 2 by 1, solid at (1,1,0) alone
 abbrev pub example-counts : Counts

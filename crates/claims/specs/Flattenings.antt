@@ -17,8 +17,7 @@ use Rattle.cells.specs.declared.Manner.{Manner}
 use Rattle.cells.specs.declared.Refusal.{Refusal}
 use Rattle.cells.specs.declared.Refusal.the-variants as Refusal
 use Rattle.cells.specs.declared.Verdict.the-variants as Verdict
-use Rattle.cells.specs.declared.Start.the-variants.{Tested}
-use Rattle.cells.specs.Manners.{usual}
+use Rattle.cells.specs.Manners.{usual, tested-start}
 use Rattle.cells.specs.Refusals.{Told, told-verdict}
 use Rattle.lists.specs.declared.Listed.the-variants as Listed
 use Rattle.lists.specs.Lists.{told-listed}
@@ -166,7 +165,7 @@ pub record InputRows : Type 0 where
   pub cell : (x y z : ℤ) → as-cell (record { x = x; y = y; z = z }) ≡ record { x = x; y = y; z = z }
   pub counts : (nx ny nz : ℕ) → as-counts (record { nx = nx; ny = ny; nz = nz }) ≡ record { nx = nx; ny = ny; nz = nz }
   pub untested : as-manner (record { start = 0 }) ≡ usual
-  pub tested : (number : ℕ) → (number ≡ 0 → ⊥) → as-manner (record { start = number }) ≡ record { start = Tested }
+  pub tested : (number : ℕ) → (number ≡ 0 → ⊥) → as-manner (record { start = number }) ≡ tested-start
   pub placement : (ox oy oz edge : Float) →
       as-placement (record { ox = ox; oy = oy; oz = oz; edge = edge }) ≡ record { ox = ox; oy = oy; oz = oz; edge = edge }
   pub point : (x y z : Float) → as-point (record { x = x; y = y; z = z }) ≡ record { x = x; y = y; z = z }

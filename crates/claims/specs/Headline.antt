@@ -42,7 +42,7 @@ use Rattle.claims.specs.Grids as grids
 use Rattle.claims.specs.Points as points
 use Rattle.claims.specs.Records as records
 use Rattle.claims.specs.Sights.{SeenOnce, OpenWay}
-use Rattle.claims.specs.Story.{SameStory, NoLater, FirstSolid, HitFace, HitOnce, WalksEnd, StepByStep, AdaptiveStep, StartTest, TwoStarts}
+use Rattle.claims.specs.Story.{SameStory, NoLater, FirstOnLine, HitFace, HitOnce, WalksEnd, StepByStep, AdaptiveStep, AsItsWalk, StartTest, TwoStarts}
 
 -- 1. Every public call takes any numbers and any lent memory, has one answer and one final memory for each input, and refuses by number exactly
 -- where SCOPE's table says, in its order; a refusal writes nothing.
@@ -67,8 +67,8 @@ pub record TakesAnything : Type 1 where
 -- 2. The lines are the paper's, made exact: at each place of the 6-line every crossing made comes before every one not made, ties by rule 1, and no
 -- other place has that; its cells go from P to Q, each touched by the segment, and no cell is missing whose inside the segment enters. The list
 -- calls write just these cells. Both walks start at P and go on by what comes next, to the first hit or to Q: for the plain walk that is the 6-line to
--- its first hit, for the adaptive one long steps at clear cells of the 26-line. A hit is a solid cell; P is none where the start is not tested. Of
--- either start mode. A venue written and read back is the same venue.
+-- its first hit, for the adaptive one long steps at clear cells of the 26-line. A hit is a solid cell; P is none where the start is not tested. The
+-- calls answer from where these walks end, with their cells as the reads. A venue written and read back is the same venue.
 pub record AreThePapers : Type 0 where
   pub order : (p q : Cell) → OnePlace rule-1 (differences p q)
   pub six : (p q : Cell) → SixLine rule-1 p q
@@ -78,13 +78,14 @@ pub record AreThePapers : Type 0 where
   pub listed : (p q : Cell) (entry exit : List ℤ) (k : ℕ) → CellsListed p q entry exit k
   pub walks : (how : Manner) (n : Counts) (l : List ℕ) (p q : Cell) → StepByStep how n l p q × WalksEnd how n l p q
   pub tests : (n : Counts) (l : List ℕ) (p : Cell) → StartTest n l p
+  pub answers : (how : Manner) (n : Counts) (l : List ℕ) (p q : Cell) → AsItsWalk how n l p q
   pub adaptive : (n : Counts) (l : List ℕ) (p q : Cell) → AdaptiveStep n l p q
-  pub plain : (how : Manner) (n : Counts) (l : List ℕ) (p q : Cell) → FirstSolid how n l p q
+  pub plain : (how : Manner) (n : Counts) (l : List ℕ) (p q : Cell) → FirstOnLine how n l p q
   pub read-back : (n : Counts) (cells entry exit : List ℕ) (k : ℕ) → WritesVenue n cells entry (Wrote k) exit →
       (rest : List ℕ) (bytes part : RefT (List ℕ)) (r : VenueRead) →
       bytes .now ≡ take k exit ++ rest → ReadsVenue (bytes .now) r → GivesCells bytes part → records.SameVenue n cells bytes part r
 
--- 3. Where the completeness call says yes, the adaptive and the plain walk find the same first solid cell, code, place and entry face, or both none,
+-- 3. Where the completeness call says yes, the adaptive and the plain walk find the same first hit, its cell, code, place and entry face, or both none,
 -- and the adaptive one reads no more cells; and a clear sight has nothing solid in its way, but for the camera's own cell where it is not tested. In
 -- any grid whatever, an adaptive hit is a plain hit, there or before; and a hit of either walk says the face by which the 6-line enters its cell, at
 -- its place. All this in either start mode; where P is not solid the two answer alike, and where it is not tested it is never the hit.

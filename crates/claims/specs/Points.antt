@@ -24,7 +24,7 @@ use Rattle.survey.specs.declared.Placement.{Placement}
 use Rattle.survey.specs.declared.Point.{Point}
 use Rattle.survey.specs.Quotient.{as-f64, outside, in-cell}
 use Rattle.sight.specs.Sight.{share-of}
-use Rattle.survey.specs.Survey.{Tested, quotients, look-up, cell-of, LooksUp, told-lookup}
+use Rattle.survey.specs.Survey.{PlacedGrid, quotients, look-up, cell-of, LooksUp, told-lookup}
 
 -- 1. One answer for each input.
 pub record OneAnswer (n : Counts) (at : Placement) (p : Point) : Type 0 where
@@ -58,15 +58,15 @@ pub record Finite (p : Point) : Type 0 where
 -- 3. An answer that is a cell is the cell where the point's quotients lie; and where there is such a cell, it is the answer. Of the call, and of
 -- the lookups that a sight makes, of the camera as P and of the ball as Q.
 pub record TheCell (n : Counts) (at : Placement) (p : Point) : Type 0 where
-  pub given : (c : cell.Cell) → LooksUp n at p (Cell c) → Tested n at × InItsCell n (quotients at p) c
-  pub found : (c : cell.Cell) → Tested n at → Finite p → InItsCell n (quotients at p) c → LooksUp n at p (Cell c)
-  pub end-given : (e : End) (c : cell.Cell) → Tested n at → look-up e n at p ≡ Cell c → InItsCell n (quotients at p) c
-  pub end-found : (e : End) (c : cell.Cell) → Tested n at → Finite p → InItsCell n (quotients at p) c → look-up e n at p ≡ Cell c
+  pub given : (c : cell.Cell) → LooksUp n at p (Cell c) → PlacedGrid n at × InItsCell n (quotients at p) c
+  pub found : (c : cell.Cell) → PlacedGrid n at → Finite p → InItsCell n (quotients at p) c → LooksUp n at p (Cell c)
+  pub end-given : (e : End) (c : cell.Cell) → PlacedGrid n at → look-up e n at p ≡ Cell c → InItsCell n (quotients at p) c
+  pub end-found : (e : End) (c : cell.Cell) → PlacedGrid n at → Finite p → InItsCell n (quotients at p) c → look-up e n at p ≡ Cell c
 
 -- 4. With counts and placement that pass their tests and finite values, no quotient is NaN; and a quotient is outside exactly when no whole
 -- number k below the count has k ≤ q < k+1.
 pub record Outside (n : Counts) (at : Placement) (p : Point) : Type 0 where
-  pub numbers : Tested n at → Finite p →
+  pub numbers : PlacedGrid n at → Finite p →
       (isNan (quotients at p .x) ≡ false) × (isNan (quotients at p .y) ≡ false) × (isNan (quotients at p .z) ≡ false)
   pub exactly : (count : ℕ) (q : Float) → count ≤ 1024 → isNan q ≡ false → (outside count q ≡ true) ↔ ((k : ℕ) → k < count → in-cell q k ≡ false)
 

@@ -5,6 +5,11 @@ use mathlib.Core.List.{List, [], _∷_, _++_}
 use mathlib.Core.Logic.{_⊎_}
 use lib.ListN.{take}
 use Rattle.cells.specs.declared.Counts.{Counts}
+use Rattle.cells.specs.declared.Cell.{Cell}
+use Rattle.cells.specs.declared.Manner.{Manner}
+use Rattle.cells.specs.declared.Start.the-variants.{Tested}
+use Rattle.walks.specs.declared.Walker.the-variants.{Plain, Adaptive}
+use Rattle.walks.specs.Answers.{Finds}
 use denote.Ref.{RefT}
 use Rattle.records.specs.declared.venues.Venue.{Venue}
 use Rattle.records.specs.declared.venues.VenueRead.the-variants.{Read}
@@ -78,6 +83,11 @@ pub record FiveOrLines (bytes cells : RefT (List ℕ)) (t : List ℕ) (v : Venue
 pub record LineOf (k letter : ℕ) : Type 0 where
   pub hit : (h : Hit) → walk-line k letter (FirstHit.Hit h) ≡ hit-line k letter (h .cell) (h .code) (h .reads) (h .place .face)
   pub clear : (reads : ℕ) → walk-line k letter (FirstHit.Clear reads) ≡ clear-line k letter reads
+
+-- SCOPE T16: between any two cells the program's answers are those of the two calls with a tested start, with the letters P and A.
+pub record TestedStart (n : Counts) (cells : List ℕ) (p q : Cell) : Type 0 where
+  pub walks : (how : Manner) → how .start ≡ Tested → (plain adaptive : FirstHit) → Finds Plain how n cells p q plain →
+      Finds Adaptive how n cells p q adaptive → answers n cells p q ≡ (80, plain) ∷ (65, adaptive) ∷ []
 
 -- ---- named inputs and outputs
 

@@ -172,7 +172,8 @@ pub record GridsTold (n : Counts) (l : List ℕ) : Type 0 where
 -- surveyed points
 pub record PointsTold (n : Counts) (at : Placement) : Type 0 where
   pub cell-of : (p : Point) (r : Lookup) → LooksUp n at p r → ByTests (cell-tests n at p) (told-lookup r)
-  pub see : (how : Manner) (l : List ℕ) (camera ball : Point) (r : Sight) → Sees how n l at camera ball r → ByTests (sight-tests n (length l) at camera ball) (told-sight r)
+  pub see : (how : Manner) (l : List ℕ) (camera ball : Point) (r : Sight) → Sees how n l at camera ball r →
+      ByTests (sight-tests n (length l) at camera ball) (told-sight r)
 
 -- records; a venue's part is empty exactly where its partner refuses
 pub record RecordsTold : Type 0 where

@@ -43,7 +43,8 @@ module _ (how : Manner) (n : Counts) (l : List ℕ) (at : Placement) where
   -- 2. Where both points have a cell, blocked or clear is what the adaptive first-hit call says of the two cells.
   pub record AsTheWalk (camera ball : Point) : Type 0 where
     pub same : (c b : cell.Cell) (r : Sight) (h : FirstHit) → shape n (length l) ≡ Fine → placement-check at ≡ Fine →
-        look-up P n at camera ≡ Lookup.Cell c → look-up Q n at ball ≡ Lookup.Cell b → Sees how n l at camera ball r → Finds Adaptive how n l c b h → r ≡ sight-of h
+        look-up P n at camera ≡ Lookup.Cell c → look-up Q n at ball ≡ Lookup.Cell b → Sees how n l at camera ball r →
+        Finds Adaptive how n l c b h → r ≡ sight-of h
 
   -- camera and ball have cells, and no cell whose open inside the segment between their centres meets is solid, the camera's own excepted exactly
   -- where it is not tested

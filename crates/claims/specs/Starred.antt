@@ -14,7 +14,7 @@ use Rattle.cells.specs.declared.Face.{Face}
 use Rattle.cells.specs.declared.Face.the-variants as Face
 use Rattle.cells.specs.declared.Manner.{Manner}
 use Rattle.cells.specs.Checks.{by-verdict}
-use Rattle.cells.specs.Manners.{usual}
+use Rattle.cells.specs.Manners.{usual, tested-start}
 use Rattle.cells.specs.Refusals.{Told, alone, at-end}
 use Rattle.lines.specs.Preference.{rule-1}
 use Rattle.lines.specs.Lines.{six-line, line-26}
@@ -34,7 +34,7 @@ use Rattle.survey.specs.Quotient.{as-f64}
 use Rattle.sight.specs.Sight as sights
 use Rattle.sight.specs.Sight.{sight, told-sight, blocked}
 use Rattle.claims.specs.Points.{metres, placement, point}
-use Rattle.claims.specs.Example.{counts, at, tested-start, example-counts, example-cells, marked-cells}
+use Rattle.claims.specs.Example.{counts, at, example-counts, example-cells, marked-cells}
 use Rattle.claims.specs.Story.{long-bytes}
 use Rattle.claims.specs.Records.{example-venue, example-pair, minus-one-pair}
 use Rattle.claims.specs.Program.{example-input, example-output, marked-input, marked-output}
@@ -136,6 +136,9 @@ start-rows =
     ∷ finds Plain tested-start (counts 3 2 1) (2 ∷ 0 ∷ 0 ∷ 0 ∷ 0 ∷ 0 ∷ []) (at 0 0 0) (at 2 1 0) (hit (at 0 0 0) 2 0 1 Face.None 1)
     ∷ finds Adaptive tested-start (counts 3 2 1) (2 ∷ 0 ∷ 0 ∷ 0 ∷ 0 ∷ 0 ∷ []) (at 0 0 0) (at 2 1 0) (hit (at 0 0 0) 2 0 1 Face.None 1)
     ∷ finds Adaptive usual (counts 3 2 1) (0 ∷ 0 ∷ 0 ∷ 0 ∷ 0 ∷ 0 ∷ []) (at 0 0 0) (at 2 1 0) (clear 3)
+    -- after a solid P long steps come again: from (1,0,0) to (2,1,0)
+    ∷ finds Plain usual (counts 4 2 1) (2 ∷ 0 ∷ 0 ∷ 0 ∷ 0 ∷ 0 ∷ 0 ∷ 0 ∷ []) (at 0 0 0) (at 3 1 0) (clear 5)
+    ∷ finds Adaptive usual (counts 4 2 1) (2 ∷ 0 ∷ 0 ∷ 0 ∷ 0 ∷ 0 ∷ 0 ∷ 0 ∷ []) (at 0 0 0) (at 3 1 0) (clear 4)
     -- the solid cell beside P is the hit, at its own face
     ∷ finds Plain usual (counts 3 1 1) (2 ∷ 3 ∷ 0 ∷ []) (at 0 0 0) (at 2 0 0) (hit (at 1 0 0) 3 1 4 (Face.Plus X) 2)
     ∷ finds Adaptive usual (counts 3 1 1) (2 ∷ 3 ∷ 0 ∷ []) (at 0 0 0) (at 2 0 0) (hit (at 1 0 0) 3 1 4 (Face.Plus X) 2)
@@ -149,7 +152,7 @@ start-rows =
     ∷ finds Adaptive tested-start example-counts marked-cells (at 1 1 0) (at 1 1 0) (hit (at 1 1 0) 2 0 1 Face.None 1)
     ∷ sight-rows
 
--- the base's cases, with the start tested as it was then, and those of the start
+-- every case; where a row says nothing else, the start is tested
 abbrev pub table : List Row
 table =
     six (at 0 0 0) (at 2 1 0) (at 0 0 0 ∷ at 1 0 0 ∷ at 1 1 0 ∷ at 2 1 0 ∷ [])

@@ -80,7 +80,7 @@ pub record FirstOf (how : Manner) (n : Counts) (l : List ℕ) (p q : Cell) (h : 
   pub none-before : (t : ℕ) → t < s → hit-at how n l p (six-cell rule-1 p q t) ≡ false
   pub reads : h .reads ≡ s + 1
 
-pub record FirstSolid (how : Manner) (n : Counts) (l : List ℕ) (p q : Cell) : Type 0 where
+pub record FirstOnLine (how : Manner) (n : Counts) (l : List ℕ) (p q : Cell) : Type 0 where
   pub hit : (h : Hit) → Finds Plain how n l p q (FirstHit.Hit h) → (s : ℕ) × FirstOf how n l p q h s
   pub none : (reads : ℕ) → Finds Plain how n l p q (FirstHit.Clear reads) → (s : ℕ) → s ≤ total (differences p q) →
       hit-at how n l p (six-cell rule-1 p q s) ≡ false
@@ -165,6 +165,13 @@ pub record TwoStarts (n : Counts) (l : List ℕ) (p q : Cell) : Type 0 where
       (h .cell ≡ p → ⊥) × (0 < h .place .num) × (h .place .face ≡ Face.None → ⊥)
   pub equal-ends : (w : Walker) (how : Manner) → how .start ≡ Untested → (r : FirstHit) → Finds w how n l p p r →
       (r ≡ FirstHit.Clear 1) ⊎ ((e : Refusal) × (r ≡ FirstHit.Refused e))
+
+-- 15. The answer is that of the walk: its last cell is the hit, or Q where it is clear; the reads are its cells.
+pub record AsItsWalk (how : Manner) (n : Counts) (l : List ℕ) (p q : Cell) : Type 0 where
+  pub hit : (w : Walker) (h : Hit) → Finds w how n l p q (FirstHit.Hit h) →
+      (h .cell ≡ last-of p (walk-of w how n l p q)) × (h .reads ≡ length (walk-of w how n l p q))
+  pub clear : (w : Walker) (reads : ℕ) → Finds w how n l p q (FirstHit.Clear reads) →
+      (last-of p (walk-of w how n l p q) ≡ q) × (reads ≡ length (walk-of w how n l p q))
 
 -- ---- wrong walks, on named inputs
 

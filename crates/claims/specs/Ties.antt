@@ -4,6 +4,9 @@
 use lib.ListN.{length}
 use Rattle.cells.specs.Refusals.{NumberOf}
 use Rattle.cells.proofs.number.Reads as number
+use Rattle.cells.specs.Manners.{usual}
+use Rattle.cells.proofs.Manner.usual.Reads as default
+use mathlib.Core.Path.{_≡_}
 use Rattle.grids.specs.Grid.{Shapes, GivesLayerPart, GivesLayer}
 use Rattle.grids.specs.Marks.{Marks, Completes}
 use Rattle.grids.proofs.shape.Reads as shape
@@ -36,6 +39,7 @@ use Rattle.records.proofs.write_venue.Reads as write-venue
 -- what each call promises
 pub record Promised : Type 1 where
   pub of-number : (κs : _) (a : _) (r : _) (e : _) → number.Post κs a r e → NumberOf (a .0) r
+  pub of-usual : (κs : _) (a : _) (r : _) (e : _) → default.Post κs a r e → r ≡ usual
   pub of-line6 : (κs : _) (a : _) (r : _) (e : _) → line6.Post κs a r e → Line6 (a .0) (a .1 .0) (a .1 .1 .0 .now) r (e .1 .1 .0 .now)
   pub of-line26 : (κs : _) (a : _) (r : _) (e : _) → line26.Post κs a r e → Line26 (a .0) (a .1 .0) (a .1 .1 .0 .now) r (e .1 .1 .0 .now)
   pub of-shape : (κs : _) (a : _) (r : _) (e : _) → shape.Post κs a r e → Shapes (a .0) (a .1 .0) r
@@ -64,6 +68,7 @@ pub record StepsPromised : Type 1 where
 -- what each call asks for: nothing, of any inputs
 pub record AsksNothing : Type 1 where
   pub number-asks : (κs : _) (a : _) → number.Pre κs a
+  pub usual-asks : (κs : _) (a : _) → default.Pre κs a
   pub line6-asks : (κs : _) (a : _) → line6.Pre κs a
   pub line26-asks : (κs : _) (a : _) → line26.Pre κs a
   pub shape-asks : (κs : _) (a : _) → shape.Pre κs a

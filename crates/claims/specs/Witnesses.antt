@@ -16,7 +16,7 @@ use Rattle.cells.specs.declared.Verdict.the-variants as Verdict
 use Rattle.cells.specs.declared.Verdict.the-variants.{Fine}
 use Rattle.cells.specs.Refusals.{NumberOf}
 use Rattle.cells.specs.declared.Manner.{Manner}
-use Rattle.cells.specs.Manners.{usual}
+use Rattle.cells.specs.Manners.{usual, tested-start}
 use Rattle.cells.specs.Touching.{Touches}
 use Rattle.lines.specs.Steps.{Steps}
 use Rattle.lines.specs.Crossings.{InOrder, LastMade, next, place}
@@ -35,7 +35,7 @@ use Rattle.walks.specs.declared.Hit.{Hit}
 use Rattle.walks.specs.declared.FirstHit.the-variants as FirstHit
 use Rattle.walks.specs.Answers.{Finds}
 use Rattle.survey.specs.declared.Lookup.the-variants as Lookup
-use Rattle.survey.specs.Survey.{Tested, quotients, look-up, LooksUp}
+use Rattle.survey.specs.Survey.{PlacedGrid, quotients, look-up, LooksUp}
 use Rattle.sight.specs.declared.Sight.the-variants as Sight
 use Rattle.sight.specs.Sight.{share-of, Sees}
 use Rattle.records.specs.declared.venues.VenueRead.the-variants as VenueRead
@@ -48,7 +48,7 @@ use Rattle.records.specs.Writing.{WritesVenue}
 use Rattle.texts.specs.Text.{decimal, Puts}
 use Rattle.oatmarten.specs.GridCalls.{FlatMarks, FlatCompletes}
 use Rattle.claims.specs.Program.{Runs, example-input, example-output}
-use Rattle.claims.specs.Example.{tested-start, counts, at, example-counts, example-cells, marked-cells}
+use Rattle.claims.specs.Example.{counts, at, example-counts, example-cells, marked-cells}
 use Rattle.claims.specs.Lists.{lowest, highest, room}
 use Rattle.claims.specs.Points.{Finite, InItsCell, cube, metres, tenths, placement, point}
 use Rattle.claims.specs.Records.{Right, RightPair, example-venue, example-pair, example-room}
@@ -114,7 +114,7 @@ pub record OfGrids : Type 0 where
   pub clear-start : solid (byte-of example-counts marked-cells (at 0 0 0)) ≡ false
 
 pub record OfPoints : Type 0 where
-  pub tested : Tested (cube 4) (placement (metres 0) (metres 1))
+  pub tested : PlacedGrid (cube 4) (placement (metres 0) (metres 1))
   pub finite : Finite (point (tenths 15) (metres 0) (tenths 39))
   pub in-its-cell : InItsCell (cube 4) (quotients (placement (metres 0) (metres 1)) (point (tenths 15) (metres 0) (tenths 39))) (at 1 0 3)
   pub looked-up : LooksUp (cube 4) (placement (metres 0) (metres 1)) (point (tenths 15) (metres 0) (tenths 39)) (Lookup.Cell (at 1 0 3))

@@ -3,7 +3,7 @@ use mathlib.Core.Path.{_≡_, refl, sym, ap, _∙_, subst}
 use mathlib.Core.Logic.{_⊎_, ⊎-elim}
 use mathlib.Core.Bool.{Bool, true, false, cond, not, _&&_}
 use mathlib.Core.List.{List}
-use Prim.Native.Nat.{ℕ, _+_, _-_, _≤_, _<_}
+use Prim.Native.Nat.{ℕ, _+_, _-_, _<_}
 use native.Mathlib.Omega.{arith}
 use lib.ListN.{length}
 use Rattle.cells.specs.declared.Manner.{Manner}
@@ -25,7 +25,7 @@ use Rattle.runs.specs.Run.{cell-left}
 use Rattle.hits.specs.declared.Begun.{Begun}
 use Rattle.hits.specs.declared.Turn.{Turn}
 use Rattle.hits.specs.declared.Reach.{Reach}
-use Rattle.hits.specs.Found.{going, TestedAt, Walking, Outcome, Crossing, PastStart, CanWalk, Walked, At26, Came, Reached}
+use Rattle.hits.specs.Found.{going, TestedAt, Walking, Outcome, PastStart, CanWalk, Walked, At26, Came, Reached}
 use Rattle.hits.proofs.Walking.{walk-starts, walk-byte, face-turn, later-tested}
 use Rattle.hits.proofs.Turns.{turn-walking, first-26}
 

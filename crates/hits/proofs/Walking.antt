@@ -16,6 +16,7 @@ use Rattle.lines.proofs.Cells.{six-is}
 use Rattle.lines.proofs.Fractions.{place-start}
 use Rattle.tripod.specs.Tripod.{NextFace}
 use Rattle.grids.specs.Grid.{byte-of, solid}
+use Rattle.grids.proofs.Any.{or-true}
 use Rattle.walks.specs.Numbers.{Rises, OnWay}
 use Rattle.walks.proofs.Testing.{later-test}
 use Rattle.walks.proofs.Progress.{on-start, on-stop, on-turn}
@@ -53,11 +54,7 @@ module _ (how : Manner) (bytes : ℕ) (k : Route) (plan : Planned bytes k) (l : 
   pub later-tested : (m : ℕ) → 0 < m → TestedAt how l k m true
   later-tested = later-test how (k .n) l (k .p) (k .q)
 
-  or-true : (b : Bool) → (b || true) ≡ true
-  or-true true = refl
-  or-true false = refl
-
-  -- it stops at a solid byte and at Q
+  -- it stops at a hit and at Q
   pub at-hit : (m r : ℕ) (s : Spot) → Walking how l k go m r s → H m ≡ true → Stops how l k go (record { spot = s; reads = r + 1 })
   at-hit m r s w h =
       let (e, v) = on-stop H N go m r (w .on) (ap (λ b. b || eqb m N) h) in

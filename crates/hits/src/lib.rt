@@ -56,7 +56,7 @@ pub struct Reach {
     pub left: u32,
 }
 
-// The one test of a cell, SCOPE W3: whether its byte is solid.
+// Whether a byte is solid.
 fn is_solid(byte: u8) -> bool
     ensures { λ r. ⌜ r ≡ solid byte ⌝ }
 {
@@ -88,7 +88,7 @@ fn walk_faces(cells: &[u8], k: Route, start: Spot, reads: u32, faces: u32) -> Tu
     }
 }
 
-// Past a cell that is not tested, over its first face, where there is one.
+// Past a cell that is not tested, over its first face, where there is one: whether a solid cell is there or not, it counts as near.
 fn past_start(k: Route, s: Spot, faces: u32, tested: bool) -> Begun
     requires { ⌜ CanCross s k ⌝ }
     ensures { λ r. ⌜ PastStart k s faces tested r ⌝ }
@@ -106,7 +106,7 @@ fn past_start(k: Route, s: Spot, faces: u32, tested: bool) -> Begun
     }
 }
 
-// The same, where the first cell is tested like every other, or not at all.
+// From cell to cell over so many faces, the first cell being tested like every other, or not at all.
 fn walk_from(cells: &[u8], k: Route, s: Spot, reads: u32, faces: u32, tested: bool) -> Turn
     requires { ⌜ Planned (length (now cells)) k × CanWalk (now cells) k tested s reads faces ⌝ }
     ensures { λ r. ⌜ Walked (now (cells .entry)) k tested s reads faces r ⌝ }
@@ -116,7 +116,7 @@ fn walk_from(cells: &[u8], k: Route, s: Spot, reads: u32, faces: u32, tested: bo
     walk_faces(cells, k, spot, reads + b.past, faces - b.past)
 }
 
-// The plain walk: the 6-line to its first solid cell, or to Q.
+// The plain walk: the 6-line to its first hit, or to Q.
 fn walk_plain(cells: &[u8], k: Route, start: Spot, how: Manner) -> Stop
     requires { ⌜ Planned (length (now cells)) k × SpotAt k (at 0 0 0) start ⌝ }
     ensures { λ r. ⌜ Stops how (now (cells .entry)) k (going (now (cells .entry)) k Plain) r ⌝ }
@@ -167,7 +167,7 @@ fn run_on(cells: &[u8], k: Route, h: RunRoute, long: Axis, s: Spot, reads: u32, 
     }
 }
 
-// From a near cell of the 26-line to the next cell of it, over the faces between them.
+// From a cell of the 26-line that is not clear to the next cell of it, over the faces between them; it is tested, or it is a P that is not.
 fn near_turn(
     cells: &[u8],
     k: Route,
@@ -239,7 +239,7 @@ fn set_out(cells: &[u8], k: Route, long: Axis, start: Spot, left: u32, how: Mann
     }
 }
 
-// The adaptive walk: from cell to cell of the 26-line, with long steps where the byte is 0, to the first solid cell or to Q.
+// The adaptive walk: from cell to cell of the 26-line, with long steps where the byte is 0, to the first hit or to Q.
 pub fn walk_adaptive(cells: &[u8], k: Route, start: Spot, how: Manner) -> Stop
     requires { ⌜ Planned (length (now cells)) k × SpotAt k (at 0 0 0) start ⌝ }
     ensures { λ r. ⌜ Stops how (now (cells .entry)) k (going (now (cells .entry)) k Adaptive) r ⌝ }
@@ -325,7 +325,7 @@ fn adaptive_answer(cells: &[u8], k: Route, how: Manner) -> FirstHit
     answer_of(cells, k, stop, how)
 }
 
-// The first solid cell of the plain walk from p to q.
+// The first hit of the plain walk from p to q.
 pub fn first_plain(n: Counts, cells: &[u8], p: Cell, q: Cell, how: Manner) -> FirstHit
     ensures { λ r. ⌜ Finds Plain how n (now (cells .entry)) p q r ⌝ }
 {
@@ -335,7 +335,7 @@ pub fn first_plain(n: Counts, cells: &[u8], p: Cell, q: Cell, how: Manner) -> Fi
     }
 }
 
-// The first solid cell of the adaptive walk from p to q.
+// The first hit of the adaptive walk from p to q.
 pub fn first_adaptive(n: Counts, cells: &[u8], p: Cell, q: Cell, how: Manner) -> FirstHit
     ensures { λ r. ⌜ Finds Adaptive how n (now (cells .entry)) p q r ⌝ }
 {

@@ -79,7 +79,7 @@ fn flat_hit(h: FirstHit) -> OatHit
     }
 }
 
-// The first solid cell of the plain walk.
+// The first hit of the plain walk.
 #[no_mangle]
 pub extern "C" fn oat_plain(
     n: OatCounts,
@@ -96,7 +96,7 @@ pub extern "C" fn oat_plain(
     flat_hit(hits::first_plain(grid, cells, from, to, manner(how)))
 }
 
-// The first solid cell of the adaptive walk.
+// The first hit of the adaptive walk.
 #[no_mangle]
 pub extern "C" fn oat_adaptive(
     n: OatCounts,

@@ -7,12 +7,11 @@ use lib.Dec.{ltb, eqb}
 use lib.ListN.{length, take, drop}
 use Rattle.cells.specs.declared.Cell.{Cell}
 use Rattle.cells.specs.declared.Counts.{Counts}
-use Rattle.cells.specs.declared.Manner.{Manner}
 use Rattle.cells.specs.declared.Refusal.{Refusal}
 use Rattle.cells.specs.declared.Refusal.the-variants.{Room, Record}
-use Rattle.cells.specs.declared.Start.the-variants.{Tested}
 use Rattle.cells.specs.declared.Verdict.{Verdict}
 use Rattle.cells.specs.declared.Verdict.the-variants.{Fine, Refused}
+use Rattle.cells.specs.Manners.{tested-start}
 use Rattle.cells.specs.Refusals.{told}
 use Rattle.walks.specs.declared.FirstHit.{FirstHit}
 use Rattle.walks.specs.declared.FirstHit.the-variants as FirstHit
@@ -87,14 +86,10 @@ plain-letter = 80
 abbrev pub adaptive-letter : ℕ
 adaptive-letter = 65
 
--- SCOPE T16: how the program's walks are made: the start is tested
-abbrev pub program-manner : Manner
-program-manner = record { start = Tested }
-
--- SCOPE T8: the letter of each walk and what it answers, in the order of the lines
+-- SCOPE T8, T16: the letter of each walk and what it answers, in the order of the lines; the start is tested
 abbrev pub answers : Counts → List ℕ → Cell → Cell → List (ℕ × FirstHit)
 answers n cells p q =
-    (plain-letter, first-hit Plain program-manner n cells p q) ∷ (adaptive-letter, first-hit Adaptive program-manner n cells p q) ∷ []
+    (plain-letter, first-hit Plain tested-start n cells p q) ∷ (adaptive-letter, first-hit Adaptive tested-start n cells p q) ∷ []
 
 -- a line for each
 abbrev pub walk-lines : (k : ℕ) → List (ℕ × FirstHit) → List ℕ

@@ -124,7 +124,7 @@ fn walk_line(text: &mut [u8], at: usize, k: u64, letter: u8, a: FirstHit) -> usi
     }
 }
 
-// How the program's walks are made: the start is tested, so that what it writes stays as it always was.
+// How the program's walks are made: the start is tested.
 const MANNER: Manner = Manner {
     start: Start::Tested,
 };

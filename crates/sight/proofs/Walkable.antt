@@ -19,7 +19,7 @@ use Rattle.grids.proofs.Inside.{walk-fine}
 use Rattle.survey.specs.declared.Lookup.the-variants.{Cell}
 use Rattle.survey.specs.declared.Placement.{Placement}
 use Rattle.survey.specs.declared.Point.{Point}
-use Rattle.survey.specs.Survey.{Tested, quotients, cell-at, look-up}
+use Rattle.survey.specs.Survey.{PlacedGrid, quotients, cell-at, look-up}
 use Rattle.survey.specs.Search.{AllInside}
 use Rattle.survey.proofs.Numbers.{number-in}
 use Rattle.survey.proofs.Lookups.{look-given}
@@ -36,10 +36,10 @@ inside-grid n q h = record { inside = on-axis }
     on-axis Y = number-on _ (n .ny) (number-in (n .ny) (q .y) (h .y) .0)
     on-axis Z = number-on _ (n .nz) (number-in (n .nz) (q .z) (h .z) .0)
 
-looked-in : (e : End) (n : Counts) (at : Placement) (p : Point) (c : cell.Cell) → Tested n at → look-up e n at p ≡ Cell c → InGrid n c
+looked-in : (e : End) (n : Counts) (at : Placement) (p : Point) (c : cell.Cell) → PlacedGrid n at → look-up e n at p ≡ Cell c → InGrid n c
 looked-in e n at p c tested found = let (inside, is) = look-given e n at p c tested found in subst (InGrid n) (sym is) (inside-grid n (quotients at p) inside)
 
-pub walkable : (n : Counts) (bytes : ℕ) (at : Placement) (camera ball : Point) (c b : cell.Cell) → shape n bytes ≡ Fine → Tested n at →
+pub walkable : (n : Counts) (bytes : ℕ) (at : Placement) (camera ball : Point) (c b : cell.Cell) → shape n bytes ≡ Fine → PlacedGrid n at →
     look-up P n at camera ≡ Cell c → look-up Q n at ball ≡ Cell b → walk-check n bytes c b ≡ Fine
 walkable n bytes at camera ball c b shaped tested from to =
     walk-fine n bytes c b (record { shaped = shaped; p-in = looked-in P n at camera c tested from; q-in = looked-in Q n at ball b tested to })

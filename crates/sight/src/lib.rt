@@ -7,7 +7,7 @@ ghost use Rattle.grids.specs.Grid.{shape};
 ghost use Rattle.walks.specs.declared.Walker.the-variants.{Adaptive};
 ghost use Rattle.grids.specs.Inside.{walk-check};
 ghost use Rattle.walks.specs.Answers.{Finds};
-ghost use Rattle.survey.specs.Survey.{Tested, placement-check};
+ghost use Rattle.survey.specs.Survey.{PlacedGrid, placement-check};
 ghost use Rattle.sight.specs.Sight.{share-of, sight-of, looked, Sees};
 use cells::Axis;
 use cells::Cell;
@@ -80,7 +80,7 @@ fn walked(n: Counts, cells: &[u8], p: Cell, q: Cell, how: Manner) -> FirstHit
 
 // Where shape and placement passed their tests: the camera's refusal first, then the ball's.
 fn look(n: Counts, cells: &[u8], at: Placement, camera: Point, ball: Point, how: Manner) -> Sight
-    requires { ⌜ (shape n (length (now cells)) ≡ Fine) × Tested n at ⌝ }
+    requires { ⌜ (shape n (length (now cells)) ≡ Fine) × PlacedGrid n at ⌝ }
     ensures { λ r. ⌜ r ≡ looked how n (now (cells .entry)) at camera ball ⌝ }
 {
     let from = survey::look_up(End::P, n, at, camera);

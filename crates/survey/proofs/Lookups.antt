@@ -16,7 +16,7 @@ use Rattle.survey.specs.declared.Lookup.the-variants.{Cell, Refused}
 use Rattle.survey.specs.declared.Placement.{Placement}
 use Rattle.survey.specs.declared.Point.{Point}
 use Rattle.survey.specs.Search.{AllInside}
-use Rattle.survey.specs.Survey.{count-check, placement-check, Tested, quotients, point-check, cell-at, look-up, cell-of}
+use Rattle.survey.specs.Survey.{count-check, placement-check, PlacedGrid, quotients, point-check, cell-at, look-up, cell-of}
 use Rattle.cells.proofs.Checks.{each-fine, by-fine}
 use Rattle.survey.proofs.Survey.{point-inside}
 
@@ -28,7 +28,7 @@ module _ (e : End) (n : Counts) (at : Placement) (p : Point) where
   verdict-is : {q : Point} {v w : Verdict} → q ≡ quotients at p → v ≡ point-check e n p q → v ≡ w → point-check e n p (quotients at p) ≡ w
   verdict-is hq hv h = ap (point-check e n p) (sym hq) ∙ sym hv ∙ h
 
-  pub lookup-inside : {q : Point} {v : Verdict} → Tested n at → q ≡ quotients at p → v ≡ point-check e n p q → v ≡ Verdict.Fine → AllInside n q
+  pub lookup-inside : {q : Point} {v : Verdict} → PlacedGrid n at → q ≡ quotients at p → v ≡ point-check e n p q → v ≡ Verdict.Fine → AllInside n q
   lookup-inside t hq hv h = subst (AllInside n) (sym hq) (point-inside e n at p t (verdict-is hq hv h))
 
   pub lookup-refused : {q : Point} {v : Verdict} {r : Refusal} → q ≡ quotients at p → v ≡ point-check e n p q → v ≡ Verdict.Refused r →
@@ -49,7 +49,7 @@ module _ (n : Counts) (at : Placement) (p : Point) where
   tests-are : {u v w x : Verdict} → u ≡ count-check n → v ≡ placement-check at → w ≡ (u then v) → w ≡ x → (count-check n then placement-check at) ≡ x
   tests-are hu hv hw h = ap₂ (λ u v. u then v) (sym hu) (sym hv) ∙ sym hw ∙ h
 
-  pub cell-tested : {u v w : Verdict} → u ≡ count-check n → v ≡ placement-check at → w ≡ (u then v) → w ≡ Verdict.Fine → Tested n at
+  pub cell-tested : {u v w : Verdict} → u ≡ count-check n → v ≡ placement-check at → w ≡ (u then v) → w ≡ Verdict.Fine → PlacedGrid n at
   cell-tested hu hv hw h =
       let (counts, placed) = each-fine _ _ (tests-are hu hv hw h) in
       record { counts = counts; placed = placed }
@@ -69,7 +69,7 @@ no-refusal : (c : cell.Cell) (r : Refusal) → ¬ (Refused r ≡ Cell c)
 no-refusal c r h = let z : _≡_ {A = ℕ} 0 1 = cc in omega arith
 
 -- the quotients lie inside, and the cell is where they lie
-pub look-given : (e : End) (n : Counts) (at : Placement) (p : Point) (c : cell.Cell) → Tested n at → look-up e n at p ≡ Cell c →
+pub look-given : (e : End) (n : Counts) (at : Placement) (p : Point) (c : cell.Cell) → PlacedGrid n at → look-up e n at p ≡ Cell c →
     AllInside n (quotients at p) × (c ≡ cell-at n (quotients at p))
 look-given e n at p c tested h =
     let (fine, same) = by-fine Refused _ _ (no-refusal c) (sym (look-up-is e n at p) ∙ h) in
@@ -77,13 +77,13 @@ look-given e n at p c tested h =
 
 -- all tests are passed too
 pub cell-given : (n : Counts) (at : Placement) (p : Point) (c : cell.Cell) → cell-of n at p ≡ Cell c →
-    Tested n at × AllInside n (quotients at p) × (c ≡ cell-at n (quotients at p))
+    PlacedGrid n at × AllInside n (quotients at p) × (c ≡ cell-at n (quotients at p))
 cell-given n at p c h =
     let (tests, looked) = by-fine Refused _ _ (no-refusal c) (sym (cell-of-is n at p) ∙ h) in
-    let tested : Tested n at = cell-tested n at p refl refl refl tests in
+    let tested : PlacedGrid n at = cell-tested n at p refl refl refl tests in
     let (inside, same) = look-given P n at p c tested looked in
     (tested, inside, same)
 
-pub cell-found : (n : Counts) (at : Placement) (p : Point) → Tested n at → point-check P n p (quotients at p) ≡ Verdict.Fine →
+pub cell-found : (n : Counts) (at : Placement) (p : Point) → PlacedGrid n at → point-check P n p (quotients at p) ≡ Verdict.Fine →
     cell-of n at p ≡ Cell (cell-at n (quotients at p))
 cell-found n at p t h = cell-looked-up n at p (sym (t .counts)) (sym (t .placed)) refl refl (sym (lookup-found P n at p refl refl h refl))

@@ -21,7 +21,7 @@ use Rattle.survey.specs.declared.Placement.{Placement}
 use Rattle.survey.specs.declared.Point.{Point}
 use Rattle.survey.specs.Quotient.{as-f64, quotient, outside}
 use Rattle.survey.specs.Search.{Inside, AllInside}
-use Rattle.survey.specs.Survey.{placement-check, Tested, quotients, value-check, point-check}
+use Rattle.survey.specs.Survey.{placement-check, PlacedGrid, quotients, value-check, point-check}
 use Rattle.survey.proofs.Tests.{neither}
 use Rattle.survey.proofs.Finite.{quotient-no-nan}
 use Rattle.survey.proofs.Whole.{at-least}
@@ -58,7 +58,8 @@ value-inside e a count value origin edge range o f up h =
     let inside = passed _ _ within in
     record { some = range .some; small = range .most; from = at-least _ 0 (omega arith) number (not-outside count _ inside .0); within = inside }
 
-pub point-inside : (e : End) (n : Counts) (at : Placement) (p : Point) → Tested n at → point-check e n p (quotients at p) ≡ Fine → AllInside n (quotients at p)
+pub point-inside : (e : End) (n : Counts) (at : Placement) (p : Point) → PlacedGrid n at → point-check e n p (quotients at p) ≡ Fine →
+    AllInside n (quotients at p)
 unfolding point-check
 point-inside e n at p t h =
     let range = counted n (t .counts) in

@@ -38,7 +38,7 @@ placement-check at =
     refuse-when (bad-edge (at .edge)) (Refusal.Placement Edge)
 
 -- counts and placement passed their tests
-pub record Tested (n : Counts) (at : Placement) : Type 0 where
+pub record PlacedGrid (n : Counts) (at : Placement) : Type 0 where
   pub counts : count-check n ≡ Fine
   pub placed : placement-check at ≡ Fine
 

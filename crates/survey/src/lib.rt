@@ -7,7 +7,7 @@ ghost use lib.Ieee.Scale.{finite};
 ghost use Rattle.cells.specs.Checks.{refuse-when, _then_};
 ghost use Rattle.survey.specs.Quotient.{as-f64, quotient, outside, cell-number};
 ghost use Rattle.survey.specs.Search.{Inside, AllInside, Closer};
-ghost use Rattle.survey.specs.Survey.{bad-edge, placement-check, Tested, quotients, value-check, point-check, cell-at, look-up, LooksUp};
+ghost use Rattle.survey.specs.Survey.{bad-edge, placement-check, PlacedGrid, quotients, value-check, point-check, cell-at, look-up, LooksUp};
 use cells::Axis;
 use cells::Cell;
 use cells::Counts;
@@ -183,7 +183,7 @@ fn cell_at(n: Counts, q: Point) -> Cell
 
 // The cell of an end's point, where counts and placement passed their tests.
 pub fn look_up(end: End, n: Counts, at: Placement, point: Point) -> Lookup
-    requires { ⌜ Tested n at ⌝ }
+    requires { ⌜ PlacedGrid n at ⌝ }
     ensures { λ r. ⌜ r ≡ look-up end n at point ⌝ }
 {
     let q = quotients(at, point);

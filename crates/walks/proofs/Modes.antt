@@ -22,10 +22,10 @@ use Rattle.walks.specs.declared.Walker.{Walker}
 use Rattle.walks.specs.declared.Hit.{Hit}
 use Rattle.walks.specs.declared.FirstHit.{FirstHit}
 use Rattle.walks.specs.declared.FirstHit.the-variants as FirstHit
-use Rattle.walks.specs.Walks.{six-count}
+use Rattle.walks.specs.Walks.{six-count, hit-at}
 use Rattle.walks.specs.Answers.{entered-at, first-hit}
 use Rattle.walks.specs.Numbers.{stop, ends, visits, last-number, hits-at, step, end-of, reads-of, answer-at}
-use Rattle.walks.proofs.Testing.{no-hit, start-test, later-test, start-byte}
+use Rattle.walks.proofs.Testing.{exempt-test, no-hit, later-test, start-byte}
 use Rattle.walks.proofs.Story.{first-hit-is, end-below}
 
 module _ (n : Counts) (l : List ℕ) (p q : Cell) where
@@ -57,7 +57,7 @@ module _ (n : Counts) (l : List ℕ) (p q : Cell) where
 
   -- a start that is not tested is no hit
   pub start-exempt : (how : Manner) → is-tested (how .start) ≡ false → hits-at how n l p q 0 ≡ false
-  start-exempt how h = start-test how n l p q ∙ ap (λ t. t && solid (byte-of n l (six-cell rule-1 p q 0))) h
+  start-exempt how h = ap (hit-at how n l p) (six-start rule-1 p q) ∙ exempt-test how n l p h
 
   -- so a hit comes after it
   pub later-hit : (how : Manner) → is-tested (how .start) ≡ false → (s : ℕ) → hits-at how n l p q s ≡ true → 0 < s

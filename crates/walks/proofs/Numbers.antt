@@ -160,8 +160,10 @@ module _ (how : Manner) (n : Counts) (l : List ℕ) (p q : Cell) (next : Cell �
     where
       turn :
           (u : Bool) → stops s ≡ u → (s < last-number p q → Followed (g s) fuel) →
-          (length (F s ∷ cond u [] (walk (hit-at how n l p) next q fuel (next (F s)))) ≡ suc (cond u 0 (visits (hits-at how n l p q) (last-number p q) g fuel (g s)))) ×
-          (last-of (F s) (cond u [] (walk (hit-at how n l p) next q fuel (next (F s)))) ≡ F (cond u s (ends (hits-at how n l p q) (last-number p q) g fuel (g s))))
+          (length (F s ∷ cond u [] (walk (hit-at how n l p) next q fuel (next (F s)))) ≡ suc
+          (cond u 0 (visits (hits-at how n l p q) (last-number p q) g fuel (g s)))) ×
+          (last-of (F s) (cond u [] (walk (hit-at how n l p) next q fuel (next (F s)))) ≡ F
+          (cond u s (ends (hits-at how n l p q) (last-number p q) g fuel (g s))))
       turn true h ih = (refl, refl)
       turn false h ih =
           let ne : s ≢ last-number p q = not-stopped (hits-at how n l p q s) s (last-number p q) h .1 in
@@ -178,7 +180,8 @@ module _ (how : Manner) (n : Counts) (l : List ℕ) (p q : Cell) (next : Cell �
   pub whole-long : length (walk (hit-at how n l p) next q (six-count p q) p) ≡ visits (hits-at how n l p q) (last-number p q) g (six-count p q) 0
   whole-long = ap (λ w. length (walk (hit-at how n l p) next q (six-count p q) w)) (sym (six-start rule-1 p q)) ∙ whole .long
 
-  pub whole-last : (c : Cell) → last-of c (walk (hit-at how n l p) next q (six-count p q) p) ≡ F (ends (hits-at how n l p q) (last-number p q) g (six-count p q) 0)
+  pub whole-last : (c : Cell) → last-of c (walk (hit-at how n l p) next q (six-count p q) p) ≡ F
+      (ends (hits-at how n l p q) (last-number p q) g (six-count p q) 0)
   whole-last c = ap (λ w. last-of c (walk (hit-at how n l p) next q (six-count p q) w)) (sym (six-start rule-1 p q)) ∙ whole .last c
 
 -- each walk goes by its own step from number to number: the number where it ends, and its reads

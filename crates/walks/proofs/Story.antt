@@ -55,13 +55,14 @@ module _ (how : Manner) (n : Counts) (l : List ℕ) (p q : Cell) where
   pub end-below : (k : Walker) → end-of how n l p q k ≤ N
   end-below k = walk-ended k .most
 
-  pub first-hit-is : (k : Walker) → first-hit k how n l p q ≡ by-verdict FirstHit.Refused (answer-at how n l p q (end-of how n l p q k) (reads-of how n l p q k))
+  pub first-hit-is : (k : Walker) → first-hit k how n l p q ≡ by-verdict FirstHit.Refused
+      (answer-at how n l p q (end-of how n l p q k) (reads-of how n l p q k))
       (walk-check n (length l) p q)
   unfolding first-hit
   first-hit-is k = ap (λ a. by-verdict FirstHit.Refused a (walk-check n (length l) p q))
       (answer-is (walk-of k how n l p q) _ _ (end-below k) (walk-last how n l p q k p) (walk-length how n l p q k))
 
-  -- ---- no walk runs out: its last cell is solid, or Q
+  -- ---- no walk runs out: its last cell is a hit, or Q
 
   pub walk-stops : (k : Walker) → (hit-at how n l p (last-of p (walk-of k how n l p q)) ≡ true) ⊎ (last-of p (walk-of k how n l p q) ≡ q)
   walk-stops k = rw (walk-last how n l p q k p) (at-end (end-of how n l p q k) (walk-ended k .stops))
@@ -80,13 +81,13 @@ module _ (how : Manner) (n : Counts) (l : List ℕ) (p q : Cell) where
   -- ---- where no clear cell touches a solid one by face or edge
 
   pub ends-alike : (k : ℕ) → 2 ≤ k → InGrid n p → InGrid n q → NoClearTouches k n l → end-of how n l p q Adaptive ≡ end-of how n l p q Plain
-  ends-alike k two hp hq safe = same-end (hits-at how n l p q) N (go n l p q) (go-rises n l p q) nothing-solid
+  ends-alike k two hp hq safe = same-end (hits-at how n l p q) N (go n l p q) (go-rises n l p q) none-skipped
     where
       wider : {c d : Cell} → Touches 2 c d → Touches k c d
       wider t = record { by-one = t .by-one; differing = t .differing; within = omega (arith, t .within) }
 
-      nothing-solid : (s t : ℕ) → s < N → s < t → t < go n l p q s → hits-at how n l p q t ≡ false
-      nothing-solid s t lt lo hi = by (hits-at how n l p q t) refl
+      none-skipped : (s t : ℕ) → s < N → s < t → t < go n l p q s → hits-at how n l p q t ≡ false
+      none-skipped s t lt lo hi = by (hits-at how n l p q t) refl
         where
           by : (b : Bool) → hits-at how n l p q t ≡ b → hits-at how n l p q t ≡ false
           by false e = e
@@ -107,7 +108,7 @@ module _ (how : Manner) (n : Counts) (l : List ℕ) (p q : Cell) where
       ⊎-elim (λ hit. absurd (let z : _≡_ {A = ℕ} 0 1 = ap (λ b. cond b 1 0) (sym h ∙ hit) in omega arith)) (λ last. last)
       (stopped (hits-at how n l p q e) e N s)
 
-  -- the plain walk then passed every cell, none of them solid
+  -- the plain walk then passed every cell, none of them a hit
   pub plain-clear : hits-at how n l p q (end-of how n l p q Plain) ≡ false → (s : ℕ) → s ≤ N → hits-at how n l p q s ≡ false
   plain-clear h s le =
       let e = ends-at-q (end-of how n l p q Plain) (walk-ended Plain .stops) h in
@@ -118,7 +119,11 @@ module _ (how : Manner) (n : Counts) (l : List ℕ) (p q : Cell) where
 
   pub plain-clear-reads : hits-at how n l p q (end-of how n l p q Plain) ≡ false → reads-of how n l p q Plain ≡ N + 1
   plain-clear-reads h =
-      omega (arith, ends-at-q (end-of how n l p q Plain) (walk-ended Plain .stops) h, visits-all (hits-at how n l p q) N (six-count p q) 0 (omega arith) (omega arith))
+      omega (
+        arith,
+        ends-at-q (end-of how n l p q Plain) (walk-ended Plain .stops) h,
+        visits-all (hits-at how n l p q) N (six-count p q) 0 (omega arith) (omega arith),
+      )
 
   pub adaptive-clear-most : hits-at how n l p q (end-of how n l p q Adaptive) ≡ false → reads-of how n l p q Adaptive ≤ N + 1
   adaptive-clear-most h = omega (arith, ends-at-q (end-of how n l p q Adaptive) (walk-ended Adaptive .stops) h, walk-ended Adaptive .few)

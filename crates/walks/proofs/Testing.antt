@@ -15,6 +15,7 @@ use Rattle.lines.specs.Preference.{rule-1}
 use Rattle.lines.specs.Lines.{six-cell}
 use Rattle.lines.proofs.Cells.{six-start, six-different}
 use Rattle.grids.specs.Grid.{byte-of, solid}
+use Rattle.grids.proofs.Any.{or-true}
 use Rattle.walks.specs.Walks.{is-cell, hit-at}
 use Rattle.walks.specs.Numbers.{hits-at}
 use Rattle.walks.proofs.Find.{is-cell-self, other-is-not}
@@ -33,11 +34,7 @@ module _ (how : Manner) (n : Counts) (l : List ℕ) (p : Cell) where
 
   -- and so it is away from P
   pub other-test : (w : Cell) → (w ≡ p → ⊥) → hit-at how n l p w ≡ solid (byte-of n l w)
-  other-test w far = counts (solid (byte-of n l w)) _ (ap (λ b. is-tested (how .start) || not b) (other-is-not w p far) ∙ either (is-tested (how .start)))
-    where
-      either : (t : Bool) → (t || true) ≡ true
-      either true = refl
-      either false = refl
+  other-test w far = counts (solid (byte-of n l w)) _ (ap (λ b. is-tested (how .start) || not b) (other-is-not w p far) ∙ or-true (is-tested (how .start)))
 
   -- a start that is not tested is no hit
   pub exempt-test : is-tested (how .start) ≡ false → hit-at how n l p p ≡ false

@@ -16,7 +16,7 @@ pub struct Place {
     pub face: Face,
 }
 
-// The first solid cell of a walk.
+// The solid cell where a walk ended.
 pub struct Hit {
     pub cell: Cell,
     pub code: u8,

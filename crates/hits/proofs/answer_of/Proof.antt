@@ -1,4 +1,5 @@
--- `hits::answer_of` meets its contract: clear where the byte is not solid, else a hit with the cell of that byte. Assumes nothing.
+-- `hits::answer_of` meets its contract: clear where the byte is not solid, or it is that of a P that is not tested; else a hit with the cell of that
+-- byte. Assumes nothing.
 use mathlib.Core.Path.{_≡_, refl, sym, ap, _∙_}
 use mathlib.Core.Bool.{Bool, true, false, not, _&&_, _||_}
 use Prim.Native.Nat.{_<_}
@@ -94,7 +95,11 @@ returns-2 : tie.Need-returns-2
 unfolding answer-from
 returns-2 c =
     let p = c .before in
-    rw (solid-is (p .before .before .before .before .before .before) ∙ not-false _ (p .before .before .before .before .before .if1 .left), passed-is p, c .if2 .taken)
+    rw (
+      solid-is (p .before .before .before .before .before .before) ∙ not-false _ (p .before .before .before .before .before .if1 .left),
+      passed-is p,
+      c .if2 .taken,
+    )
 
 place-after-requires : tie.Need-place-after-requires
 place-after-requires c κs = search needs

@@ -38,7 +38,8 @@ returns-2 : tie.Need-returns-2
 returns-2 c =
     let r = c .before in
     let a = r .before .before .before .before .before .args in
-    found-finds Adaptive (a .how) (a .n) (a .cells .now) (a .p) (a .q) (r .route-of .result) (fine (r .before)) (r .route-of .ensures) (c .adaptive-answer .ensures)
+    found-finds Adaptive (a .how) (a .n) (a .cells .now) (a .p) (a .q) (r .route-of .result) (fine (r .before)) (r .route-of .ensures)
+    (c .adaptive-answer .ensures)
 
 pub first-adaptive-spec : {M : Type 1} → statement M
 first-adaptive-spec =

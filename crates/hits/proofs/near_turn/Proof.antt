@@ -36,7 +36,8 @@ walk-from-requires c κs =
             next = going l (s .args .k) Adaptive;
             from = _;
             crossing =
-                near-faces (g .how) _ (s .args .k) (g .plan) l (s .args .tested) (s .args .left) (s .args .s) (s .args .reads) (g .at) _ (moves (c .before)) near;
+                near-faces (g .how) _ (s .args .k) (g .plan) l (s .args .tested) (s .args .left) (s .args .s) (s .args .reads) (g .at) _
+                (moves (c .before)) near;
           }),
     )
 

@@ -60,7 +60,8 @@ came c =
 here : (c : tie.Then2 Inv-loop μ-loop) →
     let a = c .before .before in
     let g = a .before .before .before .before .before .before .before .before .args in
-    (how : Manner) → Came how (g .cells .now) (g .k) (a .loop .t) → At26 how (g .cells .now) (g .k) true (a .loop .t .spot) (a .loop .t .reads) (a .loop .t .left)
+    (how : Manner) → Came how (g .cells .now) (g .k) (a .loop .t) →
+    At26 how (g .cells .now) (g .k) true (a .loop .t .spot) (a .loop .t .reads) (a .loop .t .left)
 here c how came =
     let a = c .before .before in
     let g = a .before .before .before .before .before .before .before .before .args in

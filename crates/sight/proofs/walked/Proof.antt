@@ -22,7 +22,8 @@ walk-adaptive-requires c κs = (planned (c .before), c .first-spot .ensures)
 answer-of-requires : tie.Need-answer-of-requires
 answer-of-requires c κs =
     let plan = planned (c .before .before) in
-    (plan, stop-byte Adaptive (c .before .before .before .before .args .how) (c .before .before .before .before .args .cells .now) _ plan _ (c .walk-adaptive .ensures))
+    let a = c .before .before .before .before .args in
+    (plan, stop-byte Adaptive (a .how) (a .cells .now) _ plan _ (c .walk-adaptive .ensures))
 
 returns : tie.Need-returns
 returns c =
