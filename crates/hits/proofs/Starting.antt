@@ -132,18 +132,18 @@ module _ (how : Manner) (l : List ℕ) (k : Route) (plan : Planned (length l) k)
   byte-here = ap solid (walk-byte how (length l) k plan l (going l k Adaptive) 0 start
       (walk-starts how (length l) k plan l (going l k Adaptive) start first .spot))
 
-  -- where P is exempt it is not tested, else it is
-  abbrev exempt : Bool
-  exempt = not (is-tested (how .start)) && solid (byte-of-spot l start)
+  -- where it passes a solid P, P is not tested; else it is
+  abbrev solid-passed : Bool
+  solid-passed = not (is-tested (how .start)) && solid (byte-of-spot l start)
 
-  p-test : exempt ≡ false → TestedAt how l k 0 true
+  p-test : solid-passed ≡ false → TestedAt how l k 0 true
   p-test e = start-test how (k .n) l (k .p) (k .q) ∙ by (is-tested (how .start)) _ (subst (λ b. (not (is-tested (how .start)) && b) ≡ false) byte-here e)
     where
       by : (t b : Bool) → (not t && b) ≡ false → (t && b) ≡ b
       by true b e = refl
       by false b e = sym e
 
-  p-untested : exempt ≡ true → TestedAt how l k 0 false
+  p-untested : solid-passed ≡ true → TestedAt how l k 0 false
   p-untested e = start-test how (k .n) l (k .p) (k .q) ∙ by (is-tested (how .start)) _ _ e
     where
       by : (t b c : Bool) → (not t && b) ≡ true → (t && c) ≡ false
@@ -151,7 +151,7 @@ module _ (how : Manner) (l : List ℕ) (k : Route) (plan : Planned (length l) k)
       by false b c e = refl
 
   -- it is then not clear
-  pub not-clear : exempt ≡ true → byte-of-spot l start ≡ 0 → ⊥
+  pub not-clear : solid-passed ≡ true → byte-of-spot l start ≡ 0 → ⊥
   not-clear e zero =
       let (not-tested, is-solid) = and-both (not (is-tested (how .start))) (solid (byte-of-spot l start)) e in
       let z : _≡_ {A = ℕ} 0 1 = ap (λ b. cond b 1 0) (sym (ap solid zero) ∙ is-solid) in
@@ -159,7 +159,7 @@ module _ (how : Manner) (l : List ℕ) (k : Route) (plan : Planned (length l) k)
 
   module _ (left : ℕ) (all : left ≡ longest (differences (k .p) (k .q))) where
     -- as from any other cell
-    pub from-p : (0 < left → exempt ≡ false) → Came how l k (record { spot = start; reads = 0; hit = false; left = left })
+    pub from-p : (0 < left → solid-passed ≡ false) → Came how l k (record { spot = start; reads = 0; hit = false; left = left })
     from-p e =
         record {
           most = omega arith;
@@ -168,8 +168,8 @@ module _ (how : Manner) (l : List ℕ) (k : Route) (plan : Planned (length l) k)
         }
 
     -- or over the faces, untested
-    pub exempt-26 : 0 < left → exempt ≡ true → At26 how l k false start 0 left
-    exempt-26 some e =
+    pub passed-26 : 0 < left → solid-passed ≡ true → At26 how l k false start 0 left
+    passed-26 some e =
         record {
           some = some;
           most = omega arith;

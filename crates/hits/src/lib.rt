@@ -88,7 +88,7 @@ fn walk_faces(cells: &[u8], k: Route, start: Spot, reads: u32, faces: u32) -> Tu
     }
 }
 
-// Past a cell that is not tested, over its first face, where there is one: whether a solid cell is there or not, it counts as near.
+// Past a cell that is not tested: over its first face, where there is one, whatever its byte is.
 fn past_start(k: Route, s: Spot, faces: u32, tested: bool) -> Begun
     requires { ⌜ CanCross s k ⌝ }
     ensures { λ r. ⌜ PastStart k s faces tested r ⌝ }
@@ -210,8 +210,8 @@ fn next_26(cells: &[u8], k: Route, h: RunRoute, long: Axis, s: Spot, reads: u32,
     near_turn(cells, k, long, s, reads, left, true)
 }
 
-// Whether P is passed without a test: it is solid, and the start is not tested.
-fn is_exempt(cells: &[u8], s: Spot, how: Manner) -> bool
+// Whether a walk passes a solid P: the start is not tested, and the byte there is solid.
+fn passes_solid(cells: &[u8], s: Spot, how: Manner) -> bool
     requires { ⌜ HasByte (length (now cells)) (s .at) ⌝ }
     ensures { λ r. ⌜ r ≡ (not (is-tested (how .start)) && solid (byte-of-spot (now (cells .entry)) s)) ⌝ }
 {
@@ -221,13 +221,13 @@ fn is_exempt(cells: &[u8], s: Spot, how: Manner) -> bool
     is_solid(routes::byte_at(cells, s))
 }
 
-// How the adaptive walk sets out: from P like from any other cell; but over the faces, and untested, where P is exempt.
+// How the adaptive walk sets out: from P like from any other cell; but where it passes a solid P, over the faces to the next cell of the 26-line.
 fn set_out(cells: &[u8], k: Route, long: Axis, start: Spot, left: u32, how: Manner) -> Reach
     requires { ⌜ Planned (length (now cells)) k × SpotAt k (at 0 0 0) start × (left ≡ longest (steps (k .d))) × (steps (k .d) long ≡ left) ⌝ }
     ensures { λ r. ⌜ Came how (now (cells .entry)) k r ⌝ }
 {
     if 0 < left {
-        if is_exempt(cells, start, how) {
+        if passes_solid(cells, start, how) {
             return near_turn(cells, k, long, start, 0, left, false);
         }
     }

@@ -1,10 +1,10 @@
--- `hits::set_out` meets its contract: where P is exempt it is left over its faces, untested; else the walk begins at P. Assumes nothing.
+-- `hits::set_out` meets its contract: where it passes a solid P, this is left over its faces; else the walk begins at P. Assumes nothing.
 use mathlib.Core.Path.{_≡_, sym, ap, _∙_}
 use mathlib.Core.Bool.{false}
 use native.Mathlib.Omega.{arith}
 use Rattle.lines.specs.Lines.{differences, longest}
 use Rattle.hits.specs.Found.{At26}
-use Rattle.hits.proofs.Starting.{p-byte, not-clear, from-p, exempt-26, turn-came}
+use Rattle.hits.proofs.Starting.{p-byte, not-clear, from-p, passed-26, turn-came}
 use Rattle.hits.proofs.set_out.Statement.{statement}
 use Rattle.hits.proofs.set_out.Tie as tie
 
@@ -12,25 +12,25 @@ use Rattle.hits.proofs.set_out.Tie as tie
 all : (c : tie.Start) → c .args .left ≡ longest (differences (c .args .k .p) (c .args .k .q))
 all c = c .pre .2 ∙ ap longest (c .pre .0 .is)
 
-is-exempt-requires : tie.Need-is-exempt-requires
-is-exempt-requires c κs =
+passes-solid-requires : tie.Need-passes-solid-requires
+passes-solid-requires c κs =
     let s = c .before .before in
     p-byte (s .args .how) (s .args .cells .now) (s .args .k) (s .pre .0) (s .args .start) (s .pre .1)
 
--- where P is exempt
+-- where it passes a solid P
 here : (c : tie.Then2) → let a = c .before .before .before .before .args in At26 (a .how) (a .cells .now) (a .k) false (a .start) 0 (a .left)
 here c =
     let s = c .before .before .before .before in
     let a = s .args in
-    exempt-26 (a .how) (a .cells .now) (a .k) (s .pre .0) (a .start) (s .pre .1) (a .left) (all s) (c .before .before .if1 .taken)
-    (sym (c .before .is-exempt .ensures) ∙ c .if2 .taken)
+    passed-26 (a .how) (a .cells .now) (a .k) (s .pre .0) (a .start) (s .pre .1) (a .left) (all s) (c .before .before .if1 .taken)
+    (sym (c .before .passes-solid .ensures) ∙ c .if2 .taken)
 
 near-turn-requires : tie.Need-near-turn-requires
 near-turn-requires c κs =
     let s = c .before .before .before .before in
     let a = s .args in (
       record { plan = s .pre .0; long = s .pre .3 ∙ s .pre .2; how = a .how; at = here c },
-      not-clear (a .how) (a .cells .now) (a .k) (s .pre .0) (a .start) (s .pre .1) (sym (c .before .is-exempt .ensures) ∙ c .if2 .taken),
+      not-clear (a .how) (a .cells .now) (a .k) (s .pre .0) (a .start) (s .pre .1) (sym (c .before .passes-solid .ensures) ∙ c .if2 .taken),
     )
 
 returns : tie.Need-returns
@@ -44,7 +44,7 @@ returns-2 c =
     let s = c .before .before .before .before in
     let a = s .args in
     from-p (a .how) (a .cells .now) (a .k) (s .pre .0) (a .start) (s .pre .1) (a .left) (all s)
-    (λ some. sym (c .before .is-exempt .ensures) ∙ c .if2 .left)
+    (λ some. sym (c .before .passes-solid .ensures) ∙ c .if2 .left)
 
 returns-3 : tie.Need-returns-3
 returns-3 c =
@@ -54,4 +54,4 @@ returns-3 c =
 
 pub set-out-spec : {M : Type 1} → statement M
 set-out-spec =
-    tie.close (tie.spec is-exempt-requires near-turn-requires returns returns-2 returns-3)
+    tie.close (tie.spec passes-solid-requires near-turn-requires returns returns-2 returns-3)
