@@ -2,7 +2,7 @@
 use mathlib.Core.Path.{_≡_, refl, sym, ap, ap₂, _∙_, subst, fun-ext}
 use mathlib.Core.Bool.{Bool, true, false, _||_}
 use mathlib.Core.List.{List}
-use Prim.Native.Nat.{ℕ, zero, suc, _+_, _≤_, _<_}
+use Prim.Native.Nat.{ℕ, zero, suc, _+_, _-_, _≤_, _<_}
 use native.Mathlib.Omega.{arith}
 use native.Mathlib.Numerals.{add-one}
 use lib.Dec.{eqb}
@@ -79,50 +79,66 @@ module _ (how : Manner) (bytes : ℕ) (k : Route) (plan : Planned bytes k) (l : 
         on = subst (λ j. OnWay H N go j (r + 1)) (one ∙ sym (add-one m)) (goes-on rises m r (w .on) h lt);
       }
 
--- ---- a number of faces, one at a time
+-- ---- a number of faces, one at a time, some of them behind it at the start
 
--- after j of them
-pub record Following (l : List ℕ) (k : Route) (start : Spot) (reads faces j : ℕ) (s : Spot) : Type 0 where
+-- with j of them behind it
+pub record Following (l : List ℕ) (k : Route) (start : Spot) (reads past faces j : ℕ) (s : Spot) : Type 0 where
+  pub least : past ≤ j
   pub most : j ≤ faces
-  pub follows : (how : Manner) (next : ℕ → ℕ) (m : ℕ) → Crossing how l k true start reads faces next m → Walking how l k next (m + j) (reads + j) s
+  pub follows : (how : Manner) (next : ℕ → ℕ) (m : ℕ) → Crossing how l k true start (reads + past) (faces - past) next m →
+      Walking how l k next (m + (j - past)) (reads + j) s
 
-module _ (bytes : ℕ) (k : Route) (plan : Planned bytes k) (l : List ℕ) (start : Spot) (reads faces : ℕ) where
+module _ (bytes : ℕ) (k : Route) (plan : Planned bytes k) (l : List ℕ) (start : Spot) (reads past faces : ℕ) where
   -- at other numbers that are the same
-  same-walking : {how : Manner} {next : ℕ → ℕ} {s : Spot} (m m′ r r′ : ℕ) → m ≡ m′ → r ≡ r′ → Walking how l k next m r s → Walking how l k next m′ r′ s
+  same-walking : {how : Manner} {next : ℕ → ℕ} {s : Spot} (m m′ r r′ : ℕ) → m ≡ m′ → r ≡ r′ → Walking how l k next m r s →
+      Walking how l k next m′ r′ s
   same-walking {how} {next} {s} m m′ r r′ e f w = subst (λ j. Walking how l k next j r′ s) e (subst (λ j. Walking how l k next m j s) f w)
 
   -- the first cell is tested, and so is every later one
-  tested-on : (how : Manner) (next : ℕ → ℕ) (m j : ℕ) → Crossing how l k true start reads faces next m → j < faces → TestedAt how l k (m + j) true
+  tested-on : (how : Manner) (next : ℕ → ℕ) (m j : ℕ) → Crossing how l k true start (reads + past) (faces - past) next m → j < faces - past →
+      TestedAt how l k (m + j) true
   tested-on how next m zero c lt = subst (λ i. TestedAt how l k i true) (omega arith) (c .test (omega arith))
   tested-on how next m (suc j) c lt = later-tested how bytes k plan l next (m + suc j) (omega arith)
 
-  pub no-face : Following l k start reads faces 0 start
-  no-face = record { most = omega arith; follows = λ how next m c. same-walking m (m + 0) reads (reads + 0) (omega arith) (omega arith) (c .walking) }
+  pub no-face : past ≤ faces → Following l k start reads past faces past start
+  no-face few =
+      record {
+        least = omega arith;
+        most = few;
+        follows = λ how next m c. same-walking m (m + (past - past)) (reads + past) (reads + past) (omega arith) refl (c .walking);
+      }
 
   pub one-face :
-      (j : ℕ) (s : Spot) (n : Axis) → Following l k start reads faces j s → j < faces → solid (byte-of-spot l s) ≡ false → NextFace (s .e) n →
-      Following l k start reads faces (j + 1) (crossed-spot k n s)
+      (j : ℕ) (s : Spot) (n : Axis) → Following l k start reads past faces j s → j < faces → solid (byte-of-spot l s) ≡ false → NextFace (s .e) n →
+      Following l k start reads past faces (j + 1) (crossed-spot k n s)
   one-face j s n h lt clear face =
       record {
+        least = omega (arith, h .least);
         most = omega arith;
         follows = λ how next m c.
             let w = h .follows how next m c in
-            same-walking (m + j + 1) (m + (j + 1)) (reads + j + 1) (reads + (j + 1)) (omega arith) (omega arith)
-            (face-turn how bytes k plan l next (c .rises) (m + j) (reads + j) s n w
-            (walk-test how bytes k plan l next (m + j) s (w .spot) (tested-on how next m j c lt) clear)
-            (omega (arith, c .fits)) (c .one (m + j) (omega arith) (omega arith)) face);
+            let i : ℕ = m + (j - past) in
+            same-walking (i + 1) (m + (j + 1 - past)) (reads + j + 1) (reads + (j + 1)) (omega (arith, h .least)) (omega arith)
+            (face-turn how bytes k plan l next (c .rises) i (reads + j) s n w
+            (walk-test how bytes k plan l next i s (w .spot) (tested-on how next m (j - past) c (omega (arith, h .least))) clear)
+            (omega (arith, c .fits, h .least)) (c .one i (omega arith) (omega (arith, h .least))) face);
       }
 
   -- at a solid byte, or after the last
-  pub hit-face : (j : ℕ) (s : Spot) → Following l k start reads faces j s → j < faces → solid (byte-of-spot l s) ≡ true →
-      Walked l k true start reads faces (record { spot = s; reads = reads + j + 1; hit = true })
+  pub hit-face : (j : ℕ) (s : Spot) → Following l k start reads past faces j s → j < faces → solid (byte-of-spot l s) ≡ true →
+      Walked l k true start (reads + past) (faces - past) (record { spot = s; reads = reads + j + 1; hit = true })
   hit-face j s h lt solid-there =
       record {
-        leads = λ how next m c. let w = h .follows how next m c in at-hit how bytes k plan l next (m + j) (reads + j) s w
-            (walk-test how bytes k plan l next (m + j) s (w .spot) (tested-on how next m j c lt) solid-there);
+        leads = λ how next m c.
+            let w = h .follows how next m c in
+            at-hit how bytes k plan l next (m + (j - past)) (reads + j) s w
+            (walk-test how bytes k plan l next (m + (j - past)) s (w .spot) (tested-on how next m (j - past) c (omega (arith, h .least))) solid-there);
       }
 
-  pub last-face : (j : ℕ) (s : Spot) → Following l k start reads faces j s → faces ≤ j →
-      Walked l k true start reads faces (record { spot = s; reads = reads + j; hit = false })
+  pub last-face : (j : ℕ) (s : Spot) → Following l k start reads past faces j s → faces ≤ j →
+      Walked l k true start (reads + past) (faces - past) (record { spot = s; reads = reads + j; hit = false })
   last-face j s h ge =
-      record { leads = λ how next m c. same-walking (m + j) (m + faces) (reads + j) (reads + j) (omega (arith, h .most)) refl (h .follows how next m c) }
+      record {
+        leads = λ how next m c.
+            same-walking (m + (j - past)) (m + (faces - past)) (reads + j) (reads + j) (omega (arith, h .most)) refl (h .follows how next m c);
+      }

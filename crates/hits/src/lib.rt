@@ -2,7 +2,7 @@
 // once, where the walk stopped.
 ghost use mathlib.Core.Path.{_≡_};
 ghost use mathlib.Core.Bool.{true, not, _&&_};
-ghost use Prim.Native.Nat.{_≤_};
+ghost use Prim.Native.Nat.{_+_, _-_, _≤_};
 ghost use lib.Dec.{eqb};
 ghost use lib.ListN.{length};
 ghost use Rattle.cells.specs.Manners.{is-tested};
@@ -63,13 +63,14 @@ fn is_solid(byte: u8) -> bool
     1 < byte
 }
 
-// From cell to cell over so many faces, to the first solid one; the last cell is not tested.
-fn walk_faces(cells: &[u8], k: Route, start: Spot, reads: u32, faces: u32) -> Turn
-    requires { ⌜ Planned (length (now cells)) k × CanWalk (now cells) k true start reads faces ⌝ }
-    ensures { λ r. ⌜ Walked (now (cells .entry)) k true start reads faces r ⌝ }
+// From cell to cell over so many faces, to the first solid one; the last cell is not tested. Of the faces and of the cells read, `past` are behind it
+// at the start: so one number counts both, from there on.
+fn walk_faces(cells: &[u8], k: Route, start: Spot, reads: u32, past: u32, faces: u32) -> Turn
+    requires { ⌜ Planned (length (now cells)) k × (past ≤ faces) × CanWalk (now cells) k true start (reads + past) (faces - past) ⌝ }
+    ensures { λ r. ⌜ Walked (now (cells .entry)) k true start (reads + past) (faces - past) r ⌝ }
 {
     let mut s = start;
-    let mut j: u32 = 0;
+    let mut j = past;
     while j < faces {
         if is_solid(routes::byte_at(cells, s)) {
             return Turn {
@@ -113,7 +114,7 @@ fn walk_from(cells: &[u8], k: Route, s: Spot, reads: u32, faces: u32, tested: bo
 {
     let b = past_start(k, s, faces, tested);
     let spot = b.spot;
-    walk_faces(cells, k, spot, reads + b.past, faces - b.past)
+    walk_faces(cells, k, spot, reads, b.past, faces)
 }
 
 // The plain walk: the 6-line to its first hit, or to Q.
