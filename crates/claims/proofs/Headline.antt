@@ -15,7 +15,8 @@ use Rattle.claims.proofs.Points as points
 use Rattle.claims.proofs.Records as records
 use Rattle.claims.proofs.Sights.{seen-once, nothing-in-sight}
 use Rattle.claims.proofs.Story.{hit-once, hit-face, first-on-line, walks-end, step-by-step, adaptive-step, as-its-walk}
-use Rattle.claims.proofs.Story.{one-story, never-invented, start-tests, two-starts}
+use Rattle.claims.proofs.Story.{one-story, never-invented}
+use Rattle.claims.proofs.Starts.{start-tests, two-starts}
 
 pub takes-anything : TakesAnything
 takes-anything =

@@ -2,7 +2,7 @@
 use Prim.Native.Nat.{ℕ, zero, suc, _+_, _-_, _*_, _≤_, _<_}
 use mathlib.Core.Path.{_≡_, refl, sym, ap, ap₂, _∙_, subst, subst₂}
 use mathlib.Core.Bool.{Bool, true, false, cond, _||_}
-use mathlib.Core.Logic.{⊎-elim, _⊎_, inl, inr, _↔_}
+use mathlib.Core.Logic.{⊎-elim, _⊎_, _↔_}
 use mathlib.Core.List.{List, [], _∷_}
 use native.Mathlib.Omega.{arith}
 use native.Mathlib.Numerals.{add-one}
@@ -14,8 +14,6 @@ use Rattle.cells.specs.declared.Counts.{Counts}
 use Rattle.cells.specs.declared.Face.{Face}
 use Rattle.cells.specs.declared.Face.the-variants as Face
 use Rattle.cells.specs.declared.Manner.{Manner}
-use Rattle.cells.specs.declared.Refusal.{Refusal}
-use Rattle.cells.specs.declared.Start.the-variants.{Tested}
 use Rattle.cells.specs.declared.Verdict.{Verdict}
 use Rattle.cells.specs.declared.Verdict.the-variants as Verdict
 use Rattle.cells.specs.Checks.{by-verdict}
@@ -46,18 +44,18 @@ use Rattle.walks.proofs.Inside.{six-inside}
 use Rattle.walks.proofs.Find.{same-is-cell}
 use Rattle.walks.proofs.Safe.{complete-safe}
 use Rattle.walks.proofs.Numbers.{adaptive-next, Way, face, long, way, walk-length, walk-last}
-use Rattle.walks.proofs.Testing.{hit-solid, not-solid, tested-test, other-test, exempt-test}
-use Rattle.walks.proofs.Modes.{modes-alike, later-hit, equal-ends}
+use Rattle.walks.proofs.Testing.{hit-solid, not-solid}
+use Rattle.walks.proofs.Modes.{modes-alike}
 use Rattle.walks.proofs.Long.{go-long, go-face}
-use Rattle.walks.proofs.Places.{enters, never-falls, num-is, face-is, some-face, face-leads-back, num-made}
+use Rattle.walks.proofs.Places.{enters, never-falls, face-is, some-face, face-leads-back, num-made}
 use Rattle.walks.proofs.Story.{first-hit-is, walk-stops, end-below, no-earlier, not-invented, ends-alike, reads-no-more}
 use Rattle.walks.proofs.Story.{plain-clear, plain-clear-reads, adaptive-clear-most, adaptive-clear-least}
 use Rattle.survey.proofs.Tests.{neither}
 use Rattle.oatmarten.specs.Faces.{face-number}
 use Rattle.claims.specs.Story.{SameStory, hits, clears, refusals, OneStory, NeverInvented, NothingInTheWay, Reads, WalksEnd}
 use Rattle.claims.specs.Story.{FirstOnLine, HitInside, MarkedFirst, HitOnce, WrongWalks, OnTheLine, HitPlace, CameInBy, HitFace, StepByStep}
-use Rattle.claims.specs.Story.{AdaptiveStep, StartTest, TwoStarts, AsItsWalk, WrongStarts, long-hit, solid-start, solid-ends}
-use Rattle.claims.specs.Example.{counts, at, example-counts, marked-cells}
+use Rattle.claims.specs.Story.{AdaptiveStep, AsItsWalk, long-hit}
+use Rattle.claims.specs.Example.{at, example-counts, marked-cells}
 use Rattle.claims.proofs.Grids.{says-complete}
 
 -- what an answer carries
@@ -66,13 +64,13 @@ hit-or k (FirstHit.Hit h) = h
 hit-or k (FirstHit.Clear r) = k
 hit-or k (FirstHit.Refused r) = k
 
-reads-or : ℕ → FirstHit → ℕ
+unfoldable pub reads-or : ℕ → FirstHit → ℕ
 reads-or k (FirstHit.Hit h) = k
 reads-or k (FirstHit.Clear r) = r
 reads-or k (FirstHit.Refused r) = k
 
 -- 0 a hit, 1 clear, 2 refused
-kind : FirstHit → ℕ
+unfoldable pub kind : FirstHit → ℕ
 kind (FirstHit.Hit h) = 0
 kind (FirstHit.Clear r) = 1
 kind (FirstHit.Refused r) = 2
@@ -133,7 +131,7 @@ module _ (how : Manner) (n : Counts) (l : List ℕ) (p q : Cell) where
       by true b h = (refl, b, ap (hit-or k) h)
       by false b h = absurd (let z : _≡_ {A = ℕ} 0 1 = ap kind h in omega arith)
 
-  hit-found : (w : Walker) (k : Hit) → Finds w how n l p q (FirstHit.Hit k) →
+  pub hit-found : (w : Walker) (k : Hit) → Finds w how n l p q (FirstHit.Hit k) →
       (check ≡ Verdict.Fine) × (hits-at how n l p q (E w) ≡ true) × (k ≡ hit-of (E w) (reads-of how n l p q w))
   hit-found w k h = hit-told check k (E w) (reads-of how n l p q w) (found h)
 
@@ -370,40 +368,6 @@ module _ (n : Counts) (l : List ℕ) (p q : Cell) where
       by-face s none face = refl
       by-face s none (long m e h) = absurd (none m (omega (arith, h .below)) (sym (h .cell)))
 
--- ---- the start
-
-pub start-tests : (n : Counts) (l : List ℕ) (p : Cell) → StartTest n l p
-start-tests n l p =
-    record {
-      tested = λ how is w. tested-test how n l p w (ap is-tested is);
-      other = λ how w far. other-test how n l p w far;
-      exempt = λ how is. exempt-test how n l p (ap is-tested is);
-    }
-
-pub two-starts : (n : Counts) (l : List ℕ) (p q : Cell) → TwoStarts n l p q
-two-starts n l p q =
-    record {
-      alike = λ free w how other r s h k. h .says ∙ modes-alike n l p q w how other free ∙ sym (k .says);
-      never-p = λ w how is h a.
-          let (fine, hit, there) = hit-found how n l p q w h a in
-          beyond h (end-of how n l p q w) (later-hit n l p q how (ap is-tested is) _ hit) (ap (λ k. k .cell) there) (ap (λ k. k .place) there);
-      equal-ends = λ w how is r a. one-read r (walk-check n (length l) p p) (a .says ∙ equal-ends n l p w how (ap is-tested is));
-    }
-  where
-    beyond : (h : Hit) (s : ℕ) → 0 < s → h .cell ≡ six-cell rule-1 p q s → h .place ≡ entered-at p q s →
-        (h .cell ≡ p → ⊥) × (0 < h .place .num) × (h .place .face ≡ Face.None → ⊥)
-    beyond h zero lt cell place = absurd (omega arith)
-    beyond h (suc s) lt cell place = (
-      λ e. absurd (omega (arith, six-different rule-1 p q (suc s) 0 (sym cell ∙ e ∙ sym (six-start rule-1 p q)))),
-      subst (λ k. 0 < k .num) (sym place) (omega (arith, num-is p q s)),
-      λ e. absurd (some-face p q s (sym (ap (λ k. k .face) place) ∙ e)),
-    )
-
-    one-read : (r : FirstHit) (v : Verdict) → r ≡ by-verdict FirstHit.Refused (FirstHit.Clear 1) v →
-        (r ≡ FirstHit.Clear 1) ⊎ ((e : Refusal) × (r ≡ FirstHit.Refused e))
-    one-read r Verdict.Fine h = inl h
-    one-read r (Verdict.Refused e) h = inr (e, h)
-
 -- ---- mark, then walk
 
 pub marked-first : (n : Counts) (l exit : List ℕ) → MarkedFirst n l exit
@@ -451,39 +415,4 @@ wrong-walks =
       sign-turned = λ w how num den reads h.
           absurd (let z : _≡_ {A = ℕ} 0 2 = ap (λ f. up (face-number f)) (ap face-or (as-usual w how refl h) ∙ by-y w) in omega arith);
       face-at-p = λ w how num den reads face other h. other (hit-face how example-counts marked-cells (at 1 1 0) (at 3 1 0) .none w _ h .1 refl);
-    }
-
--- ---- wrong starts
-
--- solid at both ends: a hit, at Q
-ends-hit : (w : Walker) → kind (first-hit w usual (counts 3 2 1) solid-ends (at 0 0 0) (at 2 1 0)) ≡ 0
-unfolding first-hit kind
-ends-hit Plain = refl
-ends-hit Adaptive = refl
-
--- solid at P alone: clear, but a hit where P is tested
-start-clear : (w : Walker) → kind (first-hit w usual (counts 3 2 1) solid-start (at 0 0 0) (at 2 1 0)) ≡ 1
-unfolding first-hit kind
-start-clear Plain = refl
-start-clear Adaptive = refl
-
-start-hit : (w : Walker) → kind (first-hit w (record { start = Tested }) (counts 3 2 1) solid-start (at 0 0 0) (at 2 1 0)) ≡ 0
-unfolding first-hit kind
-start-hit Plain = refl
-start-hit Adaptive = refl
-
-pub wrong-starts : WrongStarts
-unfolding first-hit kind reads-or
-wrong-starts =
-    record {
-      exempts-q = λ w reads h. absurd (let z : _≡_ {A = ℕ} 1 0 = ap kind (h .says) ∙ ends-hit w in omega arith);
-      not-counted = λ h. absurd (let z : _≡_ {A = ℕ} 3 4 = ap (reads-or 0) (h .says) in omega arith);
-      by-one-face = λ reads h. ap (reads-or 0) (h .says);
-      long-from-solid = λ h. absurd (let z : _≡_ {A = ℕ} 3 4 = ap (reads-or 0) (h .says) in omega arith);
-      steps-over = λ reads h. absurd (let z : _≡_ {A = ℕ} 1 0 = ap kind (h .says) in omega arith);
-      default-tests = λ w h a. absurd (let z : _≡_ {A = ℕ} 0 1 = ap kind (a .says) ∙ start-clear w in omega arith);
-      tested-passes = λ w how is reads h.
-          absurd (let z : _≡_ {A = ℕ} 1 0 = ap kind (h .says ∙ ap (λ s. first-hit w (record { start = s }) (counts 3 2 1) solid-start (at 0 0 0) (at 2 1 0)) is)
-          ∙ start-hit w in omega arith);
-      next-exempt = λ reads h. absurd (let z : _≡_ {A = ℕ} 1 0 = ap kind (h .says) in omega arith);
     }

@@ -1,5 +1,5 @@
 -- Demand 3: the plain and the adaptive walk tell one story. Claims about the two first-hit calls, by their contracts: for every grid, every two
--- ends, either start mode, and all answers that meet the contracts on the same inputs. A hit is what the one test of a cell says (13). Assumes nothing.
+-- ends, either start mode, and all answers that meet the contracts on the same inputs. A hit is what the one test of a cell says (Starts). Assumes nothing.
 use Prim.Native.Nat.{ℕ, suc, _+_, _-_, _*_, _≤_, _<_}
 use mathlib.Core.Path.{_≡_}
 use mathlib.Core.Bool.{true, false}
@@ -14,10 +14,9 @@ use Rattle.cells.specs.declared.Face.{Face}
 use Rattle.cells.specs.declared.Face.the-variants as Face
 use Rattle.cells.specs.declared.Manner.{Manner}
 use Rattle.cells.specs.declared.Refusal.{Refusal}
-use Rattle.cells.specs.declared.Start.the-variants.{Untested, Tested}
+use Rattle.cells.specs.declared.Start.the-variants.{Tested}
 use Rattle.cells.specs.declared.Verdict.the-variants.{Fine}
 use Rattle.cells.specs.Faces.{back-across}
-use Rattle.cells.specs.Manners.{usual}
 use Rattle.lines.specs.Steps.{total}
 use Rattle.lines.specs.Preference.{rule-1}
 use Rattle.lines.specs.Lines.{differences, longest, six-cell, cell-26}
@@ -151,22 +150,7 @@ pub record HitFace (how : Manner) (n : Counts) (l : List ℕ) (p q : Cell) : Typ
   pub none : (w : Walker) (h : Hit) → Finds w how n l p q (FirstHit.Hit h) → (h .place .face ≡ Face.None) ↔ (h .cell ≡ p)
   pub crossed : (w : Walker) (h : Hit) → Finds w how n l p q (FirstHit.Hit h) → (h .cell ≡ p → ⊥) → (a : Axis) × CameInBy p q h a
 
--- 13. The one test of a cell: a hit exactly where its byte is solid, except that P is no hit where the start is not tested.
-pub record StartTest (n : Counts) (l : List ℕ) (p : Cell) : Type 0 where
-  pub tested : (how : Manner) → how .start ≡ Tested → (w : Cell) → hit-at how n l p w ≡ solid (byte-of n l w)
-  pub other : (how : Manner) (w : Cell) → (w ≡ p → ⊥) → hit-at how n l p w ≡ solid (byte-of n l w)
-  pub exempt : (how : Manner) → how .start ≡ Untested → hit-at how n l p p ≡ false
-
--- 14. Where P is not solid the two modes answer alike. Where P is not tested a hit is never P, and equal ends are clear with one read, or refused.
-pub record TwoStarts (n : Counts) (l : List ℕ) (p q : Cell) : Type 0 where
-  pub alike : solid (byte-of n l p) ≡ false → (w : Walker) (how other : Manner) (r s : FirstHit) → Finds w how n l p q r → Finds w other n l p q s → r ≡ s
-  -- a hit lies beyond P, and was entered by a face
-  pub never-p : (w : Walker) (how : Manner) → how .start ≡ Untested → (h : Hit) → Finds w how n l p q (FirstHit.Hit h) →
-      (h .cell ≡ p → ⊥) × (0 < h .place .num) × (h .place .face ≡ Face.None → ⊥)
-  pub equal-ends : (w : Walker) (how : Manner) → how .start ≡ Untested → (r : FirstHit) → Finds w how n l p p r →
-      (r ≡ FirstHit.Clear 1) ⊎ ((e : Refusal) × (r ≡ FirstHit.Refused e))
-
--- 15. The answer is that of the walk: its last cell is the hit, or Q where it is clear; the reads are its cells.
+-- 13. The answer is that of the walk: its last cell is the hit, or Q where it is clear; the reads are its cells.
 pub record AsItsWalk (how : Manner) (n : Counts) (l : List ℕ) (p q : Cell) : Type 0 where
   pub hit : (w : Walker) (h : Hit) → Finds w how n l p q (FirstHit.Hit h) →
       (h .cell ≡ last-of p (walk-of w how n l p q)) × (h .reads ≡ length (walk-of w how n l p q))
@@ -213,35 +197,3 @@ pub record WrongWalks : Type 0 where
       Finds w how example-counts marked-cells (at 0 0 0) (at 3 1 0) (FirstHit.Hit (post-hit num den (Face.Minus Y) reads)) → ⊥
   pub face-at-p : (w : Walker) (how : Manner) (num den reads : ℕ) (face : Face) → (face ≡ Face.None → ⊥) →
       Finds w how example-counts marked-cells (at 1 1 0) (at 3 1 0) (FirstHit.Hit (post-hit num den face reads)) → ⊥
-
--- ---- wrong starts, on named inputs: 3 by 2 by 1, no marks, from (0,0,0) to (2,1,0)
-
--- solid at P alone
-abbrev pub solid-start : List ℕ
-solid-start = 2 ∷ 0 ∷ 0 ∷ 0 ∷ 0 ∷ 0 ∷ []
-
--- at P and at Q
-abbrev pub solid-ends : List ℕ
-solid-ends = 2 ∷ 0 ∷ 0 ∷ 0 ∷ 0 ∷ 2 ∷ []
-
--- at P and at (1,0,0), the cell after it, over which a long step from P would lead
-abbrev pub solid-after : List ℕ
-solid-after = 2 ∷ 2 ∷ 0 ∷ 0 ∷ 0 ∷ 0 ∷ []
-
-pub record WrongStarts : Type 0 where
-  -- Q is exempt too
-  pub exempts-q : (w : Walker) (reads : ℕ) → Finds w usual (counts 3 2 1) solid-ends (at 0 0 0) (at 2 1 0) (FirstHit.Clear reads) → ⊥
-  -- P is not counted as read
-  pub not-counted : Finds Plain usual (counts 3 2 1) solid-start (at 0 0 0) (at 2 1 0) (FirstHit.Clear 3) → ⊥
-  -- from a solid P the adaptive walk goes on by one face, and so reads four cells; with a long step it would read three
-  pub by-one-face : (reads : ℕ) → Finds Adaptive usual (counts 3 2 1) solid-start (at 0 0 0) (at 2 1 0) (FirstHit.Clear reads) → reads ≡ 4
-  pub long-from-solid : Finds Adaptive usual (counts 3 2 1) solid-start (at 0 0 0) (at 2 1 0) (FirstHit.Clear 3) → ⊥
-  -- and would step over the solid cell after P
-  pub steps-over : (reads : ℕ) → Finds Adaptive usual (counts 3 2 1) solid-after (at 0 0 0) (at 2 1 0) (FirstHit.Clear reads) → ⊥
-  -- the default tests P
-  pub default-tests : (w : Walker) (h : Hit) → Finds w usual (counts 3 2 1) solid-start (at 0 0 0) (at 2 1 0) (FirstHit.Hit h) → ⊥
-  -- the tested start passes P
-  pub tested-passes : (w : Walker) (how : Manner) → how .start ≡ Tested → (reads : ℕ) →
-      Finds w how (counts 3 2 1) solid-start (at 0 0 0) (at 2 1 0) (FirstHit.Clear reads) → ⊥
-  -- the cell after P is exempt
-  pub next-exempt : (reads : ℕ) → Finds Plain usual (counts 3 2 1) solid-after (at 0 0 0) (at 2 1 0) (FirstHit.Clear reads) → ⊥
