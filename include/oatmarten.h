@@ -1,4 +1,4 @@
-/* Oatmarten: exact sight lines through a voxel grid. The C interface, revision 4 (OAT_REVISION).
+/* Oatmarten: exact sight lines through a voxel grid. The C interface, revision 5 (OAT_REVISION).
 
    Link with liboatmarten.a (x86-64 Linux). docs/C.md has a whole program, docs/SCOPE.md the exact rules, docs/TRUST.md says what is proved
    and what is not.
@@ -28,7 +28,7 @@ extern "C" {
 #endif
 
 /* Grows by one when a struct, a call or a number of this header changes. */
-#define OAT_REVISION 4
+#define OAT_REVISION 5
 
 /* The field `refusal`, with what it names. Where more than one applies, each call below says the order of its tests; ends are looked at P
    before Q, axes in the order x, y, z. */
@@ -44,7 +44,8 @@ enum oat_refusal {
     OAT_REFUSED_NOT_FINITE = 8, /* a surveyed value not finite: end and axis */
     OAT_REFUSED_OFF_SURVEY = 9, /* a surveyed value outside the grid: end and axis */
     OAT_REFUSED_RECORD = 10,    /* a record cut short or of the wrong length */
-    OAT_REFUSED_VERSION = 11    /* a record whose version byte is not 1 */
+    OAT_REFUSED_VERSION = 11,   /* a record's version byte: of a venue not 1, of a pair neither 1 nor 2 */
+    OAT_REFUSED_RULE = 12       /* a rule that is neither 1 nor 2: a number given to a call, or the last byte of a pair record of version 2 */
 };
 
 /* The field `end`. In oat_sight P is the camera and Q the ball; in oat_cell_of the point is P. */
@@ -77,13 +78,22 @@ enum oat_start {
     OAT_START_TESTED = 1    /* it can: it is tested like any other cell. Any other number than 0 means the same */
 };
 
+/* The rule of a 6-line: what it crosses first at a tie, where the segment between the two centres crosses faces of two or three axes at one
+   point. Where there is no tie both rules give the same line. Any other number is refused 12. */
+enum oat_rule {
+    OAT_RULE_1 = 1, /* y, then z, then x, whichever end it starts from. The default, and what logged clips were made by */
+    OAT_RULE_2 = 2  /* the same cells from either end: y, z, x where it starts at the end that comes first, and x, z, y from the other one. The
+                       end with the smaller z comes first; where z is equal, that with the smaller y; where y is too, that with the smaller x */
+};
+
 #define OAT_COUNT_MOST 1024          /* cells along an axis of a grid */
 #define OAT_COORDINATE_LEAST (-8192) /* of an end of a line list */
 #define OAT_COORDINATE_MOST 8191
 #define OAT_LINE6_ROOM 147450        /* numbers that hold any 6-line: 49,150 cells */
 #define OAT_LINE26_ROOM 49152        /* numbers that hold any 26-line: 16,384 cells */
 #define OAT_VENUE_HEAD 11            /* bytes of a venue record before its cells */
-#define OAT_PAIR_BYTES 17            /* bytes of a pair record */
+#define OAT_PAIR_BYTES 17            /* bytes of a pair record of version 1 */
+#define OAT_PAIR_BYTES_2 18          /* bytes of a pair record of version 2, which ends with its rule */
 
 /* ---- what the calls take */
 
@@ -117,21 +127,22 @@ typedef struct {
     double z;
 } oat_point;
 
-/* How a walk is made. OAT_MANNER_USUAL is the default, and can stand for the argument itself; it has an untested start. Riggers model the
-   box of a camera as solid. The camera stands inside that box, so with a tested start every such camera would be blocked at once, by its own
-   housing. With an untested start the cell p, where the walk starts, is not tested. It is still read, and counted in `reads`. Where it
-   is solid it counts as near, so no long step starts there. Only p is exempt: a second cell of the box is in the way, and so is q where it
-   is solid and not p. Where p is not solid both starts give the same answer.
-   To ask for something else, take the default and change a field, so that the rest stays usual. A zeroed oat_manner is the default now; that
-   may change when the struct gains a field. */
+/* How a walk is made. OAT_MANNER_USUAL is the default, and can stand for the argument itself; it has an untested start, and goes by rule 1.
+   Riggers model the box of a camera as solid. The camera stands inside that box, so with a tested start every such camera would be blocked
+   at once, by its own housing. With an untested start the cell p, where the walk starts, is not tested. It is still read, and counted in
+   `reads`. Where it is solid it counts as near, so no long step starts there. Only p is exempt: a second cell of the box is in the way, and
+   so is q where it is solid and not p. Where p is not solid both starts give the same answer.
+   To ask for something else, take the default and change a field, so that the rest stays usual. A zeroed oat_manner is not the default: it
+   names no rule, and every call that takes it refuses it 12. */
 typedef struct {
     uint32_t start; /* enum oat_start */
+    uint32_t rule;  /* enum oat_rule */
 } oat_manner;
 
 #ifdef __cplusplus
-#define OAT_MANNER_USUAL (oat_manner{OAT_START_UNTESTED})
+#define OAT_MANNER_USUAL (oat_manner{OAT_START_UNTESTED, OAT_RULE_1})
 #else
-#define OAT_MANNER_USUAL ((oat_manner){OAT_START_UNTESTED})
+#define OAT_MANNER_USUAL ((oat_manner){OAT_START_UNTESTED, OAT_RULE_1})
 #endif
 
 /* ---- what they answer */
@@ -185,7 +196,7 @@ typedef struct {
     uint64_t length; /* nx*ny*nz */
 } oat_venue;
 
-/* A pair record that was read: the ends P and Q. */
+/* A pair record that was read: the ends P and Q, and the rule of the line between them. */
 typedef struct {
     oat_said said;
     int32_t px;
@@ -194,6 +205,7 @@ typedef struct {
     int32_t qx;
     int32_t qy;
     int32_t qz;
+    uint32_t rule; /* enum oat_rule; OAT_RULE_1 of a record of version 1 */
 } oat_pair;
 
 /* A venue record that was written. */
@@ -229,21 +241,22 @@ typedef struct {
     int32_t face;     /* enum oat_face: the side by which the line enters that cell; OAT_FACE_NONE where it is the camera's */
 } oat_sight_answer;
 
-/* ---- lines: refusals 1, then 6. A, B, C are the differences of p and q in x, y, z, without sign; M is the largest. The line from q to p
-   need not be the mirror of the one from p to q: ties go y, z, x both ways, and halves go towards the end of the line */
+/* ---- lines: refusals 12 (oat_line6 alone), 1, then 6. A, B, C are the differences of p and q in x, y, z, without sign; M is the largest.
+   By rule 2 the 6-line from q to p is the mirror of the one from p to q: the same cells, last to first. By rule 1 it need not be, as ties go
+   y, z, x both ways; nor need the 26-line, as halves go towards the end of the line */
 
 /* Writes the cells of the 6-line from p to q, in order, three numbers a cell (x, y, z), at the front of `out`; the rest of `out` stays.
    It has A + B + C + 1 cells. `room` is the number of numbers that `out` holds; refused 6 exactly when it is below three times the cells.
-   Neighbouring cells share a face; the line has every cell whose inside the segment between the two centres enters. Where the segment
-   crosses faces of two or three axes at one point (a tie), the one on y is crossed first, then z, then x. */
-oat_listed oat_line6(oat_cell p, oat_cell q, int32_t *out, size_t room);
+   Neighbouring cells share a face; the line has every cell whose inside the segment between the two centres enters. Ties go by `rule`, a
+   number of enum oat_rule. */
+oat_listed oat_line6(oat_cell p, oat_cell q, uint32_t rule, int32_t *out, size_t room);
 
-/* The same for the 26-line: M + 1 cells, one for each step along the longest axis; neighbouring cells share a face, an edge or a corner.
-   On an axis with difference D, cell number m (from 0) has moved m*D/M cells towards q, rounded to the nearest; a half is rounded up, so
-   towards q. */
+/* The same for the 26-line, which knows no rule: M + 1 cells, one for each step along the longest axis; neighbouring cells share a face, an
+   edge or a corner. On an axis with difference D, cell number m (from 0) has moved m*D/M cells towards q, rounded to the nearest; a half is
+   rounded up, so towards q. */
 oat_listed oat_line26(oat_cell p, oat_cell q, int32_t *out, size_t room);
 
-/* ---- grids: refusals 2, 3, then 4 or 5. `bytes` is the number of bytes at `cells` */
+/* ---- grids: refusals 2, 3, then 4 or 5; a walk's 12 before these. `bytes` is the number of bytes at `cells` */
 
 /* Marks the near cells in place: each solid byte stays; any other becomes OAT_NEAR where its cell touches a solid one, else OAT_CLEAR,
    whatever it was. */
@@ -257,13 +270,13 @@ oat_part oat_layer(oat_counts n, const uint8_t *cells, size_t bytes, int32_t z);
 
 /* The first solid cell along the 6-line from p to q, made as `how` says. With an untested start it is a later cell than p, q at the last; where q
    is p the way is clear with one read, whatever the byte. With a tested start p comes first: where it is solid it is the hit, at 0/1 and by
-   no side. Asks for no marks. */
+   no side. Asks for no marks. By rule 2, with a tested start, the way from q to p is clear exactly where the way from p to q is. */
 oat_hit oat_plain(oat_counts n, const uint8_t *cells, size_t bytes, oat_cell p, oat_cell q, oat_manner how);
 
-/* The same with long steps over clear cells: from a clear cell of the 26-line to the next cell of the 26-line; from every other cell to
-   the next of the 6-line, from a solid p that is not tested too. A cell that a long step leads to has the place and the side by which the
-   6-line enters it. Where the marks are complete it gives the answer that oat_plain gives for the same `how`, with no more reads; where
-   they are not, it may miss a solid cell, and never makes one up. */
+/* The same with long steps over clear cells: from a clear cell of the 26-line to the next cell of the 26-line; from every other cell to the
+   next of the 6-line by the rule of `how`, from a solid p that is not tested too. A cell that a long step leads to has the place and the
+   side by which that 6-line enters it. Where the marks are complete it gives the answer that oat_plain gives for the same `how`, with no
+   more reads; where they are not, it may miss a solid cell, and never makes one up. */
 oat_hit oat_adaptive(oat_counts n, const uint8_t *cells, size_t bytes, oat_cell p, oat_cell q, oat_manner how);
 
 /* ---- surveyed points */
@@ -272,9 +285,9 @@ oat_hit oat_adaptive(oat_counts n, const uint8_t *cells, size_t bytes, oat_cell 
    n <= (point - origin) / edge < n + 1, the difference and the quotient rounded once each. The end that a refusal names is P. */
 oat_found oat_cell_of(oat_counts n, oat_placement at, oat_point point);
 
-/* Whether anything solid is in the way from the camera's cell to the ball's, by the adaptive walk: refusals 2, 3, 7, then the camera (P) by
-   axis 8, 9, then the ball (Q). The camera's own cell is tested where `how` says so, and by OAT_MANNER_USUAL it is not; a ball in that same cell is
-   then seen. The ball's cell is tested otherwise. Takes the marks as they are: mark first. */
+/* Whether anything solid is in the way from the camera's cell to the ball's, by the adaptive walk: refusals 12, 2, 3, 7, then the camera
+   (P) by axis 8, 9, then the ball (Q). The camera's own cell is tested where `how` says so, and by OAT_MANNER_USUAL it is not; a ball in
+   that same cell is then seen. The ball's cell is tested otherwise. Takes the marks as they are: mark first. */
 oat_sight_answer oat_sight(oat_counts n, const uint8_t *cells, size_t bytes, oat_placement at, oat_point camera, oat_point ball, oat_manner how);
 
 /* ---- records: numbers are big-endian; bytes after a record are not looked at */
@@ -286,8 +299,9 @@ oat_sight_answer oat_sight(oat_counts n, const uint8_t *cells, size_t bytes, oat
    be saved. */
 oat_venue oat_read_venue(const uint8_t *record, size_t bytes);
 
-/* Reads a pair record: length 13; version 1; P and Q, six signed numbers of two bytes. Refusals, in this order: 10 as of a venue; 11; 10
-   where the length is not 13. */
+/* Reads a pair record of version 1 or 2: four bytes, the length of what follows, which is 13 or 14; the version; P and Q, six signed numbers of
+   two bytes; in version 2 the rule, a byte. Version 1 means OAT_RULE_1. Refusals, in this order: 10 as of a venue; 11; 10 where the length is
+   not that of the version; 12. */
 oat_pair oat_read_pair(const uint8_t *record, size_t bytes);
 
 /* Writes a venue record at the front of `out`; the rest of `out` stays. Refusals 2, 3, then 6, exactly when `room` is below
