@@ -90,14 +90,14 @@ static double take_f64(void) { return ((union { u64 bits; double value; }){take_
 static void take_fixed(long held) { take_between(held, held); }
 
 /* the words start and rule of a walk. start is 0 tested, 1 not tested; in C 0 is not tested and every other number is tested, so each run of a
-   call that is tested has another one */
+   call that is tested has another one. rule is C's own number */
 static oat_manner take_manner(void) {
     static const u32 tested[] = {OAT_START_TESTED, 4294967295u, 2, 256, 65536, 16777216, 2147483648u, 4294967294u};
     static size next;
-    long untested = take_between(0, 1);
-    take_fixed(1);
-    if (untested) return OAT_MANNER_USUAL;
-    return (oat_manner){.start = tested[next++ % (sizeof tested / sizeof *tested)]};
+    oat_manner how = OAT_MANNER_USUAL;
+    if (!take_between(0, 1)) how.start = tested[next++ % (sizeof tested / sizeof *tested)];
+    how.rule = take_u32();
+    return how;
 }
 
 static oat_cell take_cell(void) {
@@ -185,20 +185,27 @@ static void say_stray(oat_said said, u64 values) {
     if (said.refusal ? values != 0 : said.end || said.axis) say(" stray %u %u %lu", said.end, said.axis, values);
 }
 
-static void list(oat_listed line(oat_cell, oat_cell, i32 *, size), int takes_rule) {
-    oat_cell p = take_cell(), q = take_cell();
-    if (takes_rule) take_fixed(1);
-    size room = take_length();
-    slice out = lend_numbers(room, -77777);
-    oat_listed got = line(p, q, (i32 *)out.at, room);
+static void say_listed(oat_listed got, slice out) {
     if (got.said.refusal) say_refused(got.said);
     else say("ok %u", got.count);
     say_stray(got.said, got.said.refusal ? got.count : 0);
     say_numbers(out);
 }
 
-static void six(void) { list(oat_line6, 1); }
-static void tw6(void) { list(oat_line26, 0); }
+static void six(void) {
+    oat_cell p = take_cell(), q = take_cell();
+    u32 rule = take_u32();
+    size room = take_length();
+    slice out = lend_numbers(room, -77777);
+    say_listed(oat_line6(p, q, rule, (i32 *)out.at, room), out);
+}
+
+static void tw6(void) {
+    oat_cell p = take_cell(), q = take_cell();
+    size room = take_length();
+    slice out = lend_numbers(room, -77777);
+    say_listed(oat_line26(p, q, (i32 *)out.at, room), out);
+}
 
 static void mark(void) {
     grid g = lend_grid();
@@ -321,8 +328,8 @@ static void rpair(void) {
     oat_pair got = oat_read_pair(bytes.at, bytes.bytes);
     take_back(bytes);
     if (got.said.refusal) say_refused(got.said);
-    else say("ok %d %d %d %d %d %d 1", got.px, got.py, got.pz, got.qx, got.qy, got.qz);
-    say_stray(got.said, got.said.refusal ? (u64)(got.px | got.py | got.pz | got.qx | got.qy | got.qz) : 0);
+    else say("ok %d %d %d %d %d %d %u", got.px, got.py, got.pz, got.qx, got.qy, got.qz, got.rule);
+    say_stray(got.said, got.said.refusal ? (u32)(got.px | got.py | got.pz | got.qx | got.qy | got.qz) | got.rule : 0);
 }
 
 static void wvenue(void) {

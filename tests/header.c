@@ -20,15 +20,23 @@ int main(void) {
     const oat_cell p = {.x = 8, .y = 0, .z = 1}, q = {.x = 0, .y = 7, .z = 4};
     const oat_placement at = {.ox = -10, .oy = 20, .oz = 3, .edge = 0.5};
     const oat_point camera = {.x = -5.75, .y = 20.25, .z = 3.75}, ball = {.x = -9.75, .y = 23.75, .z = 5.25};
-    const oat_manner tested = {.start = OAT_START_TESTED}, untested = {.start = OAT_START_UNTESTED}, zeroed = {0};
+    const oat_manner tested = {.start = OAT_START_TESTED, .rule = OAT_RULE_1}, untested = {.start = OAT_START_UNTESTED, .rule = OAT_RULE_1};
+    const oat_manner either_end = {.start = OAT_START_TESTED, .rule = OAT_RULE_2}, zeroed = {0};
     const uint8_t pair[OAT_PAIR_BYTES] = {0, 0, 0, 13, 1, 255, 255, 0, 2, 255, 253, 0, 4, 255, 251, 0, 6};
+    uint8_t ruled[OAT_PAIR_BYTES_2] = {0, 0, 0, 14, 2, 0, 1, 255, 254, 0, 3, 255, 252, 0, 5, 255, 250, OAT_RULE_2};
 
     /* ends and axes */
-    SHOW(oat_listed, oat_line6(p, (oat_cell){.x = 0, .y = OAT_COORDINATE_MOST + 1, .z = 0}, numbers, 0));
-    SHOW(oat_listed, oat_line6((oat_cell){.x = OAT_COORDINATE_LEAST - 1, .y = 0, .z = 0}, q, numbers, 0));
-    SHOW(oat_listed, oat_line6(p, q, numbers, 56));
-    SHOW(oat_listed, oat_line6(p, q, numbers, 57));
+    SHOW(oat_listed, oat_line6(p, (oat_cell){.x = 0, .y = OAT_COORDINATE_MOST + 1, .z = 0}, OAT_RULE_1, numbers, 0));
+    SHOW(oat_listed, oat_line6((oat_cell){.x = OAT_COORDINATE_LEAST - 1, .y = 0, .z = 0}, q, OAT_RULE_2, numbers, 0));
+    SHOW(oat_listed, oat_line6(p, q, OAT_RULE_1, numbers, 56));
+    SHOW(oat_listed, oat_line6(p, q, OAT_RULE_2, numbers, 57));
     SHOW(oat_listed, oat_line26(p, q, numbers, 27));
+
+    /* a number that is no rule, before everything else */
+    SHOW(oat_listed, oat_line6((oat_cell){.x = OAT_COORDINATE_LEAST - 1, .y = 0, .z = 0}, q, OAT_RULE_2 + 1, numbers, 0));
+    SHOW(oat_hit, oat_plain(n, cells, 0, p, q, zeroed));
+    SHOW(oat_hit, oat_adaptive(n, cells, 0, p, q, zeroed));
+    SHOW(oat_sight_answer, oat_sight(n, cells, 0, at, camera, ball, zeroed));
     SHOW(oat_verdict, oat_mark((oat_counts){.nx = OAT_COUNT_MOST, .ny = 1, .nz = OAT_COUNT_MOST + 1}, cells, sizeof cells));
     SHOW(oat_verdict, oat_mark(n, cells, sizeof cells - 1));
 
@@ -52,16 +60,27 @@ int main(void) {
     };
     for (size_t k = 0; k < sizeof ways / sizeof *ways; k++) SHOW(oat_hit, oat_plain(n, cells, sizeof cells, ways[k][0], ways[k][1], tested));
 
-    /* that cell as the start: not tested by the default, by its name and by 0; tested by any other number, here each of the 32 bits alone */
+    /* that cell as the start: not tested by the default, and by its name; tested by any other number, here each of the 32 bits alone */
     const oat_cell solid = {.x = 2, .y = 6, .z = 3}, away = {.x = 0, .y = 6, .z = 3};
     SHOW(oat_hit, oat_plain(n, cells, sizeof cells, solid, away, OAT_MANNER_USUAL));
     SHOW(oat_hit, oat_plain(n, cells, sizeof cells, solid, away, untested));
-    SHOW(oat_hit, oat_adaptive(n, cells, sizeof cells, solid, away, zeroed));
     SHOW(oat_hit, oat_adaptive(n, cells, sizeof cells, solid, solid, OAT_MANNER_USUAL));
     for (int bit = 0; bit < 32; bit++) {
         oat_manner how = OAT_MANNER_USUAL;
         how.start = (uint32_t)1 << bit;
         SHOW(oat_hit, oat_adaptive(n, cells, sizeof cells, solid, away, how));
+    }
+
+    /* at a tie on the way to it: in by y or by x, as the rule says and which end comes first; and each of the 32 bits alone as the rule */
+    const oat_cell above = {.x = 3, .y = 7, .z = 3}, below = {.x = 1, .y = 5, .z = 3};
+    SHOW(oat_hit, oat_plain(n, cells, sizeof cells, above, solid, OAT_MANNER_USUAL));
+    SHOW(oat_hit, oat_plain(n, cells, sizeof cells, above, solid, either_end));
+    SHOW(oat_hit, oat_adaptive(n, cells, sizeof cells, above, solid, either_end));
+    SHOW(oat_hit, oat_plain(n, cells, sizeof cells, below, solid, either_end));
+    for (int bit = 0; bit < 32; bit++) {
+        oat_manner how = OAT_MANNER_USUAL;
+        how.rule = (uint32_t)1 << bit;
+        SHOW(oat_hit, oat_plain(n, cells, sizeof cells, above, solid, how));
     }
 
     /* surveyed points */
@@ -78,11 +97,22 @@ int main(void) {
     SHOW(oat_sight_answer, oat_sight(n, cells, sizeof cells, at, inside, ball, tested));
     SHOW(oat_sight_answer, oat_sight(n, cells, sizeof cells, at, inside, ball, OAT_MANNER_USUAL));
 
+    /* to it, at that tie */
+    SHOW(oat_sight_answer, oat_sight(n, cells, sizeof cells, at, (oat_point){.x = -8.25, .y = 23.75, .z = 4.75}, inside, tested));
+    SHOW(oat_sight_answer, oat_sight(n, cells, sizeof cells, at, (oat_point){.x = -8.25, .y = 23.75, .z = 4.75}, inside, either_end));
+
     /* records */
     SHOW(oat_written, oat_write_venue(n, cells, sizeof cells, record, sizeof record - 2));
     SHOW(oat_written, oat_write_venue(n, cells, sizeof cells, record, sizeof record));
     SHOW(oat_venue, oat_read_venue(record, sizeof record));
     SHOW(oat_pair, oat_read_pair(pair, sizeof pair));
+    SHOW(oat_pair, oat_read_pair(ruled, sizeof ruled));
+    ruled[OAT_PAIR_BYTES_2 - 1] = OAT_RULE_1;
+    SHOW(oat_pair, oat_read_pair(ruled, sizeof ruled));
+    ruled[OAT_PAIR_BYTES_2 - 1] = 0;
+    SHOW(oat_pair, oat_read_pair(ruled, sizeof ruled));
+    ruled[4] = 3;
+    SHOW(oat_pair, oat_read_pair(ruled, sizeof ruled));
     record[4] = 2;
     SHOW(oat_venue, oat_read_venue(record, sizeof record));
     SHOW(oat_pair, oat_read_pair(pair, sizeof pair - 1));
@@ -90,8 +120,9 @@ int main(void) {
     /* the longest lines fill their room, and no less will do */
     const oat_cell least = {.x = OAT_COORDINATE_LEAST, .y = OAT_COORDINATE_LEAST, .z = OAT_COORDINATE_LEAST};
     const oat_cell most = {.x = OAT_COORDINATE_MOST, .y = OAT_COORDINATE_MOST, .z = OAT_COORDINATE_MOST};
-    SHOW(oat_listed, oat_line6(least, most, numbers, OAT_LINE6_ROOM));
-    SHOW(oat_listed, oat_line6(least, most, numbers, OAT_LINE6_ROOM - 1));
+    SHOW(oat_listed, oat_line6(least, most, OAT_RULE_1, numbers, OAT_LINE6_ROOM));
+    SHOW(oat_listed, oat_line6(most, least, OAT_RULE_2, numbers, OAT_LINE6_ROOM));
+    SHOW(oat_listed, oat_line6(least, most, OAT_RULE_1, numbers, OAT_LINE6_ROOM - 1));
     SHOW(oat_listed, oat_line26(least, most, numbers, OAT_LINE26_ROOM));
     SHOW(oat_listed, oat_line26(least, most, numbers, OAT_LINE26_ROOM - 1));
     return 0;
