@@ -36,20 +36,24 @@ def kit():
 
 
 class Engine:
-    """functions of one kind, PREFIX_CALL, and the loops around them, in each link order"""
+    """functions of one kind, PREFIX_CALL, and the loops around them, in each link order; of each loop the one whose name ends so"""
 
-    def __init__(self, name, prefix, objects):
-        self.name, self.prefix, self.objects = name, prefix, objects
+    def __init__(self, name, prefix, objects, ending=""):
+        self.name, self.prefix, self.objects, self.ending = name, prefix, objects, ending
+
+    def by(self, name, ending):
+        """the same functions in loops of another ending"""
+        return Engine(name, self.prefix, self.objects, ending)
 
     def address(self, order, symbol):
         return ctypes.cast(self.objects[order][symbol], ctypes.c_void_p).value
 
     def has(self, loop, call):
-        return all(hasattr(held, symbol) for held in self.objects for symbol in (loop, f"{self.prefix}_{call}"))
+        return all(hasattr(held, symbol) for held in self.objects for symbol in (loop + self.ending, f"{self.prefix}_{call}"))
 
     def piece(self, order, loop, call, *words):
         """a loop, and the words that it takes: a call, and what follows"""
-        return self.address(order, loop), (ctypes.c_uint64 * 8)(self.address(order, f"{self.prefix}_{call}"), *words)
+        return self.address(order, loop + self.ending), (ctypes.c_uint64 * 8)(self.address(order, f"{self.prefix}_{call}"), *words)
 
     def ask(self, loop, call, *words):
         """what a loop gives"""

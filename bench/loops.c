@@ -7,7 +7,8 @@
 #include "../include/oatmarten.h"
 
 typedef __typeof__(oat_plain) hit_call;
-typedef __typeof__(oat_line6) list_call;
+typedef __typeof__(oat_line6) line6_call;
+typedef __typeof__(oat_line26) line26_call;
 typedef __typeof__(oat_mark) mark_call;
 typedef __typeof__(oat_complete) complete_call;
 typedef __typeof__(oat_sight) sight_call;
@@ -18,16 +19,27 @@ static uint64_t mixed(uint64_t sum, uint64_t value) { return (sum ^ value) * 0x9
 #define REFUSAL(answer) (*(const uint32_t *)&(answer))
 #define CELL(answer) ((uint64_t)((answer).x + 1024 * ((answer).y + 1024 * (answer).z)))
 
-/* From revision 4 on a walk takes its manner, last. Before that the start was tested, so it is tested in the loops that are timed against an earlier
-   commit: they do the same work around any header. Those with `untested` in their name are new with revision 4. */
+/* From revision 4 on a walk takes its manner, last, and from revision 5 on that has a rule, which a 6-line takes too. Before, the start was tested, and
+   ties went by rule 1: so it is in the loops that are timed against an earlier commit, and they do the same work around any header. Those with
+   `untested` in their name are new with revision 4, those with `rule2` with revision 5. */
+#if OAT_REVISION >= 5
+#define RULE rule,
+#define BY_RULE(n) , .rule = OAT_RULE_##n
+#else
+#define RULE
+#define BY_RULE(n)
+#endif
 #if OAT_REVISION >= 4
 #define HOW , how
 typedef oat_manner manner;
-static const oat_manner tested = {.start = OAT_START_TESTED}, untested = {.start = OAT_START_UNTESTED};
+static const oat_manner tested = {.start = OAT_START_TESTED BY_RULE(1)}, untested = {.start = OAT_START_UNTESTED BY_RULE(1)};
 #else
 #define HOW
 typedef int manner;
 static const int tested = 1;
+#endif
+#if OAT_REVISION >= 5
+static const oat_manner rule2 = {.start = OAT_START_TESTED BY_RULE(2)}, untested_rule2 = {.start = OAT_START_UNTESTED BY_RULE(2)};
 #endif
 
 /* the words of a loop over segments, behind its call */
@@ -92,34 +104,66 @@ uint64_t sum_faces(hit_call *call, SEGMENTS) { return faces(tested, call, GIVEN)
 uint64_t sum_sight_faces(sight_call *call, SEGMENTS) { return sight_faces(tested, call, GIVEN); }
 #endif
 
-/* the same with a start that is not tested */
+/* the same in another manner */
+#define IN_MANNER(how)                                                                                                                   \
+    uint64_t loop_hits_##how(hit_call *call, size_t rounds, SEGMENTS) { return hits(how, call, rounds, GIVEN); }                         \
+    uint64_t loop_sights_##how(sight_call *call, size_t rounds, SEGMENTS) { return sights(how, call, rounds, GIVEN); }                   \
+    uint64_t sum_faces_##how(hit_call *call, SEGMENTS) { return faces(how, call, GIVEN); }                                               \
+    uint64_t sum_sight_faces_##how(sight_call *call, SEGMENTS) { return sight_faces(how, call, GIVEN); }
 #if OAT_REVISION >= 4
-uint64_t loop_hits_untested(hit_call *call, size_t rounds, SEGMENTS) { return hits(untested, call, rounds, GIVEN); }
-uint64_t loop_sights_untested(sight_call *call, size_t rounds, SEGMENTS) { return sights(untested, call, rounds, GIVEN); }
-uint64_t sum_faces_untested(hit_call *call, SEGMENTS) { return faces(untested, call, GIVEN); }
-uint64_t sum_sight_faces_untested(sight_call *call, SEGMENTS) { return sight_faces(untested, call, GIVEN); }
+IN_MANNER(untested)
+#endif
+#if OAT_REVISION >= 5
+IN_MANNER(rule2)
+IN_MANNER(untested_rule2)
 #endif
 
-uint64_t loop_lists(list_call *call, size_t rounds, const oat_cell *ends, size_t segments, int32_t *out, size_t room) {
+/* the words of a loop over lists, behind its call */
+#define LISTS const oat_cell *ends, size_t segments, int32_t *out, size_t room
+#define LENT ends, segments, out, room
+
+/* some numbers of a list, or every number, added to a sum */
+INLINE uint64_t some_of(uint64_t sum, uint32_t count, uint32_t refusal, const int32_t *out) {
+    sum = mixed(sum, count + ((uint64_t)refusal << 32));
+    return mixed(sum, (uint32_t)out[3 * (count / 2)] + ((uint64_t)(uint32_t)out[3 * count - 1] << 32));
+}
+
+INLINE uint64_t all_of(uint64_t sum, uint32_t count, uint32_t refusal, const int32_t *out) {
+    sum = mixed(sum, count + ((uint64_t)refusal << 32));
+    for (size_t k = 0; k < 3 * (size_t)count; k++) sum = mixed(sum, (uint32_t)out[k]);
+    return sum;
+}
+
+/* the loops that are timed, and those for comparing */
+typedef uint64_t adding(uint64_t sum, uint32_t count, uint32_t refusal, const int32_t *out);
+
+INLINE uint64_t lists6(uint32_t rule, adding *add, line6_call *call, size_t rounds, LISTS) {
+    uint64_t sum = 0;
+    (void)rule;
+    while (rounds--) for (size_t s = 0; s < segments; s++) {
+        __auto_type l = call(ends[2 * s], ends[2 * s + 1], RULE out, room);
+        sum = add(sum, l.count, REFUSAL(l), out);
+    }
+    return sum;
+}
+
+INLINE uint64_t lists26(adding *add, line26_call *call, size_t rounds, LISTS) {
     uint64_t sum = 0;
     while (rounds--) for (size_t s = 0; s < segments; s++) {
         __auto_type l = call(ends[2 * s], ends[2 * s + 1], out, room);
-        sum = mixed(sum, l.count + ((uint64_t)REFUSAL(l) << 32));
-        sum = mixed(sum, (uint32_t)out[3 * (l.count / 2)] + ((uint64_t)(uint32_t)out[3 * l.count - 1] << 32));
+        sum = add(sum, l.count, REFUSAL(l), out);
     }
     return sum;
 }
 
-/* every number of every list, for comparing */
-uint64_t sum_lists(list_call *call, const oat_cell *ends, size_t segments, int32_t *out, size_t room) {
-    uint64_t sum = 0;
-    for (size_t s = 0; s < segments; s++) {
-        __auto_type l = call(ends[2 * s], ends[2 * s + 1], out, room);
-        sum = mixed(sum, l.count + ((uint64_t)REFUSAL(l) << 32));
-        for (size_t k = 0; k < 3 * (size_t)l.count; k++) sum = mixed(sum, (uint32_t)out[k]);
-    }
-    return sum;
-}
+uint64_t loop_line6(line6_call *call, size_t rounds, LISTS) { return lists6(1, some_of, call, rounds, LENT); }
+uint64_t loop_line26(line26_call *call, size_t rounds, LISTS) { return lists26(some_of, call, rounds, LENT); }
+uint64_t sum_line6(line6_call *call, LISTS) { return lists6(1, all_of, call, 1, LENT); }
+uint64_t sum_line26(line26_call *call, LISTS) { return lists26(all_of, call, 1, LENT); }
+#if OAT_REVISION >= 5
+uint64_t loop_line6_rule2(line6_call *call, size_t rounds, LISTS) { return lists6(2, some_of, call, rounds, LENT); }
+uint64_t sum_line6_rule2(line6_call *call, LISTS) { return lists6(2, all_of, call, 1, LENT); }
+#endif
 
 uint64_t loop_mark(mark_call *call, size_t rounds, uint32_t nx, uint32_t ny, uint32_t nz, uint8_t *cells) {
     uint64_t sum = 0;

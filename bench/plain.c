@@ -20,6 +20,12 @@ static inline way way_of(oat_cell p, oat_cell q) {
     return (way){apart(p.x, q.x), apart(p.y, q.y), apart(p.z, q.z), unit(p.x, q.x), unit(p.y, q.y), unit(p.z, q.z)};
 }
 
+/* Whether ties go x, z, y: 1 by rule 2 from the end that comes second in the order z, y, x; else 0, and they go y, z, x. A decision value of 0 is a
+   tie and goes y, z, x; this taken off each of the three puts it on the other side, and no other value. */
+static inline int turned(oat_cell p, oat_cell q, uint32_t rule) {
+    return rule == OAT_RULE_2 && (q.z != p.z ? q.z < p.z : q.y != p.y ? q.y < p.y : q.x < p.x);
+}
+
 static inline int longest(way w) {
     int m = w.a < w.b ? w.b : w.a;
     return m < w.c ? w.c : m;
@@ -27,10 +33,11 @@ static inline int longest(way w) {
 
 /* ---- lists */
 
-oat_listed BY(line6)(oat_cell p, oat_cell q, int32_t *out, size_t room) {
+oat_listed BY(line6)(oat_cell p, oat_cell q, uint32_t rule, int32_t *out, size_t room) {
     (void)room;
     way w = way_of(p, q);
-    int xy = w.b - w.a, xz = w.c - w.a, zy = w.b - w.c, a2 = 2 * w.a, b2 = 2 * w.b, c2 = 2 * w.c;
+    int tie = turned(p, q, rule);
+    int xy = w.b - w.a - tie, xz = w.c - w.a - tie, zy = w.b - w.c - tie, a2 = 2 * w.a, b2 = 2 * w.b, c2 = 2 * w.c;
     int x = p.x, y = p.y, z = p.z;
     uint32_t faces = (uint32_t)(w.a + w.b + w.c);
     for (uint32_t left = faces; left; left--, out += 3) {
@@ -69,18 +76,18 @@ oat_listed BY(line26)(oat_cell p, oat_cell q, int32_t *out, size_t room) {
 
 /* ---- first hits */
 
-/* of the crossings last made (i of a and so on), the last one: at (2i-1)/(2a), ties y, z, x. Its face is told by p and the cell: w's units would
-   have to be kept through the walk */
-static oat_hit BY(found)(oat_counts n, const uint8_t *cells, const uint8_t *at, oat_cell p, way w, uint32_t reads) {
+/* of the crossings last made (i of a and so on), the last one: at (2i-1)/(2a); of equals x before z before y, where ties are turned y before z
+   before x. Its face is told by p and the cell: w's units would have to be kept through the walk */
+static oat_hit BY(found)(oat_counts n, const uint8_t *cells, const uint8_t *at, oat_cell p, way w, int tie, uint32_t reads) {
     if (*at < OAT_SOLID_LEAST) return (oat_hit){.reads = reads};
     uint32_t index = (uint32_t)(at - cells), row = index / n.nx;
     int x = (int)(index - row * n.nx), z = (int)(row / n.ny), y = (int)(row - (uint32_t)z * n.ny);
     oat_hit h = {.hit = 1, .x = x, .y = y, .z = z, .code = *at, .num = 0, .den = 1, .reads = reads};
     int i = apart(p.x, x), j = apart(p.y, y), k = apart(p.z, z), num = -1, den = 1, face = OAT_FACE_NONE;
     if (j) num = 2 * j - 1, den = 2 * w.b, face = p.y < y ? OAT_FACE_PLUS_Y : OAT_FACE_MINUS_Y;
-    if (k && (num < 0 || num * 2 * w.c <= (2 * k - 1) * den))
+    if (k && (num < 0 || num * 2 * w.c + tie <= (2 * k - 1) * den))
         num = 2 * k - 1, den = 2 * w.c, face = p.z < z ? OAT_FACE_PLUS_Z : OAT_FACE_MINUS_Z;
-    if (i && (num < 0 || num * 2 * w.a <= (2 * i - 1) * den))
+    if (i && (num < 0 || num * 2 * w.a + tie <= (2 * i - 1) * den))
         num = 2 * i - 1, den = 2 * w.a, face = p.x < x ? OAT_FACE_PLUS_X : OAT_FACE_MINUS_X;
     if (num > 0) h.num = (uint32_t)num, h.den = (uint32_t)den, h.face = face;
     return h;
@@ -102,7 +109,8 @@ static oat_hit BY(found)(oat_counts n, const uint8_t *cells, const uint8_t *at, 
 oat_hit BY(plain)(oat_counts n, const uint8_t *cells, size_t bytes, oat_cell p, oat_cell q, oat_manner how) {
     (void)bytes;
     way w = way_of(p, q);
-    int xy = w.b - w.a, xz = w.c - w.a, zy = w.b - w.c, a2 = 2 * w.a, b2 = 2 * w.b, c2 = 2 * w.c;
+    int tie = turned(p, q, how.rule);
+    int xy = w.b - w.a - tie, xz = w.c - w.a - tie, zy = w.b - w.c - tie, a2 = 2 * w.a, b2 = 2 * w.b, c2 = 2 * w.c;
     ptrdiff_t sx = w.x, sy = w.y * (ptrdiff_t)n.nx, sz = w.z * (ptrdiff_t)n.nx * n.ny;
     const uint8_t *at = cells + p.x + (ptrdiff_t)n.nx * (p.y + (ptrdiff_t)n.ny * p.z);
     int faces = w.a + w.b + w.c, left = faces;
@@ -112,16 +120,17 @@ oat_hit BY(plain)(oat_counts n, const uint8_t *cells, size_t bytes, oat_cell p, 
         left--;
     }
     for (; left && *at < OAT_SOLID_LEAST; left--) CROSS;
-    return BY(found)(n, cells, at, p, w, (uint32_t)(faces - left) + 1);
+    return BY(found)(n, cells, at, p, w, tie, (uint32_t)(faces - left) + 1);
 }
 
 /* The adaptive walk as the paper has it: on clear runs the two values of the 26-line (f and g, of the shorter axes v and w against the longest,
-   u), all three of the tripod where the way is near. vw is the third one times U, since it is had from the two others; -1 puts a tie on the
-   side of the axis that goes first. Whether a cell is a start that is not tested is asked of solid ones alone, so it takes no time on the way. */
+   u), all three of the tripod where the way is near. vw is the third one times U, since it is had from the two others; -1 puts a tie on the side
+   of the axis that goes first, which is the other one where ties are turned. Whether a cell is a start that is not tested is asked of solid ones
+   alone, so it takes no time on the way. */
 oat_hit BY(adaptive)(oat_counts n, const uint8_t *cells, size_t bytes, oat_cell p, oat_cell q, oat_manner how) {
     (void)bytes;
     way way = way_of(p, q);
-    int U = longest(way), by_x = U == way.a, by_y = !by_x && U == way.b, by_z = !by_x && !by_y;
+    int tie = turned(p, q, how.rule), U = longest(way), by_x = U == way.a, by_y = !by_x && U == way.b, by_z = !by_x && !by_y;
     int V = by_x ? way.b : way.a, W = by_z ? way.b : way.c;
     ptrdiff_t sx = way.x, sy = way.y * (ptrdiff_t)n.nx, sz = way.z * (ptrdiff_t)n.nx * n.ny;
     ptrdiff_t su = by_x ? sx : by_y ? sy : sz, sv = by_x ? sy : sx, sw = by_z ? sy : sz;
@@ -140,8 +149,8 @@ oat_hit BY(adaptive)(oat_counts n, const uint8_t *cells, size_t bytes, oat_cell 
             } while (--left && *at == OAT_CLEAR);
             continue;
         }
-        int uv = f - V - !by_x, uw = g - W - by_y;
-        int64_t vw = (int64_t)V * (g - W) - (int64_t)W * (f - V) - by_x, vw_v = (int64_t)U2 * W, vw_w = (int64_t)U2 * V;
+        int uv = f - V - (tie ^ !by_x), uw = g - W - (tie ^ by_y);
+        int64_t vw = (int64_t)V * (g - W) - (int64_t)W * (f - V) - (tie ^ by_x), vw_v = (int64_t)U2 * W, vw_w = (int64_t)U2 * V;
         do {
             int faces = 1 + (f >= 0) + (g >= 0);
             f += f >= 0 ? V2 - U2 : V2;
@@ -150,7 +159,7 @@ oat_hit BY(adaptive)(oat_counts n, const uint8_t *cells, size_t bytes, oat_cell 
             more += (uint32_t)faces - 1;
             do {
                 if (*at >= OAT_SOLID_LEAST && at != exempt)
-                    return BY(found)(n, cells, at, p, way, (uint32_t)(U - left) + more - (uint32_t)faces);
+                    return BY(found)(n, cells, at, p, way, tie, (uint32_t)(U - left) + more - (uint32_t)faces);
                 if (vw < 0) {
                     if (uv >= 0) at += sv, uv -= U2, vw += vw_v;
                     else at += su, uv += V2, uw += W2;
@@ -161,7 +170,7 @@ oat_hit BY(adaptive)(oat_counts n, const uint8_t *cells, size_t bytes, oat_cell 
             } while (--faces);
         } while (left && *at != OAT_CLEAR);
     }
-    return BY(found)(n, cells, at, p, way, (uint32_t)U + more);
+    return BY(found)(n, cells, at, p, way, tie, (uint32_t)U + more);
 }
 
 /* points within the grid, so that a quotient rounded towards 0 is the cell */
