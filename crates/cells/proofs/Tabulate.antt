@@ -1,10 +1,10 @@
 -- Laws of `tabulate`, a list by its index. Assumes nothing.
-use Prim.Native.Nat.{ℕ, zero, suc, _<_}
+use Prim.Native.Nat.{ℕ, zero, suc, _-_, _<_}
 use native.Mathlib.Nat.{eq-or-lt-of-le}
 use native.Mathlib.Omega.{arith}
-use mathlib.Core.Path.{_≡_, refl, sym, subst, ap, _∙_}
+use mathlib.Core.Path.{_≡_, refl, sym, subst, ap, ap₂, _∙_}
 use mathlib.Core.Logic.{_⊎_, inl, inr}
-use mathlib.Core.List.{List, [], _∷_, _++_}
+use mathlib.Core.List.{List, [], _∷_, _++_, reverse, reverse-cons}
 use lib.ListN.{length, getD, length-append, List·getD-append}
 use lib.Seq.{getD-append-seam, ext-getD}
 use Rattle.cells.specs.Tabulate.{tabulate}
@@ -27,3 +27,23 @@ pub is-tabulate : {A : Type 0} (f : ℕ → A) (n : ℕ) (d : A) (xs : List A) �
 is-tabulate f n d xs l h =
     ext-getD d xs (tabulate f n) (l ∙ sym (tabulate-length f n))
     (λ i b. let k : i < n = subst (λ (m : ℕ). i < m) l b in h i k ∙ sym (tabulate-at f n i d k))
+
+-- the same at each index
+pub tabulate-same : {A : Type 0} (f g : ℕ → A) (n : ℕ) → ((i : ℕ) → i < n → f i ≡ g i) → tabulate f n ≡ tabulate g n
+tabulate-same f g zero same = refl
+tabulate-same f g (suc n) same = ap₂ (λ l c. l ++ (c ∷ [])) (tabulate-same f g n (λ i lt. same i (omega arith))) (same n (omega arith))
+
+-- from the first on
+tabulate-first : {A : Type 0} (f : ℕ → A) (n : ℕ) → tabulate f (suc n) ≡ f 0 ∷ tabulate (λ i. f (suc i)) n
+tabulate-first f zero = refl
+tabulate-first f (suc n) = ap (λ l. l ++ (f (suc n) ∷ [])) (tabulate-first f n)
+
+-- from the other end
+pub tabulate-reverse : {A : Type 0} (f g : ℕ → A) (n : ℕ) → ((i : ℕ) → i < n → g i ≡ f (n - 1 - i)) → tabulate g n ≡ reverse (tabulate f n)
+tabulate-reverse f g zero back = refl
+tabulate-reverse f g (suc n) back =
+    let ends : suc n - 1 - n ≡ 0 = omega arith in
+    ap₂ (λ l c. l ++ (c ∷ []))
+    (tabulate-reverse (λ i. f (suc i)) g n (λ i lt. let e : suc n - 1 - i ≡ suc (n - 1 - i) = omega arith in back i (omega arith) ∙ ap f e))
+    (back n (omega arith) ∙ ap f ends)
+    ∙ sym (reverse-cons (f 0) (tabulate (λ i. f (suc i)) n)) ∙ ap reverse (sym (tabulate-first f n))

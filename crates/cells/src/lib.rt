@@ -1,6 +1,6 @@
 // The shared words: axes, ends, cells, counts, entry faces, how a walk is made, the four parts of a placement, and the refusals.
 ghost use mathlib.Core.Path.{_≡_};
-ghost use Rattle.cells.specs.Manners.{is-tested, usual};
+ghost use Rattle.cells.specs.Manners.{is-tested, usual, rule-of, rule-check};
 ghost use Rattle.cells.specs.Refusals.{NumberOf};
 
 // The three axes.
@@ -47,9 +47,18 @@ pub enum Start {
     Tested,
 }
 
+// Which face a line crosses first where it could cross two or three at one point.
+pub enum Rule {
+    // that of y, then of z, then of x
+    One,
+    // the same from the end that comes first by z, then y, then x; from the other the reverse, so that the line back is the mirror
+    Two,
+}
+
 // How a walk is made, as its caller names it.
 pub struct Manner {
     pub start: Start,
+    pub rule: Rule,
 }
 
 impl Manner {
@@ -59,6 +68,7 @@ impl Manner {
     {
         Manner {
             start: Start::Untested,
+            rule: Rule::One,
         }
     }
 
@@ -104,8 +114,10 @@ pub enum Refusal {
     OffSurvey(End, Axis),
     // 10: a record cut short or of the wrong length
     Record,
-    // 11: version byte not 1
+    // 11: a version that is not known
     Version,
+    // 12: a number that names no rule
+    NoRule,
 }
 
 // What the tests of a call's inputs come to.
@@ -130,5 +142,26 @@ pub fn number(r: Refusal) -> u32
         Refusal::OffSurvey(_, _) => 9,
         Refusal::Record => 10,
         Refusal::Version => 11,
+        Refusal::NoRule => 12,
     }
+}
+
+// Refusal 12 unless the number names a rule.
+pub fn check_rule(number: u32) -> Verdict
+    ensures { λ v. ⌜ v ≡ rule-check number ⌝ }
+{
+    if number == 1 {
+        return Verdict::Fine;
+    }
+    if number == 2 {
+        return Verdict::Fine;
+    }
+    Verdict::Refused(Refusal::NoRule)
+}
+
+// The rule that a number names.
+pub fn rule_of(number: u32) -> Rule
+    ensures { λ r. ⌜ r ≡ rule-of number ⌝ }
+{
+    if number == 2 { Rule::Two } else { Rule::One }
 }

@@ -3,30 +3,55 @@ use Prim.Native.Nat.{ℕ}
 use mathlib.Core.Path.{_≡_, refl, sym, ap, _∙_}
 use mathlib.Core.List.{List}
 use native.Mathlib.Omega.{arith}
-use lib.IntN.{pos, natAbs}
+use lib.IntN.{ℤ, pos, natAbs}
 use lib.ListN.{length, getD}
+use Rattle.cells.specs.declared.Cell.{Cell}
+use Rattle.cells.specs.declared.Counts.{Counts}
 use Rattle.cells.specs.declared.Refusal.{Refusal}
+use Rattle.cells.specs.declared.Rule.{Rule}
+use Rattle.cells.specs.declared.Rule.the-variants as Rule
 use Rattle.cells.specs.declared.Verdict.{Verdict}
 use Rattle.cells.specs.declared.Verdict.the-variants as Verdict
-use Rattle.lines.specs.Lines.{six-line}
-use Rattle.cells.specs.Checks.{by-verdict}
+use Rattle.cells.specs.Checks.{_then_, by-verdict}
+use Rattle.cells.specs.Manners.{rule-of, rule-check}
+use Rattle.lines.specs.Preference.{order-of, by-rule}
+use Rattle.lines.specs.Lines.{six-line, line-26}
+use Rattle.lists.specs.declared.Listed.{Listed}
 use Rattle.lists.specs.declared.Listed.the-variants as Listed
-use Rattle.lists.specs.Lists.{list-check, filled}
+use Rattle.lists.specs.Lists.{list-check, filled, Line6}
 use Rattle.grids.specs.Grid.{shape, layer-part}
 use Rattle.grids.specs.Marks.{marked, complete, completeness}
+use Rattle.walks.specs.declared.Walker.{Walker}
+use Rattle.walks.specs.declared.FirstHit.{FirstHit}
+use Rattle.walks.specs.declared.FirstHit.the-variants as FirstHit
+use Rattle.walks.specs.Answers.{first-hit, Finds}
+use Rattle.survey.specs.declared.Placement.{Placement}
+use Rattle.survey.specs.declared.Point.{Point}
+use Rattle.sight.specs.declared.Sight.{Sight}
+use Rattle.sight.specs.declared.Sight.the-variants as Sight
+use Rattle.sight.specs.Sight.{sight, Sees}
 use Rattle.records.specs.Venues.{venue-head}
 use Rattle.records.specs.declared.writing.Written.the-variants as Written
 use Rattle.records.specs.Writing.{record-length, write-check, after-writing}
+use Rattle.oatmarten.specs.declared.inputs.OatManner.{OatManner}
 use Rattle.oatmarten.specs.declared.refusals.OatSaid.{OatSaid}
+use Rattle.oatmarten.specs.declared.line_calls.OatListed.{OatListed}
+use Rattle.oatmarten.specs.declared.walk_calls.OatHit.{OatHit}
+use Rattle.oatmarten.specs.declared.sight_calls.OatSight.{OatSight}
 use Rattle.oatmarten.specs.Refusals.{accepted}
-use Rattle.oatmarten.specs.Flattening.{Flattens}
-use Rattle.oatmarten.specs.LineCalls.{flat-listed}
+use Rattle.oatmarten.specs.Flattening.{Flattens, After}
+use Rattle.oatmarten.specs.Inputs.{as-start, as-manner}
+use Rattle.oatmarten.specs.LineCalls.{flat-listed, FlatLine6}
 use Rattle.oatmarten.specs.GridCalls.{flat-verdict, flat-complete, flat-part}
-use Rattle.oatmarten.specs.WalkCalls.{flat-hit}
-use Rattle.oatmarten.specs.SightCalls.{flat-found, flat-sight}
-use Rattle.oatmarten.specs.RecordCalls.{flat-venue, flat-pair, flat-written}
+use Rattle.oatmarten.specs.WalkCalls.{flat-hit, FlatFinds}
+use Rattle.oatmarten.specs.SightCalls.{flat-found, flat-sight, FlatSees}
+use Rattle.oatmarten.specs.RecordCalls.{rule-number, flat-venue, flat-pair, flat-written}
 use Rattle.claims.proofs.Grids.{one}
-use Rattle.claims.specs.Exports.{One, ExportsOnce, RefusedUntouched, WrongExports, ExportsAre}
+use Rattle.claims.proofs.Flattenings.{input-rows}
+use Rattle.claims.proofs.Refused.{after-says}
+use Rattle.claims.specs.Example.{at}
+use Rattle.claims.specs.Exports.{One, ExportsOnce, RefusedUntouched, WrongExports, ExportsAre, NoSuchRule}
+use Rattle.claims.specs.Lists.{room}
 
 -- ---- one answer, one final memory
 
@@ -39,18 +64,56 @@ same-flat flat m n h k = h .flat ∙ ap flat (m (h .answer) (h .meets) ∙ sym (
 flat-one : {A F : Type 0} (flat : A → F) {Meets : A → Type 0} {f : A} → ((a : A) → Meets a → a ≡ f) → One (Flattens flat Meets)
 flat-one flat says r s = same-flat flat says says
 
+-- what a call says after a test of its own, by that verdict
+after-call : {A : Type 0} (refused : Refusal → A) {x a : A} {meets : Type 0} (v : Verdict) → (meets → a ≡ x) → After v (λ r. a ≡ refused r) meets →
+    a ≡ by-verdict refused x v
+after-call refused Verdict.Fine says h = says h
+after-call refused (Verdict.Refused r) says h = h
+
+-- the 6-line after the test of its rule, in one verdict: its answer, and the memory
+module _ (rule : ℕ) (p q : Cell) (entry exit : List ℤ) where
+  abbrev line : List Cell
+  line = six-line (by-rule (rule-of rule) p q) p q
+
+  abbrev line-check : Verdict
+  line-check = list-check p q (length line) (length entry)
+
+  abbrev MeetsLine6 : Listed → Type 0
+  MeetsLine6 a = After (rule-check rule) (λ why. (a ≡ Listed.Refused why) × (exit ≡ entry)) (Line6 (rule-of rule) p q entry a exit)
+
+  line6-says : (a : Listed) → MeetsLine6 a → a ≡ by-verdict Listed.Refused (Listed.Cells (length line)) (rule-check rule then line-check)
+  line6-says a = after-says Listed.Refused (Listed.Cells (length line)) (rule-check rule) line-check (λ r m. m .0) (λ m. m .says)
+
+  line6-holds : (a : Listed) → MeetsLine6 a → exit ≡ by-verdict (λ r. entry) (filled line entry) (rule-check rule then line-check)
+  line6-holds a = after-says (λ r. entry) (filled line entry) (rule-check rule) line-check (λ r m. m .1) (λ m. m .holds)
+
+-- a walk and a sight after the test of the rule
+walk-says : (w : Walker) (how : OatManner) (n : Counts) (cells : List ℕ) (p q : Cell) (a : FirstHit) →
+    After (rule-check (how .rule)) (λ why. a ≡ FirstHit.Refused why) (Finds w (as-manner how) n cells p q a) →
+    a ≡ by-verdict FirstHit.Refused (first-hit w (as-manner how) n cells p q) (rule-check (how .rule))
+walk-says w how n cells p q a = after-call FirstHit.Refused (rule-check (how .rule)) (λ m. m .says)
+
+sight-says : (how : OatManner) (n : Counts) (cells : List ℕ) (at : Placement) (camera ball : Point) (a : Sight) →
+    After (rule-check (how .rule)) (λ why. a ≡ Sight.Refused why) (Sees (as-manner how) n cells at camera ball a) →
+    a ≡ by-verdict Sight.Refused (sight (as-manner how) n cells at camera ball) (rule-check (how .rule))
+sight-says how n cells at camera ball a = after-call Sight.Refused (rule-check (how .rule)) (λ m. m .says)
+
 pub exports-once : ExportsOnce
 exports-once =
     record {
-      lines = λ line p q entry r s exit last h k.
+      line6 = λ rule p q entry r s exit last h k. (
+        same-flat flat-listed (line6-says rule p q entry exit) (line6-says rule p q entry last) h k,
+        one exit last (line6-holds rule p q entry exit (h .answer) (h .meets)) (line6-holds rule p q entry last (k .answer) (k .meets)),
+      );
+      line26 = λ p q entry r s exit last h k.
           (same-flat flat-listed (λ a m. m .says) (λ a m. m .says) h k, one exit last (h .meets .holds) (k .meets .holds));
       mark = λ n entry r s exit last h k.
           (same-flat flat-verdict (λ a m. m .says) (λ a m. m .says) h k, one exit last (h .meets .holds) (k .meets .holds));
       complete = λ n cells. flat-one flat-complete (λ a m. m .says);
       layer = λ n bytes z. flat-one flat-part (λ a m. m .says);
-      walks = λ w how n cells p q. flat-one flat-hit (λ a m. m .says);
+      walks = λ w how n cells p q. flat-one flat-hit (walk-says w how n cells p q);
       found = λ n at p. flat-one flat-found (λ a m. m .says);
-      seen = λ how n cells at camera ball. flat-one flat-sight (λ a m. m .says);
+      seen = λ how n cells at camera ball. flat-one flat-sight (sight-says how n cells at camera ball);
       venue = λ bytes. flat-one flat-venue (λ a m. m .says);
       pair = λ bytes. flat-one flat-pair (λ a m. m .says);
       written = λ n cells entry r s exit last h k.
@@ -69,10 +132,15 @@ untouched said flat after fine kept (Verdict.Refused x) e f refused = f ∙ kept
 pub refused-untouched : RefusedUntouched
 refused-untouched =
     record {
-      lines = λ line p q entry r exit h.
-          untouched (λ f. f .said) (λ v. flat-listed (by-verdict Listed.Refused (Listed.Cells (length line)) v))
-          (by-verdict (λ x. entry) (filled line entry)) refl (λ x. refl)
-          (list-check p q (length line) (length entry)) (h .flat ∙ ap flat-listed (h .meets .says)) (h .meets .holds);
+      line6 = λ rule p q entry r exit h.
+          let l = line rule p q entry exit in
+          untouched (λ f. f .said) (λ v. flat-listed (by-verdict Listed.Refused (Listed.Cells (length l)) v))
+          (by-verdict (λ x. entry) (filled l entry)) refl (λ x. refl) (rule-check rule then line-check rule p q entry exit)
+          (h .flat ∙ ap flat-listed (line6-says rule p q entry exit (h .answer) (h .meets))) (line6-holds rule p q entry exit (h .answer) (h .meets));
+      line26 = λ p q entry r exit h.
+          untouched (λ f. f .said) (λ v. flat-listed (by-verdict Listed.Refused (Listed.Cells (length (line-26 p q))) v))
+          (by-verdict (λ x. entry) (filled (line-26 p q) entry)) refl (λ x. refl)
+          (list-check p q (length (line-26 p q)) (length entry)) (h .flat ∙ ap flat-listed (h .meets .says)) (h .meets .holds);
       mark = λ n entry r exit h.
           untouched (λ f. f .said) flat-verdict (by-verdict (λ x. entry) (marked 3 n entry)) refl (λ x. refl) (shape n (length entry))
           (h .flat ∙ ap flat-verdict (h .meets .says)) (h .meets .holds);
@@ -84,11 +152,17 @@ refused-untouched =
 
 -- ---- wrong answers
 
+idle-line : (rule : Rule) (r : OatListed) → FlatLine6 (rule-number rule) (at 0 0 0) (at 2 1 0) room r room → ⊥
+unfolding six-line order-of rule-check rule-of
+idle-line Rule.One r h = let z : _≡_ {A = ℕ} 7 0 = ap (λ l. natAbs (getD l 0 (pos 0))) (h .meets .holds) in omega arith
+idle-line Rule.Two r h = let z : _≡_ {A = ℕ} 7 0 = ap (λ l. natAbs (getD l 0 (pos 0))) (h .meets .holds) in omega arith
+
 pub wrong-exports : WrongExports
-unfolding six-line shape marked complete completeness layer-part venue-head write-check
+unfolding shape marked complete completeness layer-part venue-head write-check rule-check
 wrong-exports =
     record {
-      idle-line = λ r h. let z : _≡_ {A = ℕ} 7 0 = ap (λ l. natAbs (getD l 0 (pos 0))) (h .meets .holds) in omega arith;
+      idle-line = idle-line;
+      zeroed-manner = λ w n cells p q r h other. other (ap (λ f. f .said .refusal) (h .flat ∙ ap flat-hit (h .meets)));
       idle-marker = λ r h. let z : _≡_ {A = ℕ} 0 1 = ap (λ (l : List ℕ). getD l 0 0) (h .meets .holds) in omega arith;
       idle-writer = λ r h. let z : _≡_ {A = ℕ} 99 0 = ap (λ (l : List ℕ). getD l 0 0) (h .meets .holds) in omega arith;
       refusing-marker = λ r exit h k.
@@ -101,18 +175,63 @@ wrong-exports =
 
 -- ---- what the calls of the engine give
 
+-- where the number names a rule there is nothing before the call
+module _ (p q : Cell) where
+  line6-is : (rule : Rule) (entry exit : List ℤ) (r : OatListed) → FlatLine6 (rule-number rule) p q entry r exit →
+      (a : Listed) × Line6 rule p q entry a exit × (r ≡ flat-listed a)
+  unfolding rule-check rule-of
+  line6-is Rule.One entry exit r h = (h .answer, h .meets, h .flat)
+  line6-is Rule.Two entry exit r h = (h .answer, h .meets, h .flat)
+
+  walk-is : (rule : Rule) (w : Walker) (s : ℕ) (n : Counts) (cells : List ℕ) (r : OatHit) →
+      FlatFinds w (record { start = s; rule = rule-number rule }) n cells p q r →
+      (a : FirstHit) × Finds w (record { start = as-start s; rule = rule }) n cells p q a × (r ≡ flat-hit a)
+  unfolding rule-check rule-of
+  walk-is Rule.One w s n cells r h = (h .answer, h .meets, h .flat)
+  walk-is Rule.Two w s n cells r h = (h .answer, h .meets, h .flat)
+
+sight-is : (rule : Rule) (s : ℕ) (n : Counts) (cells : List ℕ) (at : Placement) (camera ball : Point) (r : OatSight) →
+    FlatSees (record { start = s; rule = rule-number rule }) n cells at camera ball r →
+    (a : Sight) × Sees (record { start = as-start s; rule = rule }) n cells at camera ball a × (r ≡ flat-sight a)
+unfolding rule-check rule-of
+sight-is Rule.One s n cells at camera ball r h = (h .answer, h .meets, h .flat)
+sight-is Rule.Two s n cells at camera ball r h = (h .answer, h .meets, h .flat)
+
 pub exports-are : ExportsAre
 exports-are =
     record {
-      line6 = λ p q entry exit r h. (h .answer, h .meets, h .flat);
+      line6 = λ rule p q. line6-is p q rule;
       line26 = λ p q entry exit r h. (h .answer, h .meets, h .flat);
       mark = λ n entry exit r h. (h .answer, h .meets, h .flat);
       complete = λ n cells r h. (h .answer, h .meets, h .flat);
       layer = λ n bytes z r h. (h .answer, h .meets, h .flat);
-      walks = λ w how n cells p q r h. (h .answer, h .meets, h .flat);
+      walks = λ w s rule n cells p q. walk-is p q rule w s n cells;
       found = λ n at p r h. (h .answer, h .meets, h .flat);
-      seen = λ how n cells at camera ball r h. (h .answer, h .meets, h .flat);
+      seen = λ s rule. sight-is rule s;
       venue = λ bytes r h. (h .answer, h .meets, h .flat);
       pair = λ bytes r h. (h .answer, h .meets, h .flat);
       written = λ n cells entry exit r h. (h .answer, h .meets, h .flat);
+    }
+
+-- ---- a number that names no rule
+
+pub no-such-rule : (number : ℕ) → NoSuchRule number
+no-such-rule number =
+    record {
+      line6 = λ not-1 not-2 p q entry exit r h.
+          let none = input-rows .no-rule number not-1 not-2 in
+          let l = line number p q entry exit in
+          let rest = line-check number p q entry exit in (
+            h .flat ∙ ap flat-listed (line6-says number p q entry exit (h .answer) (h .meets)
+                ∙ ap (λ v. by-verdict Listed.Refused (Listed.Cells (length l)) (v then rest)) none),
+            line6-holds number p q entry exit (h .answer) (h .meets) ∙ ap (λ v. by-verdict (λ r. entry) (filled l entry) (v then rest)) none,
+          );
+      walks = λ not-1 not-2 w s n cells p q r h.
+          let how : OatManner = record { start = s; rule = number } in
+          h .flat ∙ ap flat-hit (walk-says w how n cells p q (h .answer) (h .meets)
+          ∙ ap (by-verdict FirstHit.Refused (first-hit w (as-manner how) n cells p q)) (input-rows .no-rule number not-1 not-2));
+      seen = λ not-1 not-2 s n cells at camera ball r h.
+          let how : OatManner = record { start = s; rule = number } in
+          h .flat ∙ ap flat-sight (sight-says how n cells at camera ball (h .answer) (h .meets)
+          ∙ ap (by-verdict Sight.Refused (sight (as-manner how) n cells at camera ball)) (input-rows .no-rule number not-1 not-2));
     }

@@ -19,10 +19,13 @@ use Rattle.cells.specs.declared.Face.the-variants as Face
 use Rattle.cells.specs.declared.Part.{Part}
 use Rattle.cells.specs.declared.Part.the-variants.{OriginX, OriginY, OriginZ, Edge}
 use Rattle.cells.specs.declared.Refusal.{Refusal}
+use Rattle.cells.specs.declared.Rule.{Rule}
+use Rattle.cells.specs.declared.Rule.the-variants.{One, Two}
 use Rattle.cells.specs.declared.Start.the-variants.{Untested, Tested}
-use Rattle.cells.specs.declared.Refusal.the-variants.{Limit, Count, Bytes, Layer, OffGrid, Room, Placement, NotFinite, OffSurvey, Record, Version}
+use Rattle.cells.specs.declared.Refusal.the-variants.{Limit, Count, Bytes, Layer, OffGrid, Room, Placement, NotFinite, OffSurvey, Record, Version, NoRule}
 use Rattle.cells.specs.declared.Verdict.{Verdict}
 use Rattle.cells.specs.declared.Verdict.the-variants as Verdict
+use Rattle.cells.specs.Manners.{rule-of, rule-check}
 use Rattle.cells.specs.Refusals.{Told, told, told-verdict}
 use Rattle.cells.proofs.Refusals.{numbered-of, untold, told-back, tells-apart}
 use Rattle.lists.specs.declared.Listed.{Listed}
@@ -35,6 +38,7 @@ use Rattle.grids.specs.declared.Completeness.the-variants as Completeness
 use Rattle.grids.specs.Grid.{shape, told-part}
 use Rattle.grids.specs.Inside.{walk-check}
 use Rattle.grids.specs.Marks.{complete, told-completeness}
+use Rattle.walks.specs.declared.Walker.the-variants.{Plain}
 use Rattle.walks.specs.declared.Hit.{Hit}
 use Rattle.walks.specs.declared.FirstHit.{FirstHit}
 use Rattle.walks.specs.declared.FirstHit.the-variants as FirstHit
@@ -72,10 +76,11 @@ use Rattle.oatmarten.specs.Refusals.{end-number, axis-number, part-number, acce
 use Rattle.oatmarten.specs.Faces.{face-number}
 use Rattle.oatmarten.specs.LineCalls.{flat-listed}
 use Rattle.oatmarten.specs.GridCalls.{flat-verdict, flat-complete, flat-part}
-use Rattle.oatmarten.specs.WalkCalls.{flat-hit}
+use Rattle.oatmarten.specs.WalkCalls.{flat-hit, FlatFinds}
 use Rattle.oatmarten.specs.SightCalls.{flat-found, flat-sight}
-use Rattle.oatmarten.specs.RecordCalls.{flat-venue, flat-pair, flat-written}
-use Rattle.claims.specs.Flattenings.{Flattened, Flattenings, InTable, SaidNumbers, FlatRows, InputRows}
+use Rattle.oatmarten.specs.RecordCalls.{rule-number, flat-venue, flat-pair, flat-written}
+use Rattle.claims.specs.Example.{at, example-counts, example-cells}
+use Rattle.claims.specs.Flattenings.{Flattened, Flattenings, InTable, three, SaidNumbers, FlatRows, InputRows}
 
 -- ---- the numbers of a refusal: they have a left inverse
 
@@ -91,6 +96,7 @@ in-table (NotFinite e a) = (omega arith, omega arith)
 in-table (OffSurvey e a) = (omega arith, omega arith)
 in-table Record = (omega arith, omega arith)
 in-table Version = (omega arith, omega arith)
+in-table NoRule = (omega arith, omega arith)
 
 abbrev end-of : ℕ → Option End
 end-of k = numbered-of k ((1, some P) ∷ (2, some Q) ∷ [])
@@ -142,12 +148,18 @@ meant-told (NotFinite e a) = rw (end-back e, axis-back a)
 meant-told (OffSurvey e a) = rw (end-back e, axis-back a)
 meant-told Record = refl
 meant-told Version = refl
+meant-told NoRule = refl
 
 refusal-back : (r : Refusal) → untold (meant (flat-refusal r)) ≡ some r
 refusal-back r = ap untold (meant-told r) ∙ told-back r
 
+q-off-y : (start : ℕ) (rule : Rule) (r : OatHit) →
+    FlatFinds Plain (record { start = start; rule = rule-number rule }) example-counts example-cells (at 0 0 0) (at 0 2 0) r → r .said ≡ three 5 2 2
+unfolding first-hit walk-check shape rule-check
+q-off-y start One r h = ap (λ f. f .said) (h .flat ∙ ap flat-hit (h .meets .says))
+q-off-y start Two r h = ap (λ f. f .said) (h .flat ∙ ap flat-hit (h .meets .says))
+
 pub said-numbers : SaidNumbers
-unfolding first-hit walk-check shape
 said-numbers =
     record {
       ends = (refl, refl);
@@ -156,6 +168,7 @@ said-numbers =
       no-face = refl;
       rising = (refl, refl, refl);
       falling = (refl, refl, refl);
+      rules = (refl, refl);
       fine = refl;
       limit = λ e a. refl;
       count = λ a. refl;
@@ -168,9 +181,10 @@ said-numbers =
       off-survey = λ e a. refl;
       no-record = refl;
       version = refl;
+      no-rule = refl;
       in-table = in-table;
       apart = tells-apart flat-refusal (λ s. untold (meant s)) refusal-back;
-      q-off-y = λ how r h. ap (λ f. f .said) (h .flat ∙ ap flat-hit (h .meets .says));
+      q-off-y = q-off-y;
     }
 
 -- ---- each flattening: what C reads, and a left inverse
@@ -323,11 +337,22 @@ venue-case : (a : VenueRead) → Case told-venue flat-venue (λ f. f .said) Venu
 venue-case (VenueRead.Read v) = fine (v .counts, v .start, v .long) refl refl refl
 venue-case (VenueRead.Refused r) = refused r refl refl refl
 
+named-rule : (rule : Rule) → (rule-check (rule-number rule) ≡ Verdict.Fine) × (rule-of (rule-number rule) ≡ rule)
+unfolding rule-check rule-of
+named-rule One = (refl, refl)
+named-rule Two = (refl, refl)
+
 abbrev pair-values : OatPair → PairRead
-pair-values f = PairRead.Read (record { p = record { x = f .px; y = f .py; z = f .pz }; q = record { x = f .qx; y = f .qy; z = f .qz } })
+pair-values f =
+    PairRead.Read (record {
+      p = record { x = f .px; y = f .py; z = f .pz };
+      q = record { x = f .qx; y = f .qy; z = f .qz };
+      rule = rule-of (f .rule);
+    })
 
 pair-case : (a : PairRead) → Case told-pair flat-pair (λ f. f .said) PairRead.Refused pair-values a
-pair-case (PairRead.Read e) = fine (e .p, e .q) refl refl refl
+pair-case (PairRead.Read e) =
+    fine (e .p, e .q, e .rule) (λ i. PairRead.Read (record { p = e .p; q = e .q; rule = named-rule (e .rule) .1 i })) refl refl
 pair-case (PairRead.Refused r) = refused r refl refl refl
 
 abbrev written-values : OatWritten → Written
@@ -376,19 +401,24 @@ flat-rows =
       sight-refused = λ r. refl;
       venue = λ nx ny nz start long. refl;
       venue-refused = λ r. refl;
-      pair = λ px py pz qx qy qz. refl;
+      pair = λ px py pz qx qy qz rule. refl;
       pair-refused = λ r. refl;
       written = λ many. refl;
       written-refused = λ r. refl;
     }
 
 pub input-rows : InputRows
+unfolding rule-of rule-check
 input-rows =
     record {
       cell = λ x y z. refl;
       counts = λ nx ny nz. refl;
       untested = refl;
-      tested = λ number other. λ i. record { start = cond (ne-eqb number 0 other i) Untested Tested };
+      untested-two = refl;
+      tested = λ number other. λ i. record { start = cond (ne-eqb number 0 other i) Untested Tested; rule = One };
+      tested-two = λ number other. λ i. record { start = cond (ne-eqb number 0 other i) Untested Tested; rule = Two };
+      named-rule = named-rule;
+      no-rule = λ number one two. rw (ne-eqb number 1 one, ne-eqb number 2 two);
       placement = λ ox oy oz edge. refl;
       point = λ x y z. refl;
     }

@@ -1,11 +1,11 @@
 -- The three demands, from the claims. Assumes nothing.
 use Rattle.claims.specs.Headline.{TakesAnything, AreThePapers, TellOneStory}
-use Rattle.lines.specs.Preference.{rule-1}
+use Rattle.lines.specs.Preference.{by-rule}
 use Rattle.lines.specs.Lines.{differences}
 use Rattle.claims.proofs.Ties.{asks-nothing, promised}
 use Rattle.claims.proofs.ExportTies.{exports-promised, exports-ask-nothing}
-use Rattle.claims.proofs.Refused.{lines-told, grids-told, points-told, records-told}
-use Rattle.claims.proofs.Exports.{exports-are, exports-once, refused-untouched}
+use Rattle.claims.proofs.Refused.{lines-told, grids-told, points-told, records-told, rules-told}
+use Rattle.claims.proofs.Exports.{exports-are, exports-once, refused-untouched, no-such-rule}
 use Rattle.claims.proofs.Flattenings.{flattenings}
 use Rattle.claims.proofs.Words.{one-number}
 use Rattle.claims.proofs.Lists.{listed-once, cells-listed}
@@ -17,6 +17,7 @@ use Rattle.claims.proofs.Sights.{seen-once, nothing-in-sight}
 use Rattle.claims.proofs.Story.{hit-once, hit-face, first-on-line, walks-end, step-by-step, adaptive-step, as-its-walk}
 use Rattle.claims.proofs.Story.{one-story, never-invented}
 use Rattle.claims.proofs.Starts.{start-tests, two-starts}
+use Rattle.claims.proofs.Rules.{the-rules, mirrored, both-ways}
 
 pub takes-anything : TakesAnything
 takes-anything =
@@ -36,21 +37,24 @@ takes-anything =
       point-refusals = points-told;
       record-refusals = records-told;
       for-c = (exports-ask-nothing, exports-promised, exports-are, flattenings, exports-once, refused-untouched);
+      rules-for-c = (rules-told, no-such-rule);
     }
 
 pub are-the-papers : AreThePapers
 are-the-papers =
     record {
-      order = λ p q. one-place rule-1 (differences p q);
-      six = six-line-holds rule-1;
-      touched = λ p q. each-cell-touched rule-1 p q .touched;
-      none-missing = λ p q. no-cell-missing rule-1 p q .found;
-      twenty-six = line-26-holds rule-1;
+      rules = the-rules;
+      order = λ rule p q. one-place (by-rule rule p q) (differences p q);
+      six = λ rule p q. six-line-holds (by-rule rule p q) p q;
+      touched = λ rule p q. each-cell-touched (by-rule rule p q) p q .touched;
+      none-missing = λ rule p q. no-cell-missing (by-rule rule p q) p q .found;
+      twenty-six = λ rule p q. line-26-holds (by-rule rule p q) p q;
+      mirror = mirrored;
       listed = cells-listed;
       walks = λ how n l p q. (step-by-step how n l p q, walks-end how n l p q);
       tests = start-tests;
       answers = as-its-walk;
-      adaptive = adaptive-step;
+      adaptive = λ rule n l p q. adaptive-step (by-rule rule p q) n l p q;
       plain = first-on-line;
       read-back = λ n cells entry exit k. records.read-back-same n cells entry .same exit k;
     }
@@ -63,4 +67,5 @@ tell-one-story =
       never-invented = λ how n l p q k plain ha hp. let (h, is, place, order) = never-invented how n l p q .plain-too k plain ha hp in (h, is, order);
       faces = hit-face;
       starts = two-starts;
+      both-ways = both-ways;
     }

@@ -2,16 +2,17 @@
 use Prim.Native.Nat.{ℕ, _+_, _-_, _*_, _<_}
 use native.Mathlib.Nat.{lt-of-not-le}
 use native.Mathlib.Omega.{arith}
-use mathlib.Core.Path.{_≡_}
-use mathlib.Core.Bool.{true, not}
+use mathlib.Core.Path.{_≡_, refl}
+use mathlib.Core.Bool.{Bool, true, false, cond, not, _||_, false≢true}
 use mathlib.Core.List.{List}
-use mathlib.Core.Logic.{_↔_, _⊎_, Iff·rfl, Iff·trans, Iff·not}
+use mathlib.Core.Logic.{_↔_, _⊎_, inl, inr, ⊎-elim, Iff·rfl, Iff·trans, Iff·not}
 use lib.Dec.{eqb}
 use lib.IntN.{ℤ, pos, negℤ}
 use lib.Signed.{_<ℤ_, _≤ℤ_}
 use lib.ListN.{getD}
 use lib.Ieee.{Float, lt}
 use lib.Ieee.Scale.{finite}
+use borrow.Author.Tests.{eqb-true, eqb-false}
 use Rattle.cells.specs.declared.Axis.{Axis}
 use Rattle.cells.specs.declared.Axis.the-variants.{X, Y, Z}
 use Rattle.cells.specs.declared.Cell as cell
@@ -21,6 +22,7 @@ use Rattle.cells.specs.declared.End.the-variants.{P, Q}
 use Rattle.cells.specs.declared.Part.the-variants.{OriginX, OriginY, OriginZ, Edge}
 use Rattle.cells.specs.declared.Refusal.the-variants as Refusal
 use Rattle.cells.specs.Checks.{refuse-when}
+use Rattle.cells.specs.Manners.{names-rule, rule-check}
 use Rattle.cells.proofs.Conditions.{ltb-means, eqb-means, zero-means, not-eqb-means, ltZ-means, leZ-means, leZ-fails, not-means, or-means, not-and-means}
 use Rattle.cells.proofs.Tests.{Judges, when, _next_, next-if}
 use Rattle.lines.specs.Lines.{in-limit}
@@ -35,10 +37,10 @@ use Rattle.survey.specs.Survey.{placement-check, value-check, quotients, point-
 use Rattle.buffers.specs.Numbers.{four-at}
 use Rattle.records.specs.Heads.{whole-check}
 use Rattle.records.specs.Venues.{venue-version, venue-head, venue-check}
-use Rattle.records.specs.Pairs.{pair-version, pair-length, pair-check}
+use Rattle.records.specs.Pairs.{pair-version, pair-length, rule-byte, pair-check}
 use Rattle.records.specs.Writing.{write-check}
 use Rattle.claims.specs.Refused.{limit-tests, line-tests, count-tests, shape-tests, layer-tests, grid-tests, walk-tests, placement-tests}
-use Rattle.claims.specs.Refused.{value-tests, point-tests, whole-tests, version-test, counts-in, venue-tests, pair-tests, write-tests}
+use Rattle.claims.specs.Refused.{value-tests, point-tests, whole-tests, version-test, counts-in, venue-tests, pair-tests, write-tests, rule-test}
 
 -- ---- line lists
 
@@ -105,7 +107,19 @@ point-judged e n at p =
     value-judged e Y (n .ny) (p .y) (at .oy) (at .edge) next
     value-judged e Z (n .nz) (p .z) (at .oz) (at .edge)
 
--- ---- the sight
+-- ---- rules
+
+-- neither of two numbers
+neither-means : (k a b : ℕ) → (not (eqb k a || eqb k b) ≡ true) ↔ ((¬ (k ≡ a)) × (¬ (k ≡ b)))
+neither-means k a b = go (eqb k a) (eqb-means k a)
+  where
+    go : (t : Bool) → (t ≡ true) ↔ (k ≡ a) → (not (t || eqb k b) ≡ true) ↔ ((¬ (k ≡ a)) × (¬ (k ≡ b)))
+    go true is = (λ e. absurd (false≢true e), λ none. absurd (none .0 (is .0 refl)))
+    go false is = (λ e. (λ f. false≢true (is .1 f), not-eqb-means k b .0 e), λ none. not-eqb-means k b .1 (none .1))
+
+pub rule-judged : (number : ℕ) → Judges (rule-test number) (rule-check number)
+unfolding rule-check
+rule-judged number = when (neither-means number 1 2) Refusal.NoRule
 
 -- ---- records
 
@@ -126,9 +140,44 @@ venue-judged s =
     whole-judged s next version-judged s next next-if (when (ltb-means _ 7) Refusal.Record)
     λ seven. counts-judged (counts-in s) next when (length-means (four-at s 0) _ seven) Refusal.Bytes
 
+-- one of two versions that is not the second is the first
+first-version : (v : ℕ) → ¬ ((¬ (v ≡ 1)) × (¬ (v ≡ 2))) → ¬ (v ≡ 2) → v ≡ 1
+first-version v known other = go (eqb v 1) refl
+  where
+    go : (t : Bool) → eqb v 1 ≡ t → v ≡ 1
+    go true e = eqb-true v 1 e
+    go false e = absurd (known (eqb-false v 1 e, other))
+
+-- a length that is not that of a pair's version
+pair-length-means : (v long : ℕ) → ¬ ((¬ (v ≡ 1)) × (¬ (v ≡ 2))) →
+    (not (eqb long (pair-length v)) ≡ true) ↔ (((v ≡ 1) × (¬ (long ≡ 13))) ⊎ ((v ≡ 2) × (¬ (long ≡ 14))))
+unfolding pair-length
+pair-length-means v long known = go (eqb v 2) (eqb-means v 2)
+  where
+    go : (t : Bool) → (t ≡ true) ↔ (v ≡ 2) → (not (eqb long (cond t 14 13)) ≡ true) ↔ (((v ≡ 1) × (¬ (long ≡ 13))) ⊎ ((v ≡ 2) × (¬ (long ≡ 14))))
+    go true is = (
+      λ e. inr (is .0 refl, not-eqb-means long 14 .0 e),
+      ⊎-elim (λ (first, other). absurd (omega (arith, first, is .0 refl))) (λ (second, other). not-eqb-means long 14 .1 other),
+    )
+    go false is = (
+      λ e. inl (first-version v known (λ f. false≢true (is .1 f)), not-eqb-means long 13 .0 e),
+      ⊎-elim (λ (first, other). not-eqb-means long 13 .1 other) (λ (second, other). absurd (false≢true (is .1 second))),
+    )
+
+-- a rule byte, which only version 2 has
+rule-byte-means : (v b : ℕ) → (not (names-rule (cond (eqb v 2) b 1)) ≡ true) ↔ ((v ≡ 2) × (¬ (b ≡ 1)) × (¬ (b ≡ 2)))
+rule-byte-means v b = go (eqb v 2) (eqb-means v 2)
+  where
+    go : (t : Bool) → (t ≡ true) ↔ (v ≡ 2) → (not (names-rule (cond t b 1)) ≡ true) ↔ ((v ≡ 2) × (¬ (b ≡ 1)) × (¬ (b ≡ 2)))
+    go true is = (λ e. let (one, two) = neither-means b 1 2 .0 e in (is .0 refl, one, two), λ (second, one, two). neither-means b 1 2 .1 (one, two))
+    go false is = (λ e. absurd (false≢true e), λ (second, one, two). absurd (false≢true (is .1 second)))
+
 pub pair-judged : (s : List ℕ) → Judges (pair-tests s) (pair-check s)
-unfolding pair-check pair-version pair-length
-pair-judged s = whole-judged s next version-judged s next when (not-eqb-means _ 13) Refusal.Record
+unfolding pair-check pair-version rule-byte rule-check
+pair-judged s =
+    whole-judged s next next-if (when (neither-means (getD s 4 0) 1 2) Refusal.Version)
+    λ known. when (pair-length-means (getD s 4 0) (four-at s 0) known) Refusal.Record next
+    when (rule-byte-means (getD s 4 0) (getD s 17 0)) Refusal.NoRule
 
 pub write-judged : (n : Counts) (bytes room : ℕ) → Judges (write-tests n bytes room) (write-check n bytes room)
 unfolding write-check venue-head

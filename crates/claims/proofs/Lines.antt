@@ -2,18 +2,19 @@
 use Prim.Native.Nat.{ℕ, _<_}
 use mathlib.Core.Path.{_≡_, sym, _∙_, ap}
 use native.Mathlib.Omega.{arith}
-use lib.IntN.{pos}
+use lib.IntN.{pos, negsuc, _-ℤ_}
 use lib.Signed.{ltZ}
+use Rattle.cells.proofs.Signed.{diff-is, ≤ℤ-is}
 use Rattle.cells.specs.declared.Cell.{Cell}
 use Rattle.lines.specs.Steps.{X, Y, Z, Steps}
 use Rattle.lines.specs.Crossings.{next, place}
 use Rattle.lines.specs.Preference.{Preference}
 use Rattle.lines.specs.Lines.{differences, centres, longest}
-use Rattle.lines.specs.Decisions.{decision, values}
+use Rattle.lines.specs.Decisions.{decision, values, shift, lowered}
 use Rattle.lines.proofs.Steps.{stepped-bump}
 use Rattle.lines.proofs.Fractions.{place-in-order, in-order-is-place, place-total, place-suc, entered-by-last, last-made-one, ahead}
 use Rattle.lines.proofs.Centres.{centres-good, upto-26}
-use Rattle.lines.proofs.Signs.{sign-tells, figure-6-is-next, step-moves, stays-small, first-longest, second-longest}
+use Rattle.lines.proofs.Signs.{sign-tells, figure-6-is-next, lowered-moves, lowered-none, shift-most, stays-small, first-longest, second-longest}
 use Rattle.lines.proofs.Cells.{six-length, six-numbered, six-start, six-end, six-different, six-by-face, six-touched, six-misses-none, six-at-26}
 use Rattle.lines.proofs.Cells.{length-26, numbered-26, start-26, end-26, moves-by-one-26, longest-moves-26, skipped-touches, limited-difference}
 use Rattle.claims.specs.Lines.{OnePlace, SixLine, Touched, NoneMissing, TwentySixLine, Skipped, Signs, SmallValues, Entered, Moves, LongStep, HalfACell}
@@ -63,8 +64,9 @@ signs-tell D =
     record {
       tell-with-tie = λ r t a b h. sign-tells r D t a b ∙ ap (λ k. ltZ (decision D t a b) (pos k)) (first h);
       tell = λ r t a b h. sign-tells r D t a b ∙ ap (λ k. ltZ (decision D t a b) (pos k)) (second h);
-      pick = figure-6-is-next D;
-      move = λ t n. ap (values D) (stepped-bump t n) ∙ step-moves D t n;
+      pick = λ o. figure-6-is-next o D;
+      itself = λ t. lowered-none (values D t);
+      move = λ o t n. ap (λ u. lowered o (values D u)) (stepped-bump t n) ∙ lowered-moves o D t n;
     }
   where
     first : {k s : ℕ} → k < s → ahead k s ≡ 1
@@ -78,6 +80,13 @@ values-small p q =
     record {
       small = λ hp hq t le a b.
           stays-small (differences p q) t a b (limited-difference p q hp hq a) (limited-difference p q hp hq b) (le a) (le b);
+      lowered = λ hp hq t le o a b.
+          let z = decision (differences p q) t a b in
+          let (lo, hi) = stays-small (differences p q) t a b (limited-difference p q hp hq a) (limited-difference p q hp hq b) (le a) (le b) in
+          let l = ≤ℤ-is (negsuc 536821760) z .0 lo in
+          let h = ≤ℤ-is z (pos 536821761) .0 hi in
+          let e = diff-is z (pos (shift o)) in
+          (≤ℤ-is (negsuc 536821761) (z -ℤ pos (shift o)) .1 (omega (arith, shift-most o)), ≤ℤ-is (z -ℤ pos (shift o)) (pos 536821761) .1 (omega (arith, shift-most o)));
     }
 
 pub entered : (r : Preference) (D : Steps) → Entered r D

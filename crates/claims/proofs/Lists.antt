@@ -1,6 +1,6 @@
 -- The claims about the list calls. Assumes nothing.
 use Prim.Native.Nat.{ℕ, zero, suc, _+_, _-_, _*_, _≤_, _<_}
-use mathlib.Core.Path.{_≡_, refl, sym, ap, _∙_}
+use mathlib.Core.Path.{_≡_, refl, sym, ap, _∙_, subst}
 use mathlib.Core.Bool.{true}
 use mathlib.Core.List.{List, [], _∷_, _++_}
 use native.Mathlib.Omega.{arith}
@@ -12,18 +12,21 @@ use borrow.Author.Tests.{ltb-false}
 use Rattle.cells.specs.declared.Axis.{Axis}
 use Rattle.cells.specs.declared.Axis.the-variants.{X, Y, Z}
 use Rattle.cells.specs.declared.Cell.{Cell}
+use Rattle.cells.specs.declared.Rule.{Rule}
 use Rattle.cells.specs.declared.Verdict.the-variants as Verdict
 use Rattle.cells.specs.Touching.{on}
 use Rattle.cells.specs.Checks.{by-verdict}
 use Rattle.cells.proofs.Checks.{by-refusal, by-fine, fine-rest, passed}
-use Rattle.lines.specs.Preference.{rule-1}
+use Rattle.lines.specs.Preference.{y-z-x, comes-before, by-rule}
 use Rattle.lines.specs.Lines.{six-line, line-26, in-limit, InLimit}
 use Rattle.lines.proofs.Cells.{limited-difference, six-length, six-numbered, length-26, numbered-26}
+use Rattle.lines.proofs.Mirror.{first-order}
 use Rattle.lists.specs.declared.Listed.{Listed}
 use Rattle.lists.specs.declared.Listed.the-variants.{Cells, Refused}
-use Rattle.lists.specs.Lists.{ends-check, list-check, numbers, filled, Lists}
+use Rattle.lists.specs.Lists.{ends-check, list-check, numbers, filled, Lists, Line6}
 use Rattle.lists.proofs.Front.{numbers-length}
-use Rattle.claims.specs.Lists.{ListedOnce, three-at, CellsAt, CellsListed, Longest, LongestLists, lowest, highest, WrongLists}
+use Rattle.claims.specs.Lists.{ListedOnce, three-at, CellsAt, CellsListed, Longest, LongestLists, lowest, highest, WrongLists, room}
+use Rattle.claims.specs.Example.{at}
 use Rattle.claims.proofs.Lines.{six-line-holds, line-26-holds}
 
 -- 1 for an accepted list
@@ -63,7 +66,7 @@ numbers-at (c ∷ line) l (suc n) d lt =
 
 -- of any line
 module _ (line : List Cell) (p q : Cell) (entry exit : List ℤ) (k : ℕ) (h : Lists line p q entry (Cells k) exit) where
-  fits : (list-check p q (length line) (length entry) ≡ Verdict.Fine) × (Cells (length line) ≡ Cells k)
+  pub fits : (list-check p q (length line) (length entry) ≡ Verdict.Fine) × (Cells (length line) ≡ Cells k)
   unfolding accepted
   fits =
       by-fine Refused (list-check p q (length line) (length entry)) (Cells (length line))
@@ -76,7 +79,7 @@ module _ (line : List Cell) (p q : Cell) (entry exit : List ℤ) (k : ℕ) (h : 
   written : exit ≡ filled line entry
   written = h .holds ∙ ap (by-verdict (λ r. entry) (filled line entry)) (fits .0)
 
-  roomy : 3 * length line ≤ length entry
+  pub roomy : 3 * length line ≤ length entry
   roomy = ltb-false (length entry) (3 * length line) (passed _ _ (fine-rest (ends-check p q) _ (fits .0)))
 
   behind : (i : ℕ) → 3 * length line ≤ i → getD (filled line entry) i (pos 0) ≡ getD entry i (pos 0)
@@ -102,8 +105,8 @@ module _ (line : List Cell) (p q : Cell) (entry exit : List ℤ) (k : ℕ) (h : 
 pub cells-listed : (p q : Cell) (entry exit : List ℤ) (k : ℕ) → CellsListed p q entry exit k
 cells-listed p q entry exit k =
     record {
-      six = λ h. cells-at (six-line rule-1 p q) p q entry exit k h _ _ (six-length rule-1 p q)
-          (λ n lt. six-numbered rule-1 p q n (omega arith));
+      six = λ rule h. cells-at (six-line (by-rule rule p q) p q) p q entry exit k h _ _ (six-length (by-rule rule p q) p q)
+          (λ n lt. six-numbered (by-rule rule p q) p q n (omega arith));
       twenty-six = λ h. cells-at (line-26 p q) p q entry exit k h _ _ (length-26 p q)
           (λ n lt. numbered-26 p q n (omega arith));
     }
@@ -138,21 +141,28 @@ pub longest-list : LongestLists
 longest-list =
     record {
       accepted = corners;
-      six = longest (six-line rule-1) 49150
+      six = λ rule. longest (λ p q. six-line (by-rule rule p q) p q) 49150
           (λ p q hp hq.
-          omega (arith, six-line-holds rule-1 p q .many, limited-difference p q hp hq X, limited-difference p q hp hq Y, limited-difference p q hp hq Z))
-          (six-line-holds rule-1 lowest highest .many);
+          omega (arith, six-line-holds (by-rule rule p q) p q .many, limited-difference p q hp hq X, limited-difference p q hp hq Y, limited-difference p q hp hq Z))
+          (six-line-holds (by-rule rule lowest highest) lowest highest .many);
       twenty-six = longest line-26 16384
           (λ p q hp hq.
-          omega (arith, line-26-holds rule-1 p q .many, limited-difference p q hp hq X, limited-difference p q hp hq Y, limited-difference p q hp hq Z))
-          (line-26-holds rule-1 lowest highest .many);
+          omega (arith, line-26-holds y-z-x p q .many, limited-difference p q hp hq X, limited-difference p q hp hq Y, limited-difference p q hp hq Z))
+          (line-26-holds y-z-x lowest highest .many);
     }
+
+-- from (0,0,0) to (2,1,0) both rules have the order y, z, x
+by-one : (rule : Rule) (r : Listed) (exit : List ℤ) → Line6 rule (at 0 0 0) (at 2 1 0) room r exit →
+    Lists (six-line y-z-x (at 0 0 0) (at 2 1 0)) (at 0 0 0) (at 2 1 0) room r exit
+unfolding comes-before
+by-one rule r exit = subst (λ v. Lists (six-line v (at 0 0 0) (at 2 1 0)) (at 0 0 0) (at 2 1 0) room r exit) (first-order rule (at 0 0 0) (at 2 1 0) refl)
 
 pub wrong-lists : WrongLists
 unfolding six-line line-26 accepted
 wrong-lists =
     record {
-      repeats-q = λ r h. absurd (let z : _≡_ {A = ℕ} 2 1 = ap (λ l. natAbs (getD l 6 (pos 0))) (h .holds) in omega arith);
-      refuses-6 = λ r exit h. absurd (let z : _≡_ {A = ℕ} 0 1 = ap accepted (h .says) in omega arith);
+      repeats-q = λ rule r h.
+          absurd (let z : _≡_ {A = ℕ} 2 1 = ap (λ l. natAbs (getD l 6 (pos 0))) (by-one rule r _ h .holds) in omega arith);
+      refuses-6 = λ rule r exit h. absurd (let z : _≡_ {A = ℕ} 0 1 = ap accepted (by-one rule _ exit h .says) in omega arith);
       refuses-26 = λ r exit h. absurd (let z : _≡_ {A = ℕ} 0 1 = ap accepted (h .says) in omega arith);
     }

@@ -1,26 +1,26 @@
 -- The program's claims: what a step says of a frame it says of all that is left of the input, so the steps give the whole output. Assumes nothing.
-use Prim.Native.Nat.{ℕ, zero, suc, _≤_}
+use Prim.Native.Nat.{ℕ, zero, suc, _+_, _≤_}
 use mathlib.Core.Path.{_≡_, refl, sym, ap, ap₂, _∙_, subst}
 use mathlib.Core.List.{List, [], _∷_, _++_, append-nil}
-use mathlib.Core.Bool.{Bool, true, false, cond}
+use mathlib.Core.Bool.{Bool, true, false, cond, not}
 use mathlib.Core.Logic.{_⊎_, inl, inr}
 use native.Mathlib.Omega.{arith}
 use lib.ListN.{length, take, drop, replicate, length-drop}
+use lib.Dec.{ltb, eqb}
 use lib.Seq.{take-at}
-use borrow.Author.Tests.{eq-eqb, ne-eqb, le-ltb}
+use borrow.Author.Tests.{eqb-true, eq-eqb, ne-eqb, le-ltb, not-false}
 use Rattle.cells.specs.declared.Axis.{Axis}
 use Rattle.cells.specs.declared.Axis.the-variants.{X, Y, Z}
 use Rattle.cells.specs.declared.Cell.{Cell}
 use Rattle.cells.specs.declared.Counts.{Counts}
 use Rattle.cells.specs.declared.Manner.{Manner}
-use Rattle.cells.specs.Manners.{tested-start}
+use Rattle.cells.specs.Manners.{tested-by, rule-check}
 use Rattle.cells.specs.declared.End.{End}
 use Rattle.cells.specs.declared.End.the-variants.{P, Q}
-use Rattle.cells.specs.declared.Refusal.the-variants.{OffGrid}
+use Rattle.cells.specs.declared.Refusal.the-variants.{OffGrid, Record, Version, NoRule}
 use Rattle.cells.specs.declared.Verdict.{Verdict}
 use Rattle.cells.specs.declared.Verdict.the-variants.{Fine, Refused}
-use Rattle.cells.specs.Checks.{refuse-when, _then_}
-use Rattle.cells.proofs.Checks.{by-fine}
+use Rattle.cells.specs.Checks.{refuse-when, _then_, by-verdict}
 use Rattle.cells.specs.Refusals.{told}
 use Rattle.grids.specs.Grid.{shape}
 use Rattle.grids.specs.Inside.{off-axis, grid-check, walk-check}
@@ -29,27 +29,28 @@ use Rattle.walks.specs.declared.Walker.the-variants.{Plain, Adaptive}
 use Rattle.walks.specs.declared.FirstHit.{FirstHit}
 use Rattle.walks.specs.declared.Hit.{Hit}
 use Rattle.walks.specs.declared.FirstHit.the-variants as FirstHit
+use Rattle.walks.specs.Walks.{Conduct, conduct}
 use Rattle.walks.specs.Answers.{first-hit}
 use Rattle.walks.specs.Numbers.{hits-at, end-of}
 use Rattle.walks.proofs.Story.{first-hit-is}
 use Rattle.records.specs.declared.pairs.Pair.{Pair}
 use Rattle.records.specs.declared.pairs.PairRead.the-variants as PairRead
-use Rattle.records.proofs.HeadTests.{pair-whole}
+use Rattle.records.proofs.HeadTests.{pair-longest, head-tests, head-fits, pair-head-tests, pair-tests, pair-accepted}
 use Rattle.records.proofs.RoundTrip.{record-fits}
 use Rattle.records.specs.declared.venues.Venue.{Venue}
 use Rattle.records.specs.declared.venues.VenueRead.{VenueRead}
 use Rattle.records.specs.declared.venues.VenueRead.the-variants as VenueRead
-use Rattle.records.specs.Heads.{whole-check, announced}
+use Rattle.records.specs.Heads.{length-field, announced, version-of, whole-check}
 use Rattle.records.specs.Venues.{venue-check, venue-read, venue-cells, start-of}
-use Rattle.records.specs.Pairs.{pair-check, pair-read, pair-length, pair-in}
+use Rattle.records.specs.Pairs.{pair-version, pair-length, rule-byte, pair-in, pair-check, pair-read}
 use Rattle.program.specs.declared.Next.{Next}
 use Rattle.program.specs.declared.Next.the-variants.{On, Over}
 use Rattle.program.specs.declared.Step.{Step}
 use Rattle.program.specs.Program.{Said, venue-most, pair-most, beyond, venue-said, pair-said, then-on, pairs, after-venue, output, frame, frame-length}
-use Rattle.program.specs.Program.{after-frame, Says, text-room, after-refusal, answers, walk-line, walk-lines, said-of-walks}
+use Rattle.program.specs.Program.{after-frame, Says, text-room, after-refusal, answers, walk-line, walk-lines, said-of-walks, said-of-pair}
 use Rattle.program.proofs.Frames.{venue-framed, venue-on, venue-taken, read-framed, cells-framed, pair-framed, pair-on, after-same, less-left, beyond-is}
 use Rattle.claims.specs.Program.{Pairs, last, next, Runs, ends, begins, Writes, OneStep, example-input}
-use Rattle.claims.specs.Program.{WrongPrograms, Walked, AllWalked, going-on, FiveOrLines, LineOf, TestedStart}
+use Rattle.claims.specs.Program.{WrongPrograms, Walked, AllWalked, going-on, FiveOrLines, TwelveGoesOn, LineOf, TestedStart}
 use Rattle.texts.specs.Text.{pair-refused-line}
 use Rattle.claims.proofs.Starred.{example-writes}
 use denote.Ref.{RefT}
@@ -236,27 +237,31 @@ walk-five n bytes p q fine =
 
 -- where all tests are passed, a walk is made
 walked : (w : Walker) (how : Manner) (n : Counts) (l : List ℕ) (p q : Cell) → walk-check n (length l) p q ≡ Fine → Walked (first-hit w how n l p q)
-walked w how n l p q fine = subst Walked (sym (first-hit-is how n l p q w)) (rw fine (by (hits-at how n l p q (end-of how n l p q w)) _ _))
+walked w how n l p q fine =
+    let c : Conduct = conduct how p q in
+    subst Walked (sym (first-hit-is how n l p q w)) (rw fine (by (hits-at c n l p q (end-of c n l p q w)) _ _))
   where
     by : (b : Bool) (h : Hit) (reads : ℕ) → Walked (cond b (FirstHit.Hit h) (FirstHit.Clear reads))
     by true h reads = tt
     by false h reads = tt
 
--- a pair that is read is neither empty nor beyond the most
-read-said : (n : Counts) (cells : List ℕ) (k : ℕ) (t : List ℕ) (e : Pair) → pair-read t ≡ PairRead.Read e
-    → pair-said n cells k t ≡ said-of-walks k (walk-check n (length cells) (e .p) (e .q)) (answers n cells (e .p) (e .q))
-unfolding pair-said pair-read pair-length
-read-said n cells k t e read =
-    let (fine, same) = by-fine PairRead.Refused (pair-check t) (PairRead.Read (pair-in t)) (λ r no. let z : _≡_ {A = ℕ} 0 1 = cc no in omega arith) read in
-    let w = pair-whole t fine in
-    let there = w .there in
-    let long : announced t ≡ 13 = w .long in
+-- a whole pair of its version's length is neither empty nor beyond the most
+whole-said : (n : Counts) (cells : List ℕ) (k : ℕ) (t : List ℕ) → length-field + announced t ≤ length t → announced t ≡ pair-length (version-of t)
+    → pair-said n cells k t ≡ said-of-pair n cells k (pair-read t)
+unfolding pair-said
+whole-said n cells k t there long =
+    let most = pair-longest (version-of t) in
     rw (
       ne-eqb (length t) 0 (λ none. omega arith),
       beyond-is pair-most t (omega arith),
       le-ltb pair-most (announced t) (omega arith),
-      read,
     )
+
+-- so is one that is read
+read-said : (n : Counts) (cells : List ℕ) (k : ℕ) (t : List ℕ) (e : Pair) → pair-read t ≡ PairRead.Read e
+    → pair-said n cells k t ≡ said-of-walks k (walk-check n (length cells) (e .p) (e .q)) (answers n cells e)
+read-said n cells k t e read =
+    let (w, same) = pair-accepted t e read in whole-said n cells k t (w .there) (w .long) ∙ ap (said-of-pair n cells k) read
 
 pub five-or-lines : (bytes given : RefT (List ℕ)) (t : List ℕ) (v : Venue) (e : Pair) → FiveOrLines bytes given t v e
 five-or-lines bytes given t v e =
@@ -279,7 +284,7 @@ five-or-lines bytes given t v e =
     q = e .q
 
     found : List (ℕ × FirstHit)
-    found = answers n cells p q
+    found = answers n cells e
 
     by : (k : ℕ) → shape n (length cells) ≡ Fine → {said : Said} → said ≡ said-of-walks k (walk-check n (length cells) p q) found
         → (w : Verdict) → walk-check n (length cells) p q ≡ w
@@ -288,6 +293,53 @@ five-or-lines bytes given t v e =
     by k fine is (Refused r) w =
         let five : told r .number ≡ 5 = subst FineOrFive w (walk-five n (length cells) p q fine) in
         inl (is ∙ ap (λ u. said-of-walks k u found) w ∙ ap (λ number. record { text = pair-refused-line k number; next = after-refusal k number }) five)
+
+-- ---- a pair of no rule
+
+-- fine, or refused otherwise than by 12
+abbrev NotTwelve : Verdict → Type 0
+NotTwelve Fine = Unit {0}
+NotTwelve (Refused r) = told r .number ≡ 12 → ⊥
+
+other-then : (v w : Verdict) → NotTwelve v → NotTwelve w → NotTwelve (v then w)
+other-then Fine w a b = b
+other-then (Refused r) w a b = a
+
+ten-when : (t : Bool) → NotTwelve (refuse-when t Record)
+ten-when true = λ e. omega (arith, e)
+ten-when false = tt
+
+eleven-when : (t : Bool) → NotTwelve (refuse-when t Version)
+eleven-when true = λ e. omega (arith, e)
+eleven-when false = tt
+
+-- the tests of the head
+head-other : (t : List ℕ) (known misfit : Bool) → NotTwelve (head-tests t known misfit)
+unfolding whole-check
+head-other t known misfit =
+    let short : Bool = ltb (length t) length-field in
+    let empty : Bool = eqb (announced t) 0 in
+    let cut : Bool = ltb (length t) (length-field + announced t) in
+    other-then (whole-check t) _
+    (other-then (refuse-when short Record) _ (ten-when short) (other-then (refuse-when empty Record) _ (ten-when empty) (ten-when cut)))
+    (other-then (refuse-when (not known) Version) _ (eleven-when (not known)) (ten-when misfit))
+
+-- so where a pair is refused 12 they are passed
+head-passed : (v w : Verdict) (e : Pair) → NotTwelve v → by-verdict PairRead.Refused (PairRead.Read e) (v then w) ≡ PairRead.Refused NoRule → v ≡ Fine
+head-passed Fine w e other is = refl
+head-passed (Refused r) w e other is = absurd (let same : r ≡ NoRule = cc in other (ap (λ u. told u .number) same))
+
+pub twelve-goes-on : (n : Counts) (cells t : List ℕ) → TwelveGoesOn n cells t
+unfolding pair-read
+twelve-goes-on n cells t =
+    record {
+      goes-on = λ refused k.
+          let is = ap (by-verdict PairRead.Refused (PairRead.Read (pair-in t))) (sym (pair-tests t)) ∙ sym (refused .says) in
+          let known = pair-version (version-of t) in
+          let misfit = not (eqb (announced t) (pair-length (version-of t))) in
+          let w = head-fits t known misfit (head-passed (pair-head-tests t) (rule-check (rule-byte t)) (pair-in t) (head-other t known misfit) is) in
+          whole-said n cells k t (w .there) (eqb-true _ _ (not-false _ (w .long))) ∙ ap (said-of-pair n cells k) (sym (refused .says));
+    }
 
 -- ---- one answer, and wrong ones
 
@@ -302,12 +354,12 @@ one-step entry = record { venue = λ frame r t x y. one; pair = λ n cells k fra
 over-not-on : (k : ℕ) {next : Next} → next ≡ Over → next ≡ On k → ⊥
 over-not-on k e f = let g : On k ≡ Over = sym f ∙ e in let z : _≡_ {A = ℕ} 0 1 = cc in omega arith
 
-pub starts-tested : (n : Counts) (cells : List ℕ) (p q : Cell) → TestedStart n cells p q
-starts-tested n cells p q =
+pub starts-tested : (n : Counts) (cells : List ℕ) (e : Pair) → TestedStart n cells e
+starts-tested n cells e =
     record {
-      walks = λ how is plain adaptive hp ha.
-          let named : (w : Walker) → first-hit w tested-start n cells p q ≡ first-hit w how n cells p q =
-          λ w. ap (λ s. first-hit w (record { start = s }) n cells p q) (sym is) in
+      walks = λ how is by plain adaptive hp ha.
+          let named : (w : Walker) → first-hit w (tested-by (e .rule)) n cells (e .p) (e .q) ≡ first-hit w how n cells (e .p) (e .q) =
+          λ w. ap₂ (λ s r. first-hit w (record { start = s; rule = r }) n cells (e .p) (e .q)) (sym is) (sym by) in
           ap₂ (λ x y. (80, x) ∷ (65, y) ∷ []) (named Plain ∙ sym (hp .says)) (named Adaptive ∙ sym (ha .says));
     }
 
@@ -316,10 +368,11 @@ unfolding walk-line
 line-of k letter = record { hit = λ h. refl; clear = λ reads. refl }
 
 pub wrong-programs : WrongPrograms
-unfolding pair-said beyond pair-read pair-check venue-said venue-read venue-check whole-check
+unfolding pair-said beyond pair-read pair-check pair-version pair-length rule-byte rule-check venue-said venue-read venue-check whole-check
 wrong-programs =
     record {
       silent = λ run. let e : _≡_ {A = ℕ} 0 33 = ap length (only-run example-input run ∙ example-writes) in omega arith;
       goes-on = λ n cells entry exit answer k w. over-not-on k (w .next);
+      ends-at-12 = λ n cells entry exit answer w over. over-not-on 2 over (w .next);
       begins = λ entry exit answer k w. over-not-on k (w .next);
     }

@@ -3,14 +3,21 @@ use Prim.Native.Nat.{ℕ, _+_, _-_, _*_, _≤_}
 use native.Mathlib.Nat.{mul-le-mul}
 use native.Mathlib.Omega.{arith}
 use mathlib.Core.Path.{_≡_, sym, ap, _∙_, subst}
+use mathlib.Core.Bool.{cond}
+use mathlib.Core.Logic.{_⊎_, inl, inr, ⊎-elim}
 use mathlib.Core.List.{List, _++_, append-assoc}
+use lib.Dec.{eqb}
 use lib.ListN.{length, getD, take, drop, take-append-drop}
 use borrow.Author.Tests.{eqb-true, lt-ltb, le-ltb, ne-eqb, not-false}
 use denote.Ref.{RefT}
 use Rattle.cells.specs.Parts.{StartsAt}
 use Rattle.cells.specs.declared.Counts.{Counts}
+use Rattle.cells.specs.declared.Rule.{Rule}
+use Rattle.cells.specs.declared.Rule.the-variants.{One, Two}
 use Rattle.cells.specs.declared.Verdict.the-variants.{Fine}
-use Rattle.cells.proofs.Checks.{by-fine, by-refusal}
+use Rattle.cells.specs.Manners.{rule-of, rule-check}
+use Rattle.cells.proofs.Checks.{passed, by-refusal}
+use Rattle.cells.proofs.Conditions.{or-means, eqb-means}
 use Rattle.cells.proofs.Signed.{up}
 use Rattle.grids.specs.Grid.{size, shape}
 use Rattle.grids.proofs.Shapes.{shaped}
@@ -21,15 +28,15 @@ use Rattle.records.specs.declared.venues.VenueRead.the-variants.{Read}
 use Rattle.records.specs.declared.pairs.PairRead.the-variants as PairRead
 use Rattle.records.specs.Heads.{length-field, announced, version-of, whole-check}
 use Rattle.records.specs.Venues.{cells-from, counts-at, venue-version, venue-head, venue-check, venue-read, venue-cells, start-of, ReadsVenue, GivesCells}
-use Rattle.records.specs.Pairs.{signed, pair-version, pair-length, pair-in, pair-check, pair-read}
-use Rattle.records.proofs.HeadTests.{head-fits, venue-accepted}
+use Rattle.records.specs.Pairs.{signed, pair-version, pair-length, rule-byte, pair-in, pair-check, pair-read}
+use Rattle.records.proofs.HeadTests.{venue-accepted, pair-accepted}
 use Rattle.records.proofs.Following.{venue-unread, cells-unread, pair-unread}
 use Rattle.records.specs.declared.writing.Written.{Written}
 use Rattle.records.specs.declared.writing.Written.the-variants as Written
 use Rattle.records.specs.Writing.{written-version, head-bytes, record-length, write-check, after-writing, WritesVenue}
 use Rattle.records.proofs.RoundTrip.{read-back, cells-back, front-written, record-fits, same-bytes}
 use Rattle.claims.specs.Records.{OneAnswer, Right, RightPair, Accepted, LengthTested, ThePart, SameVenue, ReadBack, WrittenBack, NotLookedAt}
-use Rattle.claims.specs.Records.{minus-one-pair, NumbersRead, WrongRecords}
+use Rattle.claims.specs.Records.{minus-one-pair, pair-by, NumbersRead, WrongRecords}
 use Rattle.claims.proofs.Grids.{one, one-place}
 
 -- 1 where a venue was written
@@ -100,24 +107,53 @@ accepted-venue s v r =
     rw (whole-fine s (r .whole) (omega (arith, r .length-is)), r .version, le-ltb (announced s) 7 (omega (arith, r .length-is)), fine)
     (ap Read (λ i. record { counts = r .counts-are i; start = r .part .0 i; long = (r .part .1 ∙ sym long) i }))
 
+-- a number that is not refused 12 names a rule
+ruled : (b : ℕ) → rule-check b ≡ Fine → ((b ≡ 1) × (rule-of b ≡ One)) ⊎ ((b ≡ 2) × (rule-of b ≡ Two))
+unfolding rule-check rule-of
+ruled b fine =
+    ⊎-elim (λ is. inl (is, ap (λ k. cond (eqb k 2) Two One) is)) (λ is. inr (is, ap (λ k. cond (eqb k 2) Two One) is))
+    (or-means (eqb-means b 1) (eqb-means b 2) .0 (not-false _ (passed _ _ fine)))
+
+-- the version, the length and the rule of a pair
+abbrev Versions : List ℕ → Rule → Type 0
+Versions s rule =
+    ((version-of s ≡ 1) × (announced s ≡ 13) × (rule ≡ One))
+    ⊎ ((version-of s ≡ 2) × (announced s ≡ 14) × (((getD s 17 0 ≡ 1) × (rule ≡ One)) ⊎ ((getD s 17 0 ≡ 2) × (rule ≡ Two))))
+
 right-pair : (s : List ℕ) (e : Pair) → PairRead.Read e ≡ pair-read s → RightPair s e
-unfolding pair-read pair-check pair-version pair-length
+unfolding pair-version pair-length rule-byte rule-of
 right-pair s e h =
-    let (f, is) = by-fine PairRead.Refused (pair-check s) (PairRead.Read (pair-in s)) (λ r no. let z : _≡_ {A = ℕ} 0 1 = cc no in omega arith) (sym h) in
-    let same : e ≡ pair-in s = cc is in
-    let w = head-fits s (pair-version (version-of s)) _ f in
+    let (w, same) = pair-accepted s e (sym h) in
     record {
       whole = w .there;
-      version = eqb-true _ _ (w .version);
-      length-is = eqb-true _ _ (not-false _ (w .long));
-      p-is = ap (λ (u : Pair). u .p) same;
-      q-is = ap (λ (u : Pair). u .q) same;
+      version = by (ap (λ (u : Pair). u .rule) (sym same)) (w .long) (w .ruled)
+          (or-means (eqb-means (version-of s) 1) (eqb-means (version-of s) 2) .0 (w .version));
+      p-is = ap (λ (u : Pair). u .p) (sym same);
+      q-is = ap (λ (u : Pair). u .q) (sym same);
     }
+  where
+    by : e .rule ≡ rule-of (cond (eqb (version-of s) 2) (getD s 17 0) 1) → announced s ≡ cond (eqb (version-of s) 2) 14 13 →
+        rule-check (cond (eqb (version-of s) 2) (getD s 17 0) 1) ≡ Fine → (version-of s ≡ 1) ⊎ (version-of s ≡ 2) → Versions s (e .rule)
+    by rule long fine (inl first) = inl (first, rw first at long, rw first at rule)
+    by rule long fine (inr second) =
+        let is : e .rule ≡ rule-of (getD s 17 0) = rw second at rule in
+        inr (
+          second,
+          rw second at long,
+          ⊎-elim (λ (byte, r). inl (byte, is ∙ r)) (λ (byte, r). inr (byte, is ∙ r)) (ruled (getD s 17 0) (rw second at fine)),
+        )
 
 accepted-pair : (s : List ℕ) (e : Pair) → RightPair s e → PairRead.Read e ≡ pair-read s
-unfolding pair-read pair-check pair-version pair-length
-accepted-pair s e r =
-    rw (whole-fine s (r .whole) (omega (arith, r .length-is)), r .version, r .length-is) (ap PairRead.Read (λ i. record { p = r .p-is i; q = r .q-is i }))
+unfolding pair-read pair-check pair-version pair-length rule-byte rule-check rule-of
+accepted-pair s e r = by (r .version)
+  where
+    read : {rule : Rule} → e .rule ≡ rule → e ≡ record { p = pair-in s .p; q = pair-in s .q; rule = rule }
+    read is = λ i. record { p = r .p-is i; q = r .q-is i; rule = is i }
+
+    by : Versions s (e .rule) → PairRead.Read e ≡ pair-read s
+    by (inl (first, long, is)) = rw (whole-fine s (r .whole) (omega (arith, long)), first, long) (ap PairRead.Read (read is))
+    by (inr (second, long, inl (byte, is))) = rw (whole-fine s (r .whole) (omega (arith, long)), second, long, byte) (ap PairRead.Read (read is))
+    by (inr (second, long, inr (byte, is))) = rw (whole-fine s (r .whole) (omega (arith, long)), second, long, byte) (ap PairRead.Read (read is))
 
 pub accepted : (s : List ℕ) → Accepted s
 accepted s =
@@ -203,8 +239,8 @@ numbers-read =
 -- ---- wrong answers
 
 pub wrong-records : WrongRecords
-unfolding accepts shape whole-check venue-version venue-head venue-check venue-read venue-cells signed pair-version pair-length pair-check pair-read
-    write-check
+unfolding accepts shape whole-check venue-version venue-head venue-check venue-read venue-cells signed pair-version pair-length rule-byte pair-check
+    pair-read rule-check rule-of write-check
 wrong-records =
     record {
       refuser = λ r c. let e = c .says in let z : _≡_ {A = ℕ} 0 1 = cc in omega arith;
@@ -220,6 +256,15 @@ wrong-records =
           let same : e ≡ pair-in minus-one-pair = cc in
           let z : _≡_ {A = ℕ} 65535 0 = ap up (sym u ∙ ap (λ (p : Pair). p .q .x) same) in
           omega arith;
+      two-as-one = λ e c u.
+          let f = c .says in
+          let same : e ≡ pair-in (pair-by 2) = cc in
+          let g : One ≡ Two = sym u ∙ ap (λ (p : Pair). p .rule) same in
+          let z : _≡_ {A = ℕ} 0 1 = cc in
+          omega arith;
+      second-short = λ e c. let f = c .says in let z : _≡_ {A = ℕ} 0 1 = cc in omega arith;
+      first-long = λ e c. let f = c .says in let z : _≡_ {A = ℕ} 0 1 = cc in omega arith;
+      not-twelve = λ r c other. other (c .says);
       idle-writer = λ r w. let e : _≡_ {A = ℕ} 99 0 = ap (λ (l : List ℕ). getD l 0 0) (w .holds) in omega arith;
       short-writer = λ exit w. let z : _≡_ {A = ℕ} 1 0 = ap accepts (w .says) in omega arith;
     }

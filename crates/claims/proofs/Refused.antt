@@ -12,18 +12,21 @@ use Rattle.cells.specs.declared.Cell as cell
 use Rattle.cells.specs.declared.Counts.{Counts}
 use Rattle.cells.specs.declared.Manner.{Manner}
 use Rattle.cells.specs.declared.End.the-variants.{P, Q}
+use Rattle.cells.specs.declared.Refusal.{Refusal}
 use Rattle.cells.specs.declared.Verdict.{Verdict}
 use Rattle.cells.specs.declared.Verdict.the-variants.{Fine, Refused}
 use Rattle.cells.specs.Checks.{_then_, by-verdict}
+use Rattle.cells.specs.Manners.{rule-of, rule-check}
 use Rattle.cells.specs.Refusals.{Told, told-verdict}
 use Rattle.cells.specs.Tests.{First, ByTests}
 use Rattle.cells.proofs.Checks.{each-fine}
-use Rattle.cells.proofs.Tests.{_next_, answered, empty-by}
+use Rattle.cells.proofs.Tests.{Judges, _next_, answered, empty-by}
 use Rattle.lines.specs.Lines.{six-line, line-26}
-use Rattle.lines.specs.Preference.{rule-1}
+use Rattle.lines.specs.Preference.{by-rule}
+use Rattle.lines.proofs.Cells.{six-length, length-26}
 use Rattle.lists.specs.declared.Listed.{Listed}
 use Rattle.lists.specs.declared.Listed.the-variants as Listed
-use Rattle.lists.specs.Lists.{Lists, told-listed}
+use Rattle.lists.specs.Lists.{Lists, list-check, told-listed}
 use Rattle.grids.specs.declared.LayerPart.{LayerPart}
 use Rattle.grids.specs.declared.LayerPart.the-variants as LayerPart
 use Rattle.grids.specs.declared.Completeness.the-variants as Completeness
@@ -32,11 +35,12 @@ use Rattle.grids.specs.Inside.{walk-check}
 use Rattle.grids.specs.Marks.{complete, yes-or-no, completeness, told-completeness}
 use Rattle.grids.proofs.Layers.{layer-empty}
 use Rattle.grids.proofs.Shapes.{shape-counts}
+use Rattle.walks.specs.declared.Walker.{Walker}
 use Rattle.walks.specs.declared.Walker.the-variants.{Adaptive}
 use Rattle.walks.specs.declared.Hit.{Hit}
 use Rattle.walks.specs.declared.FirstHit.{FirstHit}
 use Rattle.walks.specs.declared.FirstHit.the-variants as FirstHit
-use Rattle.walks.specs.Walks.{hit-at, walk-of}
+use Rattle.walks.specs.Walks.{Conduct, conduct, hit-at, walk-of}
 use Rattle.walks.specs.Answers.{last-of, answer-of, first-hit, told-hit, WalkSaid, clear, hit}
 use Rattle.survey.specs.declared.Lookup.{Lookup}
 use Rattle.survey.specs.declared.Lookup.the-variants as Lookup
@@ -56,11 +60,12 @@ use Rattle.records.specs.declared.writing.Written.the-variants as Written
 use Rattle.records.specs.Venues.{venue-in, venue-read, ReadsVenue, part-of, venue-cells, GivesCells, told-venue}
 use Rattle.records.specs.Pairs.{pair-in, pair-read, told-pair}
 use Rattle.records.specs.Writing.{record-length, told-written}
-use Rattle.claims.specs.Refused.{line-tests, LinesTold, layer-tests, GridsTold, cell-tests, sight-tests, PointsTold, venue-tests, RecordsTold}
-use Rattle.claims.proofs.Lines.{six-line-holds, line-26-holds}
+use Rattle.oatmarten.specs.Flattening.{After}
+use Rattle.oatmarten.specs.Inputs.{as-manner}
+use Rattle.claims.specs.Refused.{line-tests, LinesTold, layer-tests, GridsTold, cell-tests, sight-tests, PointsTold, venue-tests, RecordsTold, RulesTold}
 use Rattle.claims.proofs.Records.{the-part}
 use Rattle.claims.proofs.Judged.{line-judged, counts-judged, shape-judged, layer-judged, walk-judged, placement-judged}
-use Rattle.claims.proofs.Judged.{point-judged, venue-judged, pair-judged, write-judged}
+use Rattle.claims.proofs.Judged.{point-judged, rule-judged, venue-judged, pair-judged, write-judged}
 
 -- ---- line lists
 
@@ -73,17 +78,19 @@ listed-told line p q entry exit r c =
 pub lines-told : (p q : cell.Cell) (entry exit : List ℤ) (r : Listed) → LinesTold p q entry exit r
 lines-told p q entry exit r =
     record {
-      six = λ c. rw (six-line-holds rule-1 p q .many) at (listed-told (six-line rule-1 p q) p q entry exit r c);
-      twenty-six = λ c. rw (line-26-holds rule-1 p q .many) at (listed-told (line-26 p q) p q entry exit r c);
+      six = λ rule c. let o = by-rule rule p q in rw (six-length o p q) at (listed-told (six-line o p q) p q entry exit r c);
+      twenty-six = λ c. rw (length-26 p q) at (listed-told (line-26 p q) p q entry exit r c);
     }
 
 -- ---- grids
 
--- what a walk answers is no refusal
-hit-told : (how : Manner) (n : Counts) (l : List ℕ) (p q : cell.Cell) (cells : List cell.Cell) →
-    (w : WalkSaid) × (told-hit (answer-of how n l p q cells) ≡ inr w)
+-- what a walk answers, and that it is no refusal
+abbrev answer : Walker → Manner → Counts → List ℕ → (p q : cell.Cell) → FirstHit
+answer k how n l p q = let c : Conduct = conduct how p q in answer-of c n l p q (walk-of k c n l p q)
+
+hit-told : (k : Walker) (how : Manner) (n : Counts) (l : List ℕ) (p q : cell.Cell) → (w : WalkSaid) × (told-hit (answer k how n l p q) ≡ inr w)
 unfolding answer-of
-hit-told how n l p q cells = by (hit-at how n l p (last-of p cells)) _ _
+hit-told k how n l p q = let c : Conduct = conduct how p q in by (hit-at c n l p (last-of p (walk-of k c n l p q))) _ _
   where
     by : (b : Bool) (h : Hit) (reads : ℕ) → (w : WalkSaid) × (told-hit (cond b (FirstHit.Hit h) (FirstHit.Clear reads)) ≡ inr w)
     by true h reads = (hit h, refl)
@@ -128,8 +135,8 @@ grids-told n l =
       layer-part = layer-part-told n l;
       layer = layer-told n;
       first-hit = λ k how p q r c.
-          answered told-hit (by-verdict FirstHit.Refused (answer-of how n l p q (walk-of k how n l p q))) (λ r. refl) (walk-judged n (length l) p q)
-          (λ fine. hit-told how n l p q (walk-of k how n l p q)) (c .says);
+          answered told-hit (by-verdict FirstHit.Refused (answer k how n l p q)) (λ r. refl) (walk-judged n (length l) p q)
+          (λ fine. hit-told k how n l p q) (c .says);
     }
 
 -- ---- surveyed points
@@ -191,14 +198,17 @@ module _ (how : Manner) (n : Counts) (l : List ℕ) (at : Placement) (camera bal
       let walks : walk-check n (length l) from to ≡ Fine =
       walkable n (length l) at camera ball from to shaped tested
       (lookup-found P n at camera refl refl seen-from refl) (lookup-found Q n at ball refl refl seen-to refl) in
-      rw walks (hit-told how n l from to (walk-of Adaptive how n l from to))
+      rw walks (hit-told Adaptive how n l from to)
+
+  sight-judged : Judges (sight-tests n (length l) at camera ball) sight-check
+  sight-judged = shape-judged n (length l) next placement-judged at next point-judged P n at camera next point-judged Q n at ball
+
+  sight-is : sight-check ≡ Fine → (v : SightSaid) × (told-sight (sight-of (first-hit Adaptive how n l from to)) ≡ inr v)
+  sight-is fine = let (w, is) = walked fine in sight-told (first-hit Adaptive how n l from to) w is
 
   see-told : (r : Sight) → Sees how n l at camera ball r → ByTests (sight-tests n (length l) at camera ball) (told-sight r)
   see-told r c =
-      answered told-sight (by-verdict Sight.Refused (sight-of (first-hit Adaptive how n l from to))) (λ r. refl)
-      (shape-judged n (length l) next placement-judged at next point-judged P n at camera next point-judged Q n at ball)
-      (λ fine. let (w, is) = walked fine in sight-told (first-hit Adaptive how n l from to) w is)
-      (c .says ∙ sight-by)
+      answered told-sight (by-verdict Sight.Refused (sight-of (first-hit Adaptive how n l from to))) (λ r. refl) sight-judged sight-is (c .says ∙ sight-by)
 
 pub points-told : (n : Counts) (at : Placement) → PointsTold n at
 points-told n at = record { cell-of = cell-told n at; see = λ how l. see-told how n l at }
@@ -237,4 +247,46 @@ records-told =
       write-venue = λ n cells entry exit r c.
           answered told-written (by-verdict Written.Refused (Written.Wrote (record-length n))) (λ r. refl)
           (write-judged n (length cells) (length entry)) (λ fine. (_, refl)) (c .says);
+    }
+
+-- ---- the calls for C that name a rule
+
+-- what a call says after a test of its own, in one verdict
+pub after-says : {A : Type 0} (refused : Refusal → A) (x : A) {a : A} {says : Refusal → Type 0} {meets : Type 0} (v w : Verdict) →
+    ((r : Refusal) → says r → a ≡ refused r) → (meets → a ≡ by-verdict refused x w) → After v says meets → a ≡ by-verdict refused x (v then w)
+after-says refused x (Refused r) w first rest h = first r h
+after-says refused x Fine w first rest h = rest h
+
+pub rules-told : RulesTold
+unfolding first-hit
+rules-told =
+    record {
+      line6 = λ number p q entry exit r h.
+          let o = by-rule (rule-of number) p q in
+          let many = length (six-line o p q) in (
+            h .answer,
+            h .flat,
+            rw (six-length o p q) at (answered told-listed (by-verdict Listed.Refused (Listed.Cells many)) (λ r. refl)
+                (rule-judged number next line-judged p q many (length entry)) (λ fine. (many, refl))
+                (after-says Listed.Refused (Listed.Cells many) (rule-check number) (list-check p q many (length entry)) (λ r m. m .0) (λ m. m .says)
+                (h .meets))),
+          );
+      walks = λ w how n l p q r h.
+          let x = answer w (as-manner how) n l p q in (
+            h .answer,
+            h .flat,
+            answered told-hit (by-verdict FirstHit.Refused x) (λ r. refl) (rule-judged (how .rule) next walk-judged n (length l) p q)
+                (λ fine. hit-told w (as-manner how) n l p q)
+                (after-says FirstHit.Refused x (rule-check (how .rule)) (walk-check n (length l) p q) (λ r m. m) (λ m. m .says) (h .meets)),
+          );
+      seen = λ how n l at camera ball r h.
+          let manner = as-manner how in
+          let x = sight-of (first-hit Adaptive manner n l (from manner n l at camera ball) (to manner n l at camera ball)) in (
+            h .answer,
+            h .flat,
+            answered told-sight (by-verdict Sight.Refused x) (λ r. refl) (rule-judged (how .rule) next sight-judged manner n l at camera ball)
+                (λ fine. sight-is manner n l at camera ball (each-fine (rule-check (how .rule)) _ fine .1))
+                (after-says Sight.Refused x (rule-check (how .rule)) (sight-check manner n l at camera ball) (λ r m. m)
+                (λ m. m .says ∙ sight-by manner n l at camera ball) (h .meets)),
+          );
     }

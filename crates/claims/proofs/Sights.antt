@@ -13,6 +13,8 @@ use Rattle.cells.specs.declared.Axis.the-variants.{Y}
 use Rattle.cells.specs.declared.Face.the-variants as Face
 use Rattle.cells.specs.declared.Manner.{Manner}
 use Rattle.cells.specs.declared.Refusal.{Refusal}
+use Rattle.cells.specs.declared.Rule.{Rule}
+use Rattle.cells.specs.declared.Rule.the-variants.{One, Two}
 use Rattle.cells.specs.declared.Start.{Start}
 use Rattle.cells.specs.declared.Start.the-variants.{Untested, Tested}
 use Rattle.cells.specs.Manners.{is-tested}
@@ -35,7 +37,7 @@ use Rattle.sight.specs.declared.Sight.the-variants.{Clear, Blocked, Refused}
 use Rattle.sight.specs.Sight.{share-of, sight-of, seen, looked, sight, Sees}
 use Rattle.sight.proofs.Seen.{looked-is, sight-is, camera-refused, both-found}
 use Rattle.claims.proofs.Story.{nothing-in-the-way}
-use Rattle.claims.specs.Sights.{SeenOnce, AsTheWalk, NothingInSight, CameraFirst, BlockedAsHit, Seen-there, Housed, WrongSights}
+use Rattle.claims.specs.Sights.{SeenOnce, AsTheWalk, NothingInSight, CameraFirst, BlockedAsHit, Seen-there, Seen-back, Housed, WrongSights}
 
 -- 0 clear, 1 blocked, 2 refused
 kind : Sight → ℕ
@@ -167,25 +169,42 @@ pub wrong-sights : WrongSights
 unfolding kind block-or sight le lt ofInt div sub
 wrong-sights =
     record {
-      clear-always = λ how. not-there (how .start);
-      refuses-always = λ how. not-refused (how .start);
-      other-face = λ how. one-face (how .start);
+      clear-always = λ how. not-there (how .start) (how .rule);
+      refuses-always = λ how. not-refused (how .start) (how .rule);
+      other-face = λ how. one-face (how .start) (how .rule);
       own-housing = λ b h. let z : _≡_ {A = ℕ} 1 0 = ap kind (h .says) in omega arith;
-      housing-passed = λ how tested h. blocked-there (how .start) tested h;
+      housing-passed = λ how tested h. blocked-there (how .start) (how .rule) tested h;
+      rule-ignored = back-blocked;
+      always-rule-2 = back-clear;
     }
   where
-    not-there : (s : Start) → Seen-there (record { start = s }) Clear → ⊥
-    not-there Untested h = let z : _≡_ {A = ℕ} 0 1 = ap kind (h .says) in omega arith
-    not-there Tested h = let z : _≡_ {A = ℕ} 0 1 = ap kind (h .says) in omega arith
+    not-there : (s : Start) (u : Rule) → Seen-there (record { start = s; rule = u }) Clear → ⊥
+    not-there Untested One h = let z : _≡_ {A = ℕ} 0 1 = ap kind (h .says) in omega arith
+    not-there Untested Two h = let z : _≡_ {A = ℕ} 0 1 = ap kind (h .says) in omega arith
+    not-there Tested One h = let z : _≡_ {A = ℕ} 0 1 = ap kind (h .says) in omega arith
+    not-there Tested Two h = let z : _≡_ {A = ℕ} 0 1 = ap kind (h .says) in omega arith
 
-    not-refused : (s : Start) (r : Refusal) → Seen-there (record { start = s }) (Refused r) → ⊥
-    not-refused Untested r h = let z : _≡_ {A = ℕ} 2 1 = ap kind (h .says) in omega arith
-    not-refused Tested r h = let z : _≡_ {A = ℕ} 2 1 = ap kind (h .says) in omega arith
+    not-refused : (s : Start) (u : Rule) (r : Refusal) → Seen-there (record { start = s; rule = u }) (Refused r) → ⊥
+    not-refused Untested One r h = let z : _≡_ {A = ℕ} 2 1 = ap kind (h .says) in omega arith
+    not-refused Untested Two r h = let z : _≡_ {A = ℕ} 2 1 = ap kind (h .says) in omega arith
+    not-refused Tested One r h = let z : _≡_ {A = ℕ} 2 1 = ap kind (h .says) in omega arith
+    not-refused Tested Two r h = let z : _≡_ {A = ℕ} 2 1 = ap kind (h .says) in omega arith
 
-    one-face : (s : Start) (b : Block) → (b .face ≡ Face.Plus Y → ⊥) → Seen-there (record { start = s }) (Blocked b) → ⊥
-    one-face Untested b other h = other (ap (λ s. block-or b s .face) (h .says))
-    one-face Tested b other h = other (ap (λ s. block-or b s .face) (h .says))
+    one-face : (s : Start) (u : Rule) (b : Block) → (b .face ≡ Face.Plus Y → ⊥) → Seen-there (record { start = s; rule = u }) (Blocked b) → ⊥
+    one-face Untested One b other h = other (ap (λ s. block-or b s .face) (h .says))
+    one-face Untested Two b other h = other (ap (λ s. block-or b s .face) (h .says))
+    one-face Tested One b other h = other (ap (λ s. block-or b s .face) (h .says))
+    one-face Tested Two b other h = other (ap (λ s. block-or b s .face) (h .says))
 
-    blocked-there : (s : Start) → s ≡ Tested → Housed (record { start = s }) Clear → ⊥
-    blocked-there Untested e h = let z : _≡_ {A = ℕ} 0 1 = ap (λ s. cond (is-tested s) 1 0) e in omega arith
-    blocked-there Tested e h = let z : _≡_ {A = ℕ} 0 1 = ap kind (h .says) in omega arith
+    blocked-there : (s : Start) (u : Rule) → s ≡ Tested → Housed (record { start = s; rule = u }) Clear → ⊥
+    blocked-there Untested u e h = let z : _≡_ {A = ℕ} 0 1 = ap (λ s. cond (is-tested s) 1 0) e in omega arith
+    blocked-there Tested One e h = let z : _≡_ {A = ℕ} 0 1 = ap kind (h .says) in omega arith
+    blocked-there Tested Two e h = let z : _≡_ {A = ℕ} 0 1 = ap kind (h .says) in omega arith
+
+    back-blocked : (s : Start) → Seen-back (record { start = s; rule = Two }) Clear → ⊥
+    back-blocked Untested h = let z : _≡_ {A = ℕ} 0 1 = ap kind (h .says) in omega arith
+    back-blocked Tested h = let z : _≡_ {A = ℕ} 0 1 = ap kind (h .says) in omega arith
+
+    back-clear : (s : Start) (b : Block) → Seen-back (record { start = s; rule = One }) (Blocked b) → ⊥
+    back-clear Untested b h = let z : _≡_ {A = ℕ} 1 0 = ap kind (h .says) in omega arith
+    back-clear Tested b h = let z : _≡_ {A = ℕ} 1 0 = ap kind (h .says) in omega arith

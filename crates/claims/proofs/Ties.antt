@@ -6,6 +6,8 @@ promised =
     record {
       of-number = λ κs a r e h. h;
       of-usual = λ κs a r e h. h;
+      of-check-rule = λ κs a r e h. h;
+      of-rule-of = λ κs a r e h. h;
       of-line6 = λ κs a r e h. h;
       of-line26 = λ κs a r e h. h;
       of-shape = λ κs a r e h. h;
@@ -31,6 +33,8 @@ asks-nothing =
     record {
       number-asks = λ κs a. tt;
       usual-asks = λ κs a. tt;
+      check-rule-asks = λ κs a. tt;
+      rule-of-asks = λ κs a. tt;
       line6-asks = λ κs a. tt;
       line26-asks = λ κs a. tt;
       shape-asks = λ κs a. tt;

@@ -1,30 +1,33 @@
 -- The witnesses, by computation. Assumes nothing.
-use Prim.Native.Nat.{ℕ, zero, suc, _<_}
-use mathlib.Core.Path.{_≡_, refl, subst}
+use Prim.Native.Nat.{ℕ, zero, suc, _+_, _*_, _<_}
+use mathlib.Core.Path.{_≡_, refl, sym, subst}
 use mathlib.Core.Bool.{Bool, true, false, _&&_}
+use mathlib.Core.Logic.{inl, _≢_}
 use mathlib.Core.List.{List, [], _∷_}
 use native.Mathlib.Omega.{arith}
 use lib.Dec.{ltb, lit<}
 use lib.Ieee.{le, lt, ofInt, div, sub}
 use lib.ListN.{getD}
 use borrow.Author.Tests.{ltb-true}
+use Rattle.cells.specs.declared.Axis.{Axis}
 use Rattle.cells.specs.declared.Axis.the-variants.{X, Y, Z}
 use Rattle.cells.specs.declared.Refusal.the-variants.{Bytes}
 use Rattle.cells.specs.declared.Verdict.the-variants as Verdict
-use Rattle.lines.specs.Lines.{six-line, line-26}
-use Rattle.lines.specs.Preference.{rule-1}
+use Rattle.lines.specs.Steps.{same}
+use Rattle.lines.specs.Lines.{differences, six-line, line-26}
+use Rattle.lines.specs.Preference.{y-z-x, order-of}
 use Rattle.lines.proofs.Cells.{centre-inside}
 use Rattle.grids.specs.Grid.{count-check, shape, layer-part, layer}
 use Rattle.grids.specs.Marks.{marked, complete, completeness}
-use Rattle.cells.specs.Manners.{usual}
+use Rattle.cells.specs.Manners.{usual, rule-of, rule-check}
 use Rattle.walks.specs.declared.Walker.the-variants.{Plain, Adaptive}
 use Rattle.walks.specs.Answers.{first-hit}
-use Rattle.walks.proofs.Modes.{modes-alike}
+use Rattle.walks.proofs.Modes.{as-usual}
 use Rattle.survey.specs.Survey.{placement-check, cell-of}
 use Rattle.sight.specs.Sight.{sight}
 use Rattle.records.specs.Heads.{whole-check}
 use Rattle.records.specs.Venues.{venue-version, venue-head, venue-check, venue-read, venue-cells}
-use Rattle.records.specs.Pairs.{signed, pair-version, pair-length, pair-check, pair-read}
+use Rattle.records.specs.Pairs.{signed, pair-version, pair-length, rule-byte, pair-check, pair-read}
 use Rattle.records.specs.Writing.{write-check}
 use Rattle.claims.specs.Example.{counts, at, example-counts, marked-cells}
 use Rattle.claims.specs.Story.{all-clear}
@@ -40,15 +43,32 @@ use Rattle.buffers.specs.Over.{over}
 use Rattle.texts.specs.Text.{decimal}
 use Rattle.grids.specs.declared.Completeness.the-variants as Completeness
 
+-- from (2,1,0) to (0,0,0) x is crossed at 1 and 3 over 4, y at 1 over 2
+untied : (a b : Axis) (i j : ℕ) → same a b ≡ 0 → i < differences (at 2 1 0) (at 0 0 0) a → j < differences (at 2 1 0) (at 0 0 0) b →
+    (1 + 2 * i) * (2 * differences (at 2 1 0) (at 0 0 0) b) ≢ (1 + 2 * j) * (2 * differences (at 2 1 0) (at 0 0 0) a)
+untied X X i j s p q e = omega arith
+untied X Y i j s p q e = omega arith
+untied X Z i j s p q e = omega arith
+untied Y X i j s p q e = omega arith
+untied Y Y i j s p q e = omega arith
+untied Y Z i j s p q e = omega arith
+untied Z X i j s p q e = omega arith
+untied Z Y i j s p q e = omega arith
+untied Z Z i j s p q e = omega arith
+
 pub of-lines : OfLines
-unfolding six-line line-26
+unfolding six-line order-of line-26
 of-lines =
     record {
       share = record { some = lit< tt; most = omega arith };
-      centre-of-p = centre-inside rule-1 (at 0 0 0) (at 2 1 0) 1 (lit< tt);
+      centre-of-p = centre-inside y-z-x (at 0 0 0) (at 2 1 0) 1 (lit< tt);
       limits = longest-list .accepted;
-      in-order = one-place rule-1 steps-there .there 2 (omega arith) .0;
-      last-made = entered rule-1 steps-there .by-last 1 (omega arith);
+      in-order = one-place y-z-x steps-there .there 2 (omega arith) .0;
+      last-made = entered y-z-x steps-there .by-last 1 (omega arith);
+      tie-free = record { none = untied };
+      comes-first = inl (record { lt = tt });
+      by-two = record { says = refl; holds = refl };
+      back-by-two = record { says = refl; holds = refl };
       listed = record { says = refl; holds = refl };
       listed-26 = record { says = refl; holds = refl };
       no-room = record { says = refl; holds = refl };
@@ -69,11 +89,13 @@ of-grids =
       part = record { says = refl };
       layer = record { says = refl; there = record { block = refl; offset = refl } };
       not-marked = record { says = refl; holds = refl };
-      plain-hits = λ how. record { says = modes-alike example-counts marked-cells (at 0 0 0) (at 3 1 0) Plain usual how refl };
-      adaptive-hits = λ how. record { says = modes-alike example-counts marked-cells (at 0 0 0) (at 3 1 0) Adaptive usual how refl };
+      back-clear = λ w. elim w [ Plain ↦ record { says = refl } | Adaptive ↦ record { says = refl } ];
+      back-hits = λ w. elim w [ Plain ↦ record { says = refl } | Adaptive ↦ record { says = refl } ];
+      plain-hits = λ how. record { says = sym (as-usual example-counts marked-cells (at 0 0 0) (at 3 1 0) Plain how refl refl) };
+      adaptive-hits = λ how. record { says = sym (as-usual example-counts marked-cells (at 0 0 0) (at 3 1 0) Adaptive how refl refl) };
       clear-marks = refl;
-      plain-clear = λ how. record { says = modes-alike (counts 3 2 1) all-clear (at 0 0 0) (at 2 1 0) Plain usual how refl };
-      adaptive-clear = λ how. record { says = modes-alike (counts 3 2 1) all-clear (at 0 0 0) (at 2 1 0) Adaptive usual how refl };
+      plain-clear = λ how. record { says = sym (as-usual (counts 3 2 1) all-clear (at 0 0 0) (at 2 1 0) Plain how refl refl) };
+      adaptive-clear = λ how. record { says = sym (as-usual (counts 3 2 1) all-clear (at 0 0 0) (at 2 1 0) Adaptive how refl refl) };
       solid-start = refl;
       passed = λ w. elim w [ Plain ↦ record { says = refl } | Adaptive ↦ record { says = refl } ];
       not-passed = λ w. elim w [ Plain ↦ record { says = refl } | Adaptive ↦ record { says = refl } ];
@@ -112,7 +134,8 @@ bytes-of (b ∷ l) h zero = ltb-true b 256 (and-true (ltb b 256) (all-below l) h
 bytes-of (b ∷ l) h (suc i) = bytes-of l (and-true (ltb b 256) (all-below l) h .1) i
 
 pub of-records : OfRecords
-unfolding shape whole-check venue-version venue-head venue-check venue-read venue-cells signed pair-version pair-length pair-check pair-read write-check
+unfolding shape whole-check venue-version venue-head venue-check venue-read venue-cells signed pair-version pair-length
+    rule-byte rule-of rule-check pair-check pair-read write-check
 of-records =
     record {
       bytes = record { byte = bytes-of example-venue refl };
@@ -121,6 +144,8 @@ of-records =
       right = accepted example-venue .venue _ .0 (record { says = refl });
       right-pair = accepted example-pair .pair _ .0 (record { says = refl });
       pair = record { says = refl };
+      second-pair = record { says = refl };
+      no-such-rule = record { says = refl };
       cells = record { says = refl; there = record { block = refl; offset = refl } };
       no-venue = record { says = refl };
       misfit = (omega arith, refl, omega arith, refl, λ e. omega arith);

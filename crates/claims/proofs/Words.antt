@@ -31,7 +31,8 @@ pub one-number : (r : Refusal) → OneNumber r
 one-number r = record { one = λ m n e f. e .says ∙ sym (f .says) }
 
 pub wrong-numbers : WrongNumbers
-wrong-numbers = record { off-grid-nine = λ e. omega (arith, e); version-as-record = λ e. omega (arith, e) }
+wrong-numbers =
+    record { off-grid-nine = λ e. omega (arith, e); version-as-record = λ e. omega (arith, e); rule-as-version = λ e. omega (arith, e) }
 
 pub the-table : TheTable
 the-table =
@@ -47,4 +48,5 @@ the-table =
       nine = λ e a. refl;
       ten = refl;
       eleven = refl;
+      twelve = refl;
     }

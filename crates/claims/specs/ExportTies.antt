@@ -2,7 +2,7 @@
 -- for C asks for nothing, and promises the record of its name, over what C's structs mean. Assumes nothing.
 use lib.ListN.{length}
 use Rattle.walks.specs.declared.Walker.the-variants.{Plain, Adaptive}
-use Rattle.oatmarten.specs.Inputs.{as-cell, as-counts, as-manner, as-placement, as-point}
+use Rattle.oatmarten.specs.Inputs.{as-cell, as-counts, as-placement, as-point}
 use Rattle.oatmarten.specs.LineCalls.{FlatLine6, FlatLine26}
 use Rattle.oatmarten.specs.GridCalls.{FlatMarks, FlatCompletes, FlatGivesLayerPart}
 use Rattle.oatmarten.specs.WalkCalls.{FlatFinds}
@@ -23,19 +23,20 @@ use Rattle.oatmarten.proofs.oat_write_venue.Reads as write-venue
 
 -- what each call promises
 pub record ExportsPromised : Type 1 where
-  pub of-line6 : (κs : _) (a : _) (r : _) (e : _) → line6.Post κs a r e → FlatLine6 (as-cell (a .0)) (as-cell (a .1 .0)) (a .1 .1 .0 .now) r (e .1 .1 .0 .now)
+  pub of-line6 : (κs : _) (a : _) (r : _) (e : _) → line6.Post κs a r e →
+      FlatLine6 (a .1 .1 .0) (as-cell (a .0)) (as-cell (a .1 .0)) (a .1 .1 .1 .0 .now) r (e .1 .1 .1 .0 .now)
   pub of-line26 : (κs : _) (a : _) (r : _) (e : _) → line26.Post κs a r e →
       FlatLine26 (as-cell (a .0)) (as-cell (a .1 .0)) (a .1 .1 .0 .now) r (e .1 .1 .0 .now)
   pub of-mark : (κs : _) (a : _) (r : _) (e : _) → mark.Post κs a r e → FlatMarks (as-counts (a .0)) (a .1 .0 .now) r (e .1 .0 .now)
   pub of-complete : (κs : _) (a : _) (r : _) (e : _) → complete.Post κs a r e → FlatCompletes (as-counts (a .0)) (a .1 .0 .now) r
   pub of-layer : (κs : _) (a : _) (r : _) (e : _) → layer.Post κs a r e → FlatGivesLayerPart (as-counts (a .0)) (length (a .1 .0 .now)) (a .1 .1 .0) r
   pub of-plain : (κs : _) (a : _) (r : _) (e : _) → plain.Post κs a r e →
-      FlatFinds Plain (as-manner (a .1 .1 .1 .1 .0)) (as-counts (a .0)) (a .1 .0 .now) (as-cell (a .1 .1 .0)) (as-cell (a .1 .1 .1 .0)) r
+      FlatFinds Plain (a .1 .1 .1 .1 .0) (as-counts (a .0)) (a .1 .0 .now) (as-cell (a .1 .1 .0)) (as-cell (a .1 .1 .1 .0)) r
   pub of-adaptive : (κs : _) (a : _) (r : _) (e : _) → adaptive.Post κs a r e →
-      FlatFinds Adaptive (as-manner (a .1 .1 .1 .1 .0)) (as-counts (a .0)) (a .1 .0 .now) (as-cell (a .1 .1 .0)) (as-cell (a .1 .1 .1 .0)) r
+      FlatFinds Adaptive (a .1 .1 .1 .1 .0) (as-counts (a .0)) (a .1 .0 .now) (as-cell (a .1 .1 .0)) (as-cell (a .1 .1 .1 .0)) r
   pub of-cell-of : (κs : _) (a : _) (r : _) (e : _) → cell-of.Post κs a r e → FlatLooksUp (as-counts (a .0)) (as-placement (a .1 .0)) (as-point (a .1 .1 .0)) r
   pub of-sight : (κs : _) (a : _) (r : _) (e : _) → sight.Post κs a r e →
-      FlatSees (as-manner (a .1 .1 .1 .1 .1 .0)) (as-counts (a .0)) (a .1 .0 .now) (as-placement (a .1 .1 .0)) (as-point (a .1 .1 .1 .0))
+      FlatSees (a .1 .1 .1 .1 .1 .0) (as-counts (a .0)) (a .1 .0 .now) (as-placement (a .1 .1 .0)) (as-point (a .1 .1 .1 .0))
       (as-point (a .1 .1 .1 .1 .0)) r
   pub of-read-venue : (κs : _) (a : _) (r : _) (e : _) → read-venue.Post κs a r e → FlatReadsVenue (a .0 .now) r
   pub of-read-pair : (κs : _) (a : _) (r : _) (e : _) → read-pair.Post κs a r e → FlatReadsPair (a .0 .now) r

@@ -5,7 +5,7 @@ use mathlib.Core.List.{List}
 use lib.IntN.{ℤ, pos}
 use Rattle.cells.specs.declared.Cell.{Cell}
 use Rattle.cells.specs.declared.Counts.{Counts}
-use Rattle.cells.specs.declared.Manner.{Manner}
+use Rattle.cells.specs.declared.Rule.{Rule}
 use Rattle.cells.specs.declared.Verdict.{Verdict}
 use Rattle.lists.specs.declared.Listed.{Listed}
 use Rattle.lists.specs.Lists.{Line6, Line26}
@@ -19,6 +19,7 @@ use Rattle.walks.specs.Answers.{Finds}
 use Rattle.survey.specs.declared.Placement.{Placement}
 use Rattle.survey.specs.declared.Point.{Point}
 use Rattle.survey.specs.declared.Lookup.{Lookup}
+use Rattle.survey.specs.Quotient.{as-f64}
 use Rattle.survey.specs.Survey.{LooksUp}
 use Rattle.sight.specs.declared.Sight.{Sight}
 use Rattle.sight.specs.Sight.{Sees}
@@ -28,6 +29,7 @@ use Rattle.records.specs.declared.writing.Written.{Written}
 use Rattle.records.specs.Venues.{ReadsVenue}
 use Rattle.records.specs.Pairs.{ReadsPair}
 use Rattle.records.specs.Writing.{WritesVenue}
+use Rattle.oatmarten.specs.declared.inputs.OatManner.{OatManner}
 use Rattle.oatmarten.specs.declared.refusals.OatSaid.{OatSaid}
 use Rattle.oatmarten.specs.declared.line_calls.OatListed.{OatListed}
 use Rattle.oatmarten.specs.declared.grid_calls.OatVerdict.{OatVerdict}
@@ -39,15 +41,17 @@ use Rattle.oatmarten.specs.declared.sight_calls.OatSight.{OatSight}
 use Rattle.oatmarten.specs.declared.record_calls.OatVenue.{OatVenue}
 use Rattle.oatmarten.specs.declared.record_calls.OatPair.{OatPair}
 use Rattle.oatmarten.specs.declared.record_calls.OatWritten.{OatWritten}
-use Rattle.oatmarten.specs.LineCalls.{flat-listed, FlatLists, FlatLine6, FlatLine26}
+use Rattle.oatmarten.specs.Inputs.{as-start}
+use Rattle.oatmarten.specs.LineCalls.{flat-listed, FlatLine6, FlatLine26}
 use Rattle.oatmarten.specs.GridCalls.{flat-verdict, flat-complete, flat-part, FlatMarks, FlatCompletes, FlatGivesLayerPart}
 use Rattle.oatmarten.specs.WalkCalls.{flat-hit, FlatFinds}
 use Rattle.oatmarten.specs.SightCalls.{flat-found, flat-sight, FlatLooksUp, FlatSees}
-use Rattle.oatmarten.specs.RecordCalls.{flat-venue, flat-pair, flat-written, FlatReadsVenue, FlatReadsPair, FlatWritesVenue}
+use Rattle.oatmarten.specs.RecordCalls.{rule-number, flat-venue, flat-pair, flat-written, FlatReadsVenue, FlatReadsPair, FlatWritesVenue}
 use Rattle.claims.specs.Example.{at, example-counts, example-cells}
 use Rattle.claims.specs.Lists.{room}
 use Rattle.claims.specs.Grids.{two-layers}
 use Rattle.claims.specs.Records.{example-room}
+use Rattle.claims.specs.Flattenings.{three}
 
 -- a contract that admits one struct; and one that admits one struct and one final memory
 abbrev pub One : {F : Type 0} → (F → Type 0) → Type 0
@@ -56,16 +60,16 @@ One {F} Contract = (r s : F) → Contract r → Contract s → r ≡ s
 abbrev pub OneEach : {F M : Type 0} → (F → M → Type 0) → Type 0
 OneEach {F} {M} Contract = (r s : F) (exit last : M) → Contract r exit → Contract s last → (r ≡ s) × (exit ≡ last)
 
--- 1. One answer and one final memory for each input. `lines` is of oat_line6 and oat_line26, whatever line the call lists; `walks` of
--- oat_plain and oat_adaptive.
+-- 1. One answer and one final memory for each input, whatever number names the rule. `walks` is of oat_plain and oat_adaptive.
 pub record ExportsOnce : Type 0 where
-  pub lines : (line : List Cell) (p q : Cell) (entry : List ℤ) → OneEach (FlatLists line p q entry)
+  pub line6 : (rule : ℕ) (p q : Cell) (entry : List ℤ) → OneEach (FlatLine6 rule p q entry)
+  pub line26 : (p q : Cell) (entry : List ℤ) → OneEach (FlatLine26 p q entry)
   pub mark : (n : Counts) (entry : List ℕ) → OneEach (FlatMarks n entry)
   pub complete : (n : Counts) (cells : List ℕ) → One (FlatCompletes n cells)
   pub layer : (n : Counts) (bytes : ℕ) (z : ℤ) → One (FlatGivesLayerPart n bytes z)
-  pub walks : (w : Walker) (how : Manner) (n : Counts) (cells : List ℕ) (p q : Cell) → One (FlatFinds w how n cells p q)
+  pub walks : (w : Walker) (how : OatManner) (n : Counts) (cells : List ℕ) (p q : Cell) → One (FlatFinds w how n cells p q)
   pub found : (n : Counts) (at : Placement) (p : Point) → One (FlatLooksUp n at p)
-  pub seen : (how : Manner) (n : Counts) (cells : List ℕ) (at : Placement) (camera ball : Point) → One (FlatSees how n cells at camera ball)
+  pub seen : (how : OatManner) (n : Counts) (cells : List ℕ) (at : Placement) (camera ball : Point) → One (FlatSees how n cells at camera ball)
   pub venue : (bytes : List ℕ) → One (FlatReadsVenue bytes)
   pub pair : (bytes : List ℕ) → One (FlatReadsPair bytes)
   pub written : (n : Counts) (cells entry : List ℕ) → OneEach (FlatWritesVenue n cells entry)
@@ -74,16 +78,20 @@ pub record ExportsOnce : Type 0 where
 abbrev pub Untouched : {F M : Type 0} → (F → OatSaid) → (F → M → Type 0) → M → Type 0
 Untouched {F} {M} said Contract entry = (r : F) (exit : M) → Contract r exit → (said r .refusal ≡ 0 → ⊥) → exit ≡ entry
 
--- 2. A refusal writes nothing: of the calls that write.
+-- 2. A refusal writes nothing, 12 included: of the calls that write.
 pub record RefusedUntouched : Type 0 where
-  pub lines : (line : List Cell) (p q : Cell) (entry : List ℤ) → Untouched (λ f. f .said) (FlatLists line p q entry) entry
+  pub line6 : (rule : ℕ) (p q : Cell) (entry : List ℤ) → Untouched (λ f. f .said) (FlatLine6 rule p q entry) entry
+  pub line26 : (p q : Cell) (entry : List ℤ) → Untouched (λ f. f .said) (FlatLine26 p q entry) entry
   pub mark : (n : Counts) (entry : List ℕ) → Untouched (λ f. f .said) (FlatMarks n entry) entry
   pub written : (n : Counts) (cells entry : List ℕ) → Untouched (λ f. f .said) (FlatWritesVenue n cells entry) entry
 
--- 3. Wrong answers that the contracts shut out, on named inputs: a 6-line, a marking and a venue's record that leave the memory as it was,
--- whatever the struct says; a marking that refuses the program's venue; marks of it that are complete; the first layer for the second.
+-- 3. Wrong answers that the contracts shut out, on named inputs: a 6-line by either rule, a marking and a venue's record that leave the memory as it
+-- was, whatever the struct says; a walk in a manner of zeros, with any answer but 12; a marking that refuses the program's venue; marks of it that are
+-- complete; the first layer for the second.
 pub record WrongExports : Type 0 where
-  pub idle-line : (r : OatListed) → FlatLine6 (at 0 0 0) (at 2 1 0) room r room → ⊥
+  pub idle-line : (rule : Rule) (r : OatListed) → FlatLine6 (rule-number rule) (at 0 0 0) (at 2 1 0) room r room → ⊥
+  pub zeroed-manner : (w : Walker) (n : Counts) (cells : List ℕ) (p q : Cell) (r : OatHit) → FlatFinds w (record { start = 0; rule = 0 }) n cells p q r →
+      (r .said .refusal ≡ 12 → ⊥) → ⊥
   pub idle-marker : (r : OatVerdict) → FlatMarks example-counts example-cells r example-cells → ⊥
   pub idle-writer : (r : OatWritten) → FlatWritesVenue example-counts example-cells example-room r example-room → ⊥
   pub refusing-marker : (r : OatVerdict) (exit : List ℕ) → FlatMarks example-counts example-cells r exit → 1 ≤ r .said .refusal → ⊥
@@ -91,23 +99,36 @@ pub record WrongExports : Type 0 where
   pub first-layer : (r : OatPart) → FlatGivesLayerPart two-layers 4 (pos 1) r → r .offset ≡ 0 → ⊥
 
 -- 4. Each call for C gives what the call of the engine gives: its struct is the flattening of an answer that meets that call's own contract (Ties: it
--- is the source's), on the same inputs and with the same final memory. `walks` is of oat_plain and oat_adaptive. (What the flattenings hold:
--- Flattenings.)
+-- is the source's), on the same inputs and with the same final memory; by the rule that is named by its number. `walks` is of oat_plain and
+-- oat_adaptive. (What the flattenings hold, and what the start's number means: Flattenings.)
 pub record ExportsAre : Type 0 where
-  pub line6 : (p q : Cell) (entry exit : List ℤ) (r : OatListed) → FlatLine6 p q entry r exit →
-      (a : Listed) × Line6 p q entry a exit × (r ≡ flat-listed a)
+  pub line6 : (rule : Rule) (p q : Cell) (entry exit : List ℤ) (r : OatListed) → FlatLine6 (rule-number rule) p q entry r exit →
+      (a : Listed) × Line6 rule p q entry a exit × (r ≡ flat-listed a)
   pub line26 : (p q : Cell) (entry exit : List ℤ) (r : OatListed) → FlatLine26 p q entry r exit →
       (a : Listed) × Line26 p q entry a exit × (r ≡ flat-listed a)
   pub mark : (n : Counts) (entry exit : List ℕ) (r : OatVerdict) → FlatMarks n entry r exit → (a : Verdict) × Marks n entry a exit × (r ≡ flat-verdict a)
   pub complete : (n : Counts) (cells : List ℕ) (r : OatComplete) → FlatCompletes n cells r → (a : Completeness) × Completes n cells a × (r ≡ flat-complete a)
   pub layer : (n : Counts) (bytes : ℕ) (z : ℤ) (r : OatPart) → FlatGivesLayerPart n bytes z r →
       (a : LayerPart) × GivesLayerPart n bytes z a × (r ≡ flat-part a)
-  pub walks : (w : Walker) (how : Manner) (n : Counts) (cells : List ℕ) (p q : Cell) (r : OatHit) → FlatFinds w how n cells p q r →
-      (a : FirstHit) × Finds w how n cells p q a × (r ≡ flat-hit a)
+  pub walks : (w : Walker) (s : ℕ) (rule : Rule) (n : Counts) (cells : List ℕ) (p q : Cell) (r : OatHit) →
+      FlatFinds w (record { start = s; rule = rule-number rule }) n cells p q r →
+      (a : FirstHit) × Finds w (record { start = as-start s; rule = rule }) n cells p q a × (r ≡ flat-hit a)
   pub found : (n : Counts) (at : Placement) (p : Point) (r : OatFound) → FlatLooksUp n at p r → (a : Lookup) × LooksUp n at p a × (r ≡ flat-found a)
-  pub seen : (how : Manner) (n : Counts) (cells : List ℕ) (at : Placement) (camera ball : Point) (r : OatSight) → FlatSees how n cells at camera ball r →
-      (a : Sight) × Sees how n cells at camera ball a × (r ≡ flat-sight a)
+  pub seen : (s : ℕ) (rule : Rule) (n : Counts) (cells : List ℕ) (at : Placement) (camera ball : Point) (r : OatSight) →
+      FlatSees (record { start = s; rule = rule-number rule }) n cells at camera ball r →
+      (a : Sight) × Sees (record { start = as-start s; rule = rule }) n cells at camera ball a × (r ≡ flat-sight a)
   pub venue : (bytes : List ℕ) (r : OatVenue) → FlatReadsVenue bytes r → (a : VenueRead) × ReadsVenue bytes a × (r ≡ flat-venue a)
   pub pair : (bytes : List ℕ) (r : OatPair) → FlatReadsPair bytes r → (a : PairRead) × ReadsPair bytes a × (r ≡ flat-pair a)
   pub written : (n : Counts) (cells entry exit : List ℕ) (r : OatWritten) → FlatWritesVenue n cells entry r exit →
       (a : Written) × WritesVenue n cells entry a exit × (r ≡ flat-written a)
+
+-- 5. A number that is neither 1 nor 2 names no rule: 12 with no end and no axis, 0 in every other field, and the memory as it was.
+pub record NoSuchRule (number : ℕ) : Type 0 where
+  pub line6 : (number ≡ 1 → ⊥) → (number ≡ 2 → ⊥) → (p q : Cell) (entry exit : List ℤ) (r : OatListed) → FlatLine6 number p q entry r exit →
+      (r ≡ record { said = three 12 0 0; count = 0 }) × (exit ≡ entry)
+  pub walks : (number ≡ 1 → ⊥) → (number ≡ 2 → ⊥) → (w : Walker) (s : ℕ) (n : Counts) (cells : List ℕ) (p q : Cell) (r : OatHit) →
+      FlatFinds w (record { start = s; rule = number }) n cells p q r →
+      r ≡ record { said = three 12 0 0; hit = 0; x = pos 0; y = pos 0; z = pos 0; code = 0; num = 0; den = 0; face = pos 0; reads = 0 }
+  pub seen : (number ≡ 1 → ⊥) → (number ≡ 2 → ⊥) → (s : ℕ) (n : Counts) (cells : List ℕ) (at : Placement) (camera ball : Point) (r : OatSight) →
+      FlatSees (record { start = s; rule = number }) n cells at camera ball r →
+      r ≡ record { said = three 12 0 0; blocked = 0; share = as-f64 0; x = pos 0; y = pos 0; z = pos 0; code = 0; reads = 0; face = pos 0 }

@@ -13,11 +13,13 @@ use Rattle.cells.specs.declared.Face.{Face}
 use Rattle.cells.specs.declared.Face.the-variants as Face
 use Rattle.cells.specs.declared.Part.{Part}
 use Rattle.cells.specs.declared.Part.the-variants.{OriginX, OriginY, OriginZ, Edge}
-use Rattle.cells.specs.declared.Manner.{Manner}
 use Rattle.cells.specs.declared.Refusal.{Refusal}
 use Rattle.cells.specs.declared.Refusal.the-variants as Refusal
+use Rattle.cells.specs.declared.Rule.{Rule}
+use Rattle.cells.specs.declared.Rule.the-variants.{One, Two}
+use Rattle.cells.specs.declared.Start.the-variants.{Untested}
 use Rattle.cells.specs.declared.Verdict.the-variants as Verdict
-use Rattle.cells.specs.Manners.{usual, tested-start}
+use Rattle.cells.specs.Manners.{usual, tested-start, tested-by, rule-of, rule-check}
 use Rattle.cells.specs.Refusals.{Told, told-verdict}
 use Rattle.lists.specs.declared.Listed.the-variants as Listed
 use Rattle.lists.specs.Lists.{told-listed}
@@ -48,7 +50,7 @@ use Rattle.oatmarten.specs.LineCalls.{flat-listed}
 use Rattle.oatmarten.specs.GridCalls.{flat-verdict, flat-complete, flat-part}
 use Rattle.oatmarten.specs.WalkCalls.{flat-hit, FlatFinds}
 use Rattle.oatmarten.specs.SightCalls.{flat-found, flat-sight}
-use Rattle.oatmarten.specs.RecordCalls.{flat-venue, flat-pair, flat-written}
+use Rattle.oatmarten.specs.RecordCalls.{rule-number, flat-venue, flat-pair, flat-written}
 use Rattle.claims.specs.Example.{at, example-counts, example-cells}
 
 -- 1. What C reads, over what SCOPE says of the answer.
@@ -73,16 +75,16 @@ pub record Flattenings : Type 0 where
   pub pair : Flattened told-pair flat-pair (λ f. f .said)
   pub written : Flattened told-written flat-written (λ f. f .said)
 
--- SCOPE's table has the numbers 1 to 11
+-- SCOPE's table has the numbers 1 to 12
 abbrev pub InTable : ℕ → Type 0
-InTable k = (1 ≤ k) × (k ≤ 11)
+InTable k = (1 ≤ k) × (k ≤ 12)
 
 -- the three numbers of `said`
 abbrev pub three : (refusal end axis : ℕ) → OatSaid
 three refusal end axis = record { refusal = refusal; end = end; axis = axis }
 
--- 2. The numbers that C reads, as include/oatmarten.h has them: of ends, axes, parts of a placement and entry faces, of each refusal, and of a call
--- on a named input, P at (0,0,0) and Q at (0,2,0) of the program's venue. They tell which refusal it is.
+-- 2. The numbers that C reads, as include/oatmarten.h has them: of ends, axes, parts of a placement, entry faces and rules, of each refusal, and of
+-- a call on a named input, P at (0,0,0) and Q at (0,2,0) of the program's venue, by either rule. They tell which refusal it is.
 pub record SaidNumbers : Type 0 where
   pub ends : (end-number P ≡ 1) × (end-number Q ≡ 2)
   pub axes : (axis-number X ≡ 1) × (axis-number Y ≡ 2) × (axis-number Z ≡ 3)
@@ -91,6 +93,7 @@ pub record SaidNumbers : Type 0 where
   pub rising : (face-number (Face.Plus X) ≡ pos 1) × (face-number (Face.Plus Y) ≡ pos 2) × (face-number (Face.Plus Z) ≡ pos 3)
   -- `negsuc` counts from -1 on
   pub falling : (face-number (Face.Minus X) ≡ negsuc 0) × (face-number (Face.Minus Y) ≡ negsuc 1) × (face-number (Face.Minus Z) ≡ negsuc 2)
+  pub rules : (rule-number One ≡ 1) × (rule-number Two ≡ 2)
   pub fine : accepted ≡ three 0 0 0
   pub limit : (e : End) (a : Axis) → flat-refusal (Refusal.Limit e a) ≡ three 1 (end-number e) (axis-number a)
   pub count : (a : Axis) → flat-refusal (Refusal.Count a) ≡ three 2 0 (axis-number a)
@@ -103,9 +106,11 @@ pub record SaidNumbers : Type 0 where
   pub off-survey : (e : End) (a : Axis) → flat-refusal (Refusal.OffSurvey e a) ≡ three 9 (end-number e) (axis-number a)
   pub no-record : flat-refusal Refusal.Record ≡ three 10 0 0
   pub version : flat-refusal Refusal.Version ≡ three 11 0 0
+  pub no-rule : flat-refusal Refusal.NoRule ≡ three 12 0 0
   pub in-table : (r : Refusal) → InTable (flat-refusal r .refusal)
   pub apart : (r s : Refusal) → flat-refusal r ≡ flat-refusal s → r ≡ s
-  pub q-off-y : (how : Manner) (r : OatHit) → FlatFinds Plain how example-counts example-cells (at 0 0 0) (at 0 2 0) r → r .said ≡ three 5 2 2
+  pub q-off-y : (start : ℕ) (rule : Rule) (r : OatHit) →
+      FlatFinds Plain (record { start = start; rule = rule-number rule }) example-counts example-cells (at 0 0 0) (at 0 2 0) r → r .said ≡ three 5 2 2
 
 -- 3. What each struct holds, for all values. Of an accepted answer: 0, 0, 0 in `said`, each value in its own field, and 0 in the fields that the
 -- answer does not speak of. Of a refused one: the refusal's three numbers in `said`, and 0 in every other field.
@@ -149,23 +154,28 @@ pub record FlatRows : Type 0 where
       record { said = three 0 0 0; nx = nx; ny = ny; nz = nz; offset = start; length = long }
   pub venue-refused : (r : Refusal) → flat-venue (VenueRead.Refused r) ≡
       record { said = flat-refusal r; nx = 0; ny = 0; nz = 0; offset = 0; length = 0 }
-  -- a pair's record: px, py, pz are those of P, qx, qy, qz those of Q
-  pub pair : (px py pz qx qy qz : ℤ) →
-      flat-pair (PairRead.Read (record { p = record { x = px; y = py; z = pz }; q = record { x = qx; y = qy; z = qz } })) ≡
-      record { said = three 0 0 0; px = px; py = py; pz = pz; qx = qx; qy = qy; qz = qz }
+  -- a pair's record: px, py, pz are those of P, qx, qy, qz those of Q, and `rule` is the rule's number
+  pub pair : (px py pz qx qy qz : ℤ) (rule : Rule) →
+      flat-pair (PairRead.Read (record { p = record { x = px; y = py; z = pz }; q = record { x = qx; y = qy; z = qz }; rule = rule })) ≡
+      record { said = three 0 0 0; px = px; py = py; pz = pz; qx = qx; qy = qy; qz = qz; rule = rule-number rule }
   pub pair-refused : (r : Refusal) → flat-pair (PairRead.Refused r) ≡
-      record { said = flat-refusal r; px = pos 0; py = pos 0; pz = pos 0; qx = pos 0; qy = pos 0; qz = pos 0 }
+      record { said = flat-refusal r; px = pos 0; py = pos 0; pz = pos 0; qx = pos 0; qy = pos 0; qz = pos 0; rule = 0 }
   -- a venue's record that was written: `written` is the number of bytes
   pub written : (many : ℕ) → flat-written (Written.Wrote many) ≡ record { said = three 0 0 0; written = many }
   pub written-refused : (r : Refusal) → flat-written (Written.Refused r) ≡ record { said = flat-refusal r; written = 0 }
 
--- 4. What the structs that the calls take mean, for all values: the cell, counts, placement and point with the same value under each name; the number
--- 0 is a start that is not tested, the default, and any other number is one that is.
+-- 4. What the structs that the calls take mean, for all values: the cell, counts, placement and point with the same value under each name; of a manner
+-- the start 0 is one that is not tested, and any other number one that is; the rules 1 and 2 are named by their numbers, and any other number names none,
+-- and is refused 12. The default is the start 0 with the rule 1.
 pub record InputRows : Type 0 where
   pub cell : (x y z : ℤ) → as-cell (record { x = x; y = y; z = z }) ≡ record { x = x; y = y; z = z }
   pub counts : (nx ny nz : ℕ) → as-counts (record { nx = nx; ny = ny; nz = nz }) ≡ record { nx = nx; ny = ny; nz = nz }
-  pub untested : as-manner (record { start = 0 }) ≡ usual
-  pub tested : (number : ℕ) → (number ≡ 0 → ⊥) → as-manner (record { start = number }) ≡ tested-start
+  pub untested : as-manner (record { start = 0; rule = 1 }) ≡ usual
+  pub untested-two : as-manner (record { start = 0; rule = 2 }) ≡ record { start = Untested; rule = Two }
+  pub tested : (number : ℕ) → (number ≡ 0 → ⊥) → as-manner (record { start = number; rule = 1 }) ≡ tested-start
+  pub tested-two : (number : ℕ) → (number ≡ 0 → ⊥) → as-manner (record { start = number; rule = 2 }) ≡ tested-by Two
+  pub named-rule : (rule : Rule) → (rule-check (rule-number rule) ≡ Verdict.Fine) × (rule-of (rule-number rule) ≡ rule)
+  pub no-rule : (number : ℕ) → (number ≡ 1 → ⊥) → (number ≡ 2 → ⊥) → rule-check number ≡ Verdict.Refused Refusal.NoRule
   pub placement : (ox oy oz edge : Float) →
       as-placement (record { ox = ox; oy = oy; oz = oz; edge = edge }) ≡ record { ox = ox; oy = oy; oz = oz; edge = edge }
   pub point : (x y z : Float) → as-point (record { x = x; y = y; z = z }) ≡ record { x = x; y = y; z = z }

@@ -10,8 +10,9 @@ use Rattle.cells.specs.declared.Cell.{Cell}
 use Rattle.cells.specs.declared.Counts.{Counts}
 use Rattle.cells.specs.declared.Manner.{Manner}
 use Rattle.cells.specs.declared.Refusal.{Refusal}
+use Rattle.cells.specs.declared.Rule.{Rule}
 use Rattle.lines.specs.Steps.{total}
-use Rattle.lines.specs.Preference.{rule-1}
+use Rattle.lines.specs.Preference.{by-rule}
 use Rattle.lines.specs.Lines.{differences, six-cell}
 use Rattle.lines.specs.Segment.{Share, InOpen, InClosed}
 use Rattle.lists.specs.declared.Listed.{Listed}
@@ -32,8 +33,8 @@ use Rattle.records.specs.Venues.{ReadsVenue, GivesCells}
 use Rattle.records.specs.Writing.{WritesVenue}
 use Rattle.claims.specs.Ties.{AsksNothing, Promised}
 use Rattle.claims.specs.ExportTies.{ExportsAskNothing, ExportsPromised}
-use Rattle.claims.specs.Refused.{LinesTold, GridsTold, PointsTold, RecordsTold}
-use Rattle.claims.specs.Exports.{ExportsAre, ExportsOnce, RefusedUntouched}
+use Rattle.claims.specs.Refused.{LinesTold, GridsTold, PointsTold, RecordsTold, RulesTold}
+use Rattle.claims.specs.Exports.{ExportsAre, NoSuchRule, ExportsOnce, RefusedUntouched}
 use Rattle.claims.specs.Flattenings.{Flattenings}
 use Rattle.claims.specs.Words.{OneNumber}
 use Rattle.claims.specs.Lists.{ListedOnce, CellsListed}
@@ -44,6 +45,7 @@ use Rattle.claims.specs.Records as records
 use Rattle.claims.specs.Sights.{SeenOnce, OpenWay}
 use Rattle.claims.specs.Story.{SameStory, NoLater, FirstOnLine, HitFace, HitOnce, WalksEnd, StepByStep, AdaptiveStep, AsItsWalk}
 use Rattle.claims.specs.Starts.{StartTest, TwoStarts}
+use Rattle.claims.specs.Rules.{TheRules, Mirror, BothWays}
 
 -- 1. Every public call takes any numbers and any lent memory, has one answer and one final memory for each input, and refuses by number exactly
 -- where SCOPE's table says, in its order; a refusal writes nothing.
@@ -64,23 +66,28 @@ pub record TakesAnything : Type 1 where
   pub point-refusals : (n : Counts) (at : Placement) → PointsTold n at
   pub record-refusals : RecordsTold
   pub for-c : ExportsAskNothing × ExportsPromised × ExportsAre × Flattenings × ExportsOnce × RefusedUntouched
+  pub rules-for-c : RulesTold × ((number : ℕ) → NoSuchRule number)
 
--- 2. The lines are the paper's, made exact: at each place of the 6-line every crossing made comes before every one not made, ties by rule 1, and no
+-- 2. The lines are the paper's, made exact: at each place of the 6-line every crossing made comes before every one not made, ties by its rule, and no
 -- other place has that; its cells go from P to Q, each touched by the segment, and no cell is missing whose inside the segment enters. The list
--- calls write just these cells. Both walks start at P and go on by what comes next, to the first hit or to Q: for the plain walk that is the 6-line to
+-- calls write just these cells; by rule 2 the line from Q to P is the mirror. Both walks start at P and go on by what comes next, to the first hit or to Q: for the plain walk that is the 6-line to
 -- its first hit, for the adaptive one long steps at clear cells of the 26-line. A hit is a solid cell; P is none where the start is not tested. The
 -- calls answer from where these walks end, with their cells as the reads. A venue written and read back is the same venue.
 pub record AreThePapers : Type 0 where
-  pub order : (p q : Cell) → OnePlace rule-1 (differences p q)
-  pub six : (p q : Cell) → SixLine rule-1 p q
-  pub touched : (p q : Cell) (n : ℕ) → n ≤ total (differences p q) → (k : ℕ) × (d : ℕ) × Share k d × InClosed p q k d (six-cell rule-1 p q n)
-  pub none-missing : (p q : Cell) (k d : ℕ) (c : Cell) → Share k d → InOpen p q k d c → (n : ℕ) × (n ≤ total (differences p q)) × (six-cell rule-1 p q n ≡ c)
-  pub twenty-six : (p q : Cell) → TwentySixLine rule-1 p q
+  pub rules : (p q : Cell) → TheRules p q
+  pub order : (rule : Rule) (p q : Cell) → OnePlace (by-rule rule p q) (differences p q)
+  pub six : (rule : Rule) (p q : Cell) → SixLine (by-rule rule p q) p q
+  pub touched : (rule : Rule) (p q : Cell) (n : ℕ) → n ≤ total (differences p q) →
+      (k : ℕ) × (d : ℕ) × Share k d × InClosed p q k d (six-cell (by-rule rule p q) p q n)
+  pub none-missing : (rule : Rule) (p q : Cell) (k d : ℕ) (c : Cell) → Share k d → InOpen p q k d c →
+      (n : ℕ) × (n ≤ total (differences p q)) × (six-cell (by-rule rule p q) p q n ≡ c)
+  pub twenty-six : (rule : Rule) (p q : Cell) → TwentySixLine (by-rule rule p q) p q
+  pub mirror : (p q : Cell) → Mirror p q
   pub listed : (p q : Cell) (entry exit : List ℤ) (k : ℕ) → CellsListed p q entry exit k
   pub walks : (how : Manner) (n : Counts) (l : List ℕ) (p q : Cell) → StepByStep how n l p q × WalksEnd how n l p q
   pub tests : (n : Counts) (l : List ℕ) (p : Cell) → StartTest n l p
   pub answers : (how : Manner) (n : Counts) (l : List ℕ) (p q : Cell) → AsItsWalk how n l p q
-  pub adaptive : (n : Counts) (l : List ℕ) (p q : Cell) → AdaptiveStep n l p q
+  pub adaptive : (rule : Rule) (n : Counts) (l : List ℕ) (p q : Cell) → AdaptiveStep (by-rule rule p q) n l p q
   pub plain : (how : Manner) (n : Counts) (l : List ℕ) (p q : Cell) → FirstOnLine how n l p q
   pub read-back : (n : Counts) (cells entry exit : List ℕ) (k : ℕ) → WritesVenue n cells entry (Wrote k) exit →
       (rest : List ℕ) (bytes part : RefT (List ℕ)) (r : VenueRead) →
@@ -89,7 +96,8 @@ pub record AreThePapers : Type 0 where
 -- 3. Where the completeness call says yes, the adaptive and the plain walk find the same first hit, its cell, code, place and entry face, or both none,
 -- and the adaptive one reads no more cells; and a clear sight has nothing solid in its way, but for the camera's own cell where it is not tested. In
 -- any grid whatever, an adaptive hit is a plain hit, there or before; and a hit of either walk says the face by which the 6-line enters its cell, at
--- its place. All this in either start mode; where P is not solid the two answer alike, and where it is not tested it is never the hit.
+-- its place. All this in either start mode and under either rule; where P is not solid the two answer alike, and where it is not tested it is never the hit. By rule 2, with a tested start, the walks
+-- from P to Q and from Q to P are both clear or both hit.
 pub record TellOneStory : Type 0 where
   pub same : (how : Manner) (n : Counts) (l : List ℕ) (p q : Cell) → Completes n l Yes → (plain adaptive : FirstHit) →
       Finds Plain how n l p q plain → Finds Adaptive how n l p q adaptive → SameStory plain adaptive
@@ -97,6 +105,7 @@ pub record TellOneStory : Type 0 where
       Sees how n l at camera ball Sight.Clear → OpenWay how n l at camera ball
   pub never-invented : (how : Manner) (n : Counts) (l : List ℕ) (p q : Cell) (k : Hit) (plain : FirstHit) → Finds Adaptive how n l p q (FirstHit.Hit k) →
       Finds Plain how n l p q plain →
-      (h : Hit) × (plain ≡ FirstHit.Hit h) × NoLater p q (h .cell) (k .cell)
+      (h : Hit) × (plain ≡ FirstHit.Hit h) × NoLater (by-rule (how .rule) p q) p q (h .cell) (k .cell)
   pub faces : (how : Manner) (n : Counts) (l : List ℕ) (p q : Cell) → HitFace how n l p q
   pub starts : (n : Counts) (l : List ℕ) (p q : Cell) → TwoStarts n l p q
+  pub both-ways : (n : Counts) (l : List ℕ) (p q : Cell) → BothWays n l p q

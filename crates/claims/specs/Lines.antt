@@ -2,18 +2,20 @@
 use Prim.Native.Nat.{ℕ, suc, _+_, _≤_, _<_}
 use mathlib.Core.Path.{_≡_}
 use mathlib.Core.Logic.{_↔_}
-use lib.IntN.{pos, negsuc, _+ℤ_}
+use lib.IntN.{pos, negsuc, _+ℤ_, _-ℤ_}
 use lib.Signed.{ltZ, _≤ℤ_}
 use lib.ListN.{length, getD}
 use Rattle.cells.specs.declared.Cell.{Cell}
 use Rattle.cells.specs.Touching.{on, apart, Touches}
+use Rattle.lines.specs.declared.Order.{Order}
+use Rattle.lines.specs.declared.Order.the-variants.{Yzx}
 use Rattle.lines.specs.Steps.{Axis, X, Y, Z, Steps, total, stepped}
 use Rattle.lines.specs.Crossings.{next, place, before, InOrder, LastMade, MadeUpto}
-use Rattle.lines.specs.Preference.{Preference, rule-1}
+use Rattle.lines.specs.Preference.{Preference, prefers}
 use Rattle.lines.specs.Lines.{differences, centres, six-cell, six-line, longest, place-26, cell-26, line-26, InLimit}
 use Rattle.lines.specs.Segment.{Share, InClosed, InOpen}
 use Rattle.claims.specs.Example.{at}
-use Rattle.lines.specs.Decisions.{decision, e-xy, e-xz, e-zy, values, by-signs, doubled, moved-values}
+use Rattle.lines.specs.Decisions.{decision, e-xy, e-xz, e-zy, values, by-signs, doubled, moved-values, shift, lowered}
 
 -- 1. For each number of crossings there is one place such that every crossing made comes before every one not made: the 6-line's.
 pub record OnePlace (r : Preference) (D : Steps) : Type 0 where
@@ -66,17 +68,21 @@ pub record Skipped (r : Preference) (p q : Cell) : Type 0 where
       Touches 2 (cell-26 p q m) (six-cell r p q n)
 
 -- 6. Which of two axes' next crossings comes first is told by the sign of their decision value with the tie bit: below 1 where a is preferred, below
--- 0 where not. Figure 6 picks the next crossing of rule 1 at every place that is not the end; its sums move the values; they stay within
--- 536,821,761 of 0.
+-- 0 where not. Figure 6's tests on the values lowered for an order pick that order's next crossing, at every place that is not the end; in the order
+-- y, z, x these are the values themselves. Its sums move the lowered values too.
 pub record Signs (D : Steps) : Type 0 where
   pub tell-with-tie : (r : Preference) (t : Steps) (a b : Axis) → r .rank a < r .rank b → before (centres r D) a (t a) b (t b) ≡ ltZ (decision D t a b) (pos 1)
   pub tell : (r : Preference) (t : Steps) (a b : Axis) → r .rank b < r .rank a → before (centres r D) a (t a) b (t b) ≡ ltZ (decision D t a b) (pos 0)
-  pub pick : (t : Steps) → ((a : Axis) → t a ≤ D a) → total t < total D → by-signs (values D t) ≡ next (centres rule-1 D) t
-  pub move : (t : Steps) (n : Axis) → values D (stepped t n) ≡ moved-values (doubled D) n (values D t)
+  pub pick : (o : Order) (t : Steps) → ((a : Axis) → t a ≤ D a) → total t < total D → by-signs (lowered o (values D t)) ≡ next (centres (prefers o) D) t
+  pub itself : (t : Steps) → lowered Yzx (values D t) ≡ values D t
+  pub move : (o : Order) (t : Steps) (n : Axis) → lowered o (values D (stepped t n)) ≡ moved-values (doubled D) n (lowered o (values D t))
 
+-- SCOPE L19: the values stay within 536,821,761 of 0; lowered they reach one further down, to -536,821,762.
 pub record SmallValues (p q : Cell) : Type 0 where
   pub small : InLimit p → InLimit q → (t : Steps) → ((a : Axis) → t a ≤ differences p q a) → (a b : Axis) →
       (negsuc 536821760 ≤ℤ decision (differences p q) t a b) × (decision (differences p q) t a b ≤ℤ pos 536821761)
+  pub lowered : InLimit p → InLimit q → (t : Steps) → ((a : Axis) → t a ≤ differences p q a) → (o : Order) (a b : Axis) →
+      (negsuc 536821761 ≤ℤ (decision (differences p q) t a b -ℤ pos (shift o))) × ((decision (differences p q) t a b -ℤ pos (shift o)) ≤ℤ pos 536821761)
 
 -- 7. The crossing by which the 6-line enters a place is the last of the crossings last made, and it alone is.
 pub record Entered (r : Preference) (D : Steps) : Type 0 where

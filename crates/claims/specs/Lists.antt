@@ -6,8 +6,9 @@ use lib.IntN.{ℤ, pos, negsuc}
 use lib.ListN.{length, getD, replicate}
 use Rattle.cells.specs.declared.Cell.{Cell}
 use Rattle.cells.specs.declared.Refusal.{Refusal}
+use Rattle.cells.specs.declared.Rule.{Rule}
 use Rattle.lines.specs.Steps.{total}
-use Rattle.lines.specs.Preference.{rule-1}
+use Rattle.lines.specs.Preference.{by-rule}
 use Rattle.lines.specs.Lines.{differences, longest, six-cell, six-line, cell-26, line-26, InLimit}
 use Rattle.lists.specs.declared.Listed.{Listed}
 use Rattle.lists.specs.declared.Listed.the-variants.{Cells, Refused}
@@ -37,8 +38,8 @@ pub record CellsAt (many : ℕ) (cell : ℕ → Cell) (entry exit : List ℤ) (k
 
 -- SCOPE A2: what an accepted list answers and writes, cell by cell
 pub record CellsListed (p q : Cell) (entry exit : List ℤ) (k : ℕ) : Type 0 where
-  -- an accepted list of the 6-line has its A+B+C+1 cells
-  pub six : Line6 p q entry (Cells k) exit → CellsAt (total (differences p q) + 1) (six-cell rule-1 p q) entry exit k
+  -- an accepted list of the 6-line has its A+B+C+1 cells, those of its rule
+  pub six : (rule : Rule) → Line6 rule p q entry (Cells k) exit → CellsAt (total (differences p q) + 1) (six-cell (by-rule rule p q) p q) entry exit k
   -- an accepted list of the 26-line has its M+1 cells
   pub twenty-six : Line26 p q entry (Cells k) exit → CellsAt (longest (differences p q) + 1) (cell-26 p q) entry exit k
 
@@ -58,7 +59,7 @@ pub record Longest (line : Cell → Cell → List Cell) (cells room : ℕ) : Typ
 -- SCOPE A4, A5: the cells of a longest 6-line and 26-line, and the room for them: the header's OAT_LINE6_ROOM and OAT_LINE26_ROOM.
 pub record LongestLists : Type 0 where
   pub accepted : InLimit lowest × InLimit highest
-  pub six : Longest (six-line rule-1) 49150 147450
+  pub six : (rule : Rule) → Longest (λ p q. six-line (by-rule rule p q) p q) 49150 147450
   pub twenty-six : Longest line-26 16384 49152
 
 -- room for the four cells from (0,0,0) to (2,1,0), and one number more
@@ -71,6 +72,6 @@ then-q = numbers (at 0 0 0 ∷ at 1 0 0 ∷ at 2 1 0 ∷ at 2 1 0 ∷ []) ++ pos
 
 -- wrong answers that the contracts shut out, on named inputs
 pub record WrongLists : Type 0 where
-  pub repeats-q : (r : Listed) → Line6 (at 0 0 0) (at 2 1 0) room r then-q → ⊥
-  pub refuses-6 : (r : Refusal) (exit : List ℤ) → Line6 (at 0 0 0) (at 2 1 0) room (Refused r) exit → ⊥
+  pub repeats-q : (rule : Rule) (r : Listed) → Line6 rule (at 0 0 0) (at 2 1 0) room r then-q → ⊥
+  pub refuses-6 : (rule : Rule) (r : Refusal) (exit : List ℤ) → Line6 rule (at 0 0 0) (at 2 1 0) room (Refused r) exit → ⊥
   pub refuses-26 : (r : Refusal) (exit : List ℤ) → Line26 (at 0 0 0) (at 2 1 0) room (Refused r) exit → ⊥

@@ -5,8 +5,8 @@ use mathlib.Core.List.{List, [], _∷_, _++_}
 use mathlib.Core.Logic.{_⊎_}
 use lib.ListN.{take}
 use Rattle.cells.specs.declared.Counts.{Counts}
-use Rattle.cells.specs.declared.Cell.{Cell}
 use Rattle.cells.specs.declared.Manner.{Manner}
+use Rattle.cells.specs.declared.Refusal.the-variants.{NoRule}
 use Rattle.cells.specs.declared.Start.the-variants.{Tested}
 use Rattle.walks.specs.declared.Walker.the-variants.{Plain, Adaptive}
 use Rattle.walks.specs.Answers.{Finds}
@@ -24,7 +24,7 @@ use Rattle.program.specs.declared.Next.the-variants.{On, Over}
 use Rattle.program.specs.declared.Step.{Step}
 use Rattle.program.specs.Program.{Said, venue-most, pair-most, venue-said, answers, walk-line, walk-lines, pair-said, output, frame, after-frame, Says}
 use Rattle.claims.specs.Example.{marked-cells}
-use Rattle.claims.specs.Records.{example-venue, example-pair}
+use Rattle.claims.specs.Records.{example-venue, example-pair, pair-by}
 use Rattle.records.specs.Pairs.{ReadsPair}
 
 -- ---- a run of the program
@@ -75,19 +75,23 @@ going-on k text = record { text = text; next = On (k + 1) }
 -- Of an accepted venue, a pair that is read is refused 5 or not at all; then each walk was made and has its line. Either way the program goes on.
 pub record FiveOrLines (bytes cells : RefT (List ℕ)) (t : List ℕ) (v : Venue) (e : Pair) : Type 0 where
   pub pair : ReadsVenue (bytes .now) (Read v) → GivesCells bytes cells → ReadsPair t (PairRead.Read e) → (k : ℕ) →
-      let found : List (ℕ × FirstHit) = answers (v .counts) (cells .now) (e .p) (e .q) in
+      let found : List (ℕ × FirstHit) = answers (v .counts) (cells .now) e in
       (pair-said (v .counts) (cells .now) k t ≡ going-on k (pair-refused-line k 5))
       ⊎ ((pair-said (v .counts) (cells .now) k t ≡ going-on k (walk-lines k found)) × AllWalked found)
+
+-- SCOPE T6: of a pair whose rule byte names no rule there is the line of 12, and the program goes on.
+pub record TwelveGoesOn (n : Counts) (cells t : List ℕ) : Type 0 where
+  pub goes-on : ReadsPair t (PairRead.Refused NoRule) → (k : ℕ) → pair-said n cells k t ≡ going-on k (pair-refused-line k 12)
 
 -- What the line of a walk has: a hit's cell, code, reads and entry face, or the reads of a clear one.
 pub record LineOf (k letter : ℕ) : Type 0 where
   pub hit : (h : Hit) → walk-line k letter (FirstHit.Hit h) ≡ hit-line k letter (h .cell) (h .code) (h .reads) (h .place .face)
   pub clear : (reads : ℕ) → walk-line k letter (FirstHit.Clear reads) ≡ clear-line k letter reads
 
--- SCOPE T16: between any two cells the program's answers are those of the two calls with a tested start, with the letters P and A.
-pub record TestedStart (n : Counts) (cells : List ℕ) (p q : Cell) : Type 0 where
-  pub walks : (how : Manner) → how .start ≡ Tested → (plain adaptive : FirstHit) → Finds Plain how n cells p q plain →
-      Finds Adaptive how n cells p q adaptive → answers n cells p q ≡ (80, plain) ∷ (65, adaptive) ∷ []
+-- SCOPE T16, T17: of any pair the program's answers are those of the two calls with a tested start and by the pair's rule, with the letters P and A.
+pub record TestedStart (n : Counts) (cells : List ℕ) (e : Pair) : Type 0 where
+  pub walks : (how : Manner) → how .start ≡ Tested → how .rule ≡ e .rule → (plain adaptive : FirstHit) → Finds Plain how n cells (e .p) (e .q) plain →
+      Finds Adaptive how n cells (e .p) (e .q) adaptive → answers n cells e ≡ (80, plain) ∷ (65, adaptive) ∷ []
 
 -- ---- named inputs and outputs
 
@@ -116,9 +120,11 @@ marked-output = plain-line ++ (49 ∷ 32 ∷ 65 ∷ 32 ∷ 104 ∷ 105 ∷ 116 �
 
 -- ---- wrong answers
 
--- a program that is silent on SCOPE's input; a step that goes on after a pair, or a venue, that is cut short: three bytes of a length
+-- a program that is silent on SCOPE's input; a step that goes on after a pair, or a venue, that is cut short: three bytes of a length; one that ends
+-- after a pair of the rule byte 3
 pub record WrongPrograms : Type 0 where
   pub silent : Runs example-input [] → ⊥
   pub goes-on : (n : Counts) (cells entry exit : List ℕ) (answer : Step) (k : ℕ) → Says (pair-said n cells 1 (0 ∷ 0 ∷ 0 ∷ [])) entry answer exit →
       answer .next ≡ On k → ⊥
+  pub ends-at-12 : (n : Counts) (cells entry exit : List ℕ) (answer : Step) → Says (pair-said n cells 1 (pair-by 3)) entry answer exit → answer .next ≡ Over → ⊥
   pub begins : (entry exit : List ℕ) (answer : Step) (k : ℕ) → Says (venue-said (0 ∷ 0 ∷ 0 ∷ [])) entry answer exit → answer .next ≡ On k → ⊥

@@ -3,7 +3,7 @@
 use Prim.Native.Nat.{ℕ}
 use mathlib.Core.List.{List, [], _∷_, _++_}
 use lib.ListN.{replicate}
-use Rattle.claims.specs.Records.{example-venue, example-pair, version-2}
+use Rattle.claims.specs.Records.{example-venue, example-pair, pair-by, second-of-13, version-2}
 use Rattle.claims.specs.Program.{marked-venue}
 use Rattle.claims.specs.Starred.{Row, writes}
 
@@ -20,9 +20,9 @@ no-cells = 0 ∷ 0 ∷ 0 ∷ 7 ∷ 1 ∷ 0 ∷ 1 ∷ 0 ∷ 1 ∷ 0 ∷ 1 ∷ []
 abbrev pub off-pair : List ℕ
 off-pair = 0 ∷ 0 ∷ 0 ∷ 13 ∷ 1 ∷ 0 ∷ 0 ∷ 0 ∷ 0 ∷ 0 ∷ 0 ∷ 0 ∷ 4 ∷ 0 ∷ 1 ∷ 0 ∷ 0 ∷ []
 
--- the example's pair, called version 2
+-- the example's pair, called version 3
 abbrev pub other-version : List ℕ
-other-version = 0 ∷ 0 ∷ 0 ∷ 13 ∷ 2 ∷ 0 ∷ 0 ∷ 0 ∷ 0 ∷ 0 ∷ 0 ∷ 0 ∷ 3 ∷ 0 ∷ 1 ∷ 0 ∷ 0 ∷ []
+other-version = 0 ∷ 0 ∷ 0 ∷ 13 ∷ 3 ∷ 0 ∷ 0 ∷ 0 ∷ 0 ∷ 0 ∷ 0 ∷ 0 ∷ 3 ∷ 0 ∷ 1 ∷ 0 ∷ 0 ∷ []
 
 -- from (3,1,0) to (0,1,0), and from the solid cell (1,1,0) to (3,1,0)
 abbrev pub back-pair : List ℕ
@@ -30,6 +30,13 @@ back-pair = 0 ∷ 0 ∷ 0 ∷ 13 ∷ 1 ∷ 0 ∷ 3 ∷ 0 ∷ 1 ∷ 0 ∷ 0 ∷ 0
 
 abbrev pub solid-pair : List ℕ
 solid-pair = 0 ∷ 0 ∷ 0 ∷ 13 ∷ 1 ∷ 0 ∷ 1 ∷ 0 ∷ 1 ∷ 0 ∷ 0 ∷ 0 ∷ 3 ∷ 0 ∷ 1 ∷ 0 ∷ 0 ∷ []
+
+-- version 2, with a byte for the rule: from (4,1,0), outside the venue, to (0,0,0); and version 1, from (3,1,0) to (0,0,0)
+abbrev pub off-pair-by : ℕ → List ℕ
+off-pair-by rule = 0 ∷ 0 ∷ 0 ∷ 14 ∷ 2 ∷ 0 ∷ 4 ∷ 0 ∷ 1 ∷ 0 ∷ 0 ∷ 0 ∷ 0 ∷ 0 ∷ 0 ∷ 0 ∷ 0 ∷ rule ∷ []
+
+abbrev pub first-pair : List ℕ
+first-pair = 0 ∷ 0 ∷ 0 ∷ 13 ∷ 1 ∷ 0 ∷ 3 ∷ 0 ∷ 1 ∷ 0 ∷ 0 ∷ 0 ∷ 0 ∷ 0 ∷ 0 ∷ 0 ∷ 0 ∷ []
 
 -- a whole record of version 1 and length 12
 abbrev pub twelve-long : List ℕ
@@ -48,7 +55,7 @@ long-256 = 0 ∷ 0 ∷ 1 ∷ 0 ∷ replicate 256 9
 abbrev pub refused : List ℕ
 refused = 32 ∷ 114 ∷ 101 ∷ 102 ∷ 117 ∷ 115 ∷ 101 ∷ 100 ∷ 32 ∷ []
 
--- `2`, `3`, `5`, `6`, `10` and `11`, each with its line feed
+-- `2`, `3`, `5`, `6`, `10`, `11` and `12`, each with its line feed
 abbrev pub two : List ℕ
 two = 50 ∷ 10 ∷ []
 
@@ -67,6 +74,9 @@ ten = 49 ∷ 48 ∷ 10 ∷ []
 abbrev pub eleven : List ℕ
 eleven = 49 ∷ 49 ∷ 10 ∷ []
 
+abbrev pub twelve : List ℕ
+twelve = 49 ∷ 50 ∷ 10 ∷ []
+
 -- `2 P hit 1 1 0 2 3 +y` and `2 A clear 4`
 abbrev pub second-lines : List ℕ
 second-lines =
@@ -83,6 +93,10 @@ by-minus-x = 51 ∷ 32 ∷ 45 ∷ 120 ∷ 10 ∷ []
 
 abbrev pub at-start : List ℕ
 at-start = 49 ∷ 32 ∷ 48 ∷ 10 ∷ []
+
+-- ` clear 5`, with its line feed
+abbrev pub clear-five : List ℕ
+clear-five = 32 ∷ 99 ∷ 108 ∷ 101 ∷ 97 ∷ 114 ∷ 32 ∷ 53 ∷ 10 ∷ []
 
 -- ---- the rows
 
@@ -110,4 +124,11 @@ more-program-rows =
     -- a pair length of 255 is read, and its version looked at; one of 256 is refused 10 before that
     ∷ writes (example-venue ++ long-255) (49 ∷ refused ++ eleven)
     ∷ writes (example-venue ++ long-256) (49 ∷ refused ++ ten)
+    -- one line by rule 1, by rule 2, and by the rule byte 3, which is 12; it goes on; ends outside by the rule bytes 0, which is 12 before 5, and 2; the
+    -- first line in version 1, as by rule 1; a version 2 pair of length 13 is refused 10, and it ends, though a pair follows
+    ∷ writes
+    (marked-venue ++ pair-by 1 ++ pair-by 2 ++ pair-by 3 ++ off-pair-by 0 ++ off-pair-by 2 ++ first-pair ++ second-of-13 ++ pair-by 1)
+    ((49 ∷ 32 ∷ 80 ∷ clear-five) ++ (49 ∷ 32 ∷ 65 ∷ clear-five) ++ (50 ∷ 32 ∷ 80 ∷ post ++ by-minus-x) ++ (50 ∷ 32 ∷ 65 ∷ post ++ by-minus-x)
+    ++ (51 ∷ refused ++ twelve) ++ (52 ∷ refused ++ twelve) ++ (53 ∷ refused ++ five)
+    ++ (54 ∷ 32 ∷ 80 ∷ clear-five) ++ (54 ∷ 32 ∷ 65 ∷ clear-five) ++ (55 ∷ refused ++ ten))
     ∷ []

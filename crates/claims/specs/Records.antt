@@ -1,15 +1,16 @@
 -- What is claimed of venue and pair records: for all answers that meet the calls' contracts. Assumes nothing.
 use Prim.Native.Nat.{ℕ, _+_, _*_, _≤_, _<_}
 use mathlib.Core.Path.{_≡_}
-use mathlib.Core.Logic.{_↔_}
+use mathlib.Core.Logic.{_↔_, _⊎_}
 use mathlib.Core.List.{List, [], _∷_, _++_}
 use lib.IntN.{pos, _-ℤ_}
-use lib.ListN.{length, take, replicate}
+use lib.ListN.{length, getD, take, replicate}
 use denote.Ref.{RefT}
 use Rattle.buffers.specs.Numbers.{two-at, four-at, AllBytes}
 use Rattle.cells.specs.declared.Counts.{Counts}
 use Rattle.cells.specs.declared.Refusal.{Refusal}
-use Rattle.cells.specs.declared.Refusal.the-variants.{Bytes}
+use Rattle.cells.specs.declared.Refusal.the-variants.{Bytes, NoRule}
+use Rattle.cells.specs.declared.Rule.the-variants.{One, Two}
 use Rattle.cells.specs.Parts.{StartsAt}
 use Rattle.cells.specs.declared.Verdict.the-variants.{Fine}
 use Rattle.grids.specs.Grid.{size, count-check, shape}
@@ -36,7 +37,8 @@ pub record OneAnswer : Type 0 where
       (r ≡ t) × (x ≡ y)
   pub untouched : (n : Counts) (cells entry : List ℕ) (r : Refusal) (x : List ℕ) → WritesVenue n cells entry (Written.Refused r) x → x ≡ entry
 
--- 2. What reading accepts, in SCOPE's numbers: a venue v of these bytes, and a pair e.
+-- 2. What reading accepts, in SCOPE's numbers: a venue v of these bytes, and a pair e: of version 1 and length 13, which means rule 1; or of version 2
+-- and length 14, whose last byte, 1 or 2, is the rule's number.
 pub record Right (s : List ℕ) (v : Venue) : Type 0 where
   pub whole : 4 + announced s ≤ length s
   pub version : version-of s ≡ 1
@@ -47,8 +49,8 @@ pub record Right (s : List ℕ) (v : Venue) : Type 0 where
 
 pub record RightPair (s : List ℕ) (e : Pair) : Type 0 where
   pub whole : 4 + announced s ≤ length s
-  pub version : version-of s ≡ 1
-  pub length-is : announced s ≡ 13
+  pub version : ((version-of s ≡ 1) × (announced s ≡ 13) × (e .rule ≡ One))
+      ⊎ ((version-of s ≡ 2) × (announced s ≡ 14) × (((getD s 17 0 ≡ 1) × (e .rule ≡ One)) ⊎ ((getD s 17 0 ≡ 2) × (e .rule ≡ Two))))
   pub p-is : e .p ≡ record { x = signed (two-at s 5); y = signed (two-at s 7); z = signed (two-at s 9) }
   pub q-is : e .q ≡ record { x = signed (two-at s 11); y = signed (two-at s 13); z = signed (two-at s 15) }
 
@@ -110,6 +112,10 @@ example-venue = 0 ∷ 0 ∷ 0 ∷ 15 ∷ 1 ∷ 0 ∷ 4 ∷ 0 ∷ 2 ∷ 0 ∷ 1 �
 abbrev pub example-pair : List ℕ
 example-pair = 0 ∷ 0 ∷ 0 ∷ 13 ∷ 1 ∷ 0 ∷ 0 ∷ 0 ∷ 0 ∷ 0 ∷ 0 ∷ 0 ∷ 3 ∷ 0 ∷ 1 ∷ 0 ∷ 0 ∷ []
 
+-- a pair of version 2, from (3,1,0) to (0,0,0), with a byte for the rule: `0000000E 02 0003 0001 0000 0000 0000 0000` and that byte
+abbrev pub pair-by : ℕ → List ℕ
+pair-by rule = 0 ∷ 0 ∷ 0 ∷ 14 ∷ 2 ∷ 0 ∷ 3 ∷ 0 ∷ 1 ∷ 0 ∷ 0 ∷ 0 ∷ 0 ∷ 0 ∷ 0 ∷ 0 ∷ 0 ∷ rule ∷ []
+
 -- room for the example and one byte more
 abbrev pub example-room : List ℕ
 example-room = replicate 20 99
@@ -120,12 +126,20 @@ example-room = replicate 20 99
 abbrev pub minus-one-pair : List ℕ
 minus-one-pair = 0 ∷ 0 ∷ 0 ∷ 13 ∷ 1 ∷ 0 ∷ 0 ∷ 0 ∷ 0 ∷ 0 ∷ 0 ∷ 255 ∷ 255 ∷ 0 ∷ 1 ∷ 0 ∷ 0 ∷ []
 
+-- the example's pair, called version 2; and, as version 1, with a byte more, 1
+abbrev pub second-of-13 : List ℕ
+second-of-13 = 0 ∷ 0 ∷ 0 ∷ 13 ∷ 2 ∷ 0 ∷ 0 ∷ 0 ∷ 0 ∷ 0 ∷ 0 ∷ 0 ∷ 3 ∷ 0 ∷ 1 ∷ 0 ∷ 0 ∷ []
+
+abbrev pub first-of-14 : List ℕ
+first-of-14 = 0 ∷ 0 ∷ 0 ∷ 14 ∷ 1 ∷ 0 ∷ 0 ∷ 0 ∷ 0 ∷ 0 ∷ 0 ∷ 0 ∷ 3 ∷ 0 ∷ 1 ∷ 0 ∷ 0 ∷ 1 ∷ []
+
 -- the example, called version 2
 abbrev pub version-2 : List ℕ
 version-2 = 0 ∷ 0 ∷ 0 ∷ 15 ∷ 2 ∷ 0 ∷ 4 ∷ 0 ∷ 2 ∷ 0 ∷ 1 ∷ example-cells
 
 -- a reader that refuses the example, one that reads another version; the whole record, or nothing, given for the cells, or another part; a pair
--- refused, or its coordinates taken as unsigned; a writer that leaves the memory as it was, one that writes into room of one byte short
+-- refused, or its coordinates taken as unsigned; a version 2 pair of rule 2 read as rule 1, one of length 13 and a version 1 pair of length 14 read; one
+-- of the rule byte 3 read, or refused otherwise than by 12; a writer that leaves the memory as it was, one that writes into room of one byte short
 pub record WrongRecords : Type 0 where
   pub refuser : (r : Refusal) → ReadsVenue example-venue (VenueRead.Refused r) → ⊥
   pub other-version : (v : Venue) → ReadsVenue version-2 (VenueRead.Read v) → ⊥
@@ -134,5 +148,9 @@ pub record WrongRecords : Type 0 where
   pub part-elsewhere : (bytes part : RefT (List ℕ)) → bytes .now ≡ example-venue → GivesCells bytes part → part .ptr ≡ bytes .ptr → ⊥
   pub pair-refuser : (r : Refusal) → ReadsPair example-pair (PairRead.Refused r) → ⊥
   pub unsigned : (e : Pair) → ReadsPair minus-one-pair (PairRead.Read e) → e .q .x ≡ pos 65535 → ⊥
+  pub two-as-one : (e : Pair) → ReadsPair (pair-by 2) (PairRead.Read e) → e .rule ≡ One → ⊥
+  pub second-short : (e : Pair) → ReadsPair second-of-13 (PairRead.Read e) → ⊥
+  pub first-long : (e : Pair) → ReadsPair first-of-14 (PairRead.Read e) → ⊥
+  pub not-twelve : (r : PairRead) → ReadsPair (pair-by 3) r → (r ≡ PairRead.Refused NoRule → ⊥) → ⊥
   pub idle-writer : (r : Written) → WritesVenue example-counts example-cells example-room r example-room → ⊥
   pub short-writer : (exit : List ℕ) → WritesVenue example-counts example-cells (replicate 18 99) (Written.Wrote 19) exit → ⊥

@@ -19,6 +19,7 @@ use Rattle.cells.specs.declared.Manner.{Manner}
 use Rattle.cells.specs.declared.End.{End}
 use Rattle.cells.specs.declared.End.the-variants.{P, Q}
 use Rattle.cells.specs.declared.Part.the-variants.{OriginX, OriginY, OriginZ, Edge}
+use Rattle.cells.specs.declared.Rule.{Rule}
 use Rattle.cells.specs.declared.Verdict.{Verdict}
 use Rattle.cells.specs.Refusals.{Told, alone, at-axis, at-part, at-end, told-verdict}
 use Rattle.cells.specs.Tests.{Tests, _gives_, _else_, First, each-axis, ByTests}
@@ -49,6 +50,13 @@ use Rattle.records.specs.declared.writing.Written.{Written}
 use Rattle.records.specs.Venues.{ReadsVenue, GivesCells, told-venue}
 use Rattle.records.specs.Pairs.{ReadsPair, told-pair}
 use Rattle.records.specs.Writing.{WritesVenue, told-written}
+use Rattle.oatmarten.specs.declared.inputs.OatManner.{OatManner}
+use Rattle.oatmarten.specs.declared.line_calls.OatListed.{OatListed}
+use Rattle.oatmarten.specs.declared.walk_calls.OatHit.{OatHit}
+use Rattle.oatmarten.specs.declared.sight_calls.OatSight.{OatSight}
+use Rattle.oatmarten.specs.LineCalls.{flat-listed, FlatLine6}
+use Rattle.oatmarten.specs.WalkCalls.{flat-hit, FlatFinds}
+use Rattle.oatmarten.specs.SightCalls.{flat-sight, FlatSees}
 
 -- ---- line lists
 
@@ -127,7 +135,7 @@ whole-tests s =
     (four-at s 0 ≡ 0) gives alone 10 else
     (length s < 4 + four-at s 0) gives alone 10
 
--- 11, SCOPE V5: another version
+-- 11, SCOPE V5: of a venue, a version other than 1
 abbrev pub version-test : List ℕ → Tests
 version-test s = (¬ (getD s 4 0 ≡ 1)) gives alone 11
 
@@ -144,19 +152,33 @@ venue-tests s =
     count-tests (counts-in s) else
     (¬ (four-at s 0 ≡ 7 + two-at s 5 * two-at s 7 * two-at s 9)) gives alone 3
 
--- 10, 11, then 10: a length that is not 13
+-- 10, 11, SCOPE V5: neither version 1 nor 2; then 10, SCOPE V7, V11: a length that is not that of its version, 13 or 14; then 12, SCOPE R12: in version 2
+-- a last byte that names no rule
 abbrev pub pair-tests : List ℕ → Tests
-pair-tests s = whole-tests s else version-test s else (¬ (four-at s 0 ≡ 13)) gives alone 10
+pair-tests s =
+    let version : ℕ = getD s 4 0 in
+    let long : ℕ = four-at s 0 in
+    let rule : ℕ = getD s 17 0 in
+    whole-tests s else
+    ((¬ (version ≡ 1)) × (¬ (version ≡ 2))) gives alone 11 else
+    (((version ≡ 1) × (¬ (long ≡ 13))) ⊎ ((version ≡ 2) × (¬ (long ≡ 14)))) gives alone 10 else
+    ((version ≡ 2) × (¬ (rule ≡ 1)) × (¬ (rule ≡ 2))) gives alone 12
 
 -- 2, 3, then 6, SCOPE V9: room too short for the record
 abbrev pub write-tests : (n : Counts) (bytes room : ℕ) → Tests
 write-tests n bytes room = shape-tests n bytes else (room < 11 + n .nx * n .ny * n .nz) gives alone 6
 
+-- ---- rules
+
+-- 12, SCOPE R12: a number that names no rule
+abbrev pub rule-test : ℕ → Tests
+rule-test number = ((¬ (number ≡ 1)) × (¬ (number ≡ 2))) gives alone 12
+
 -- ---- the claims: every answer that meets a call's contract is given by the call's tests
 
--- line lists, of A+B+C+1 and M+1 cells
+-- line lists, of A+B+C+1 cells under either rule, and M+1 cells
 pub record LinesTold (p q : Cell) (entry exit : List ℤ) (r : Listed) : Type 0 where
-  pub six : Line6 p q entry r exit → ByTests (line-tests p q (total (differences p q) + 1) (length entry)) (told-listed r)
+  pub six : (rule : Rule) → Line6 rule p q entry r exit → ByTests (line-tests p q (total (differences p q) + 1) (length entry)) (told-listed r)
   pub twenty-six : Line26 p q entry r exit → ByTests (line-tests p q (longest (differences p q) + 1) (length entry)) (told-listed r)
 
 -- grid calls; a layer is empty exactly where its partner refuses
@@ -182,3 +204,12 @@ pub record RecordsTold : Type 0 where
   pub read-pair : (s : List ℕ) (r : PairRead) → ReadsPair s r → ByTests (pair-tests s) (told-pair r)
   pub write-venue : (n : Counts) (cells entry exit : List ℕ) (r : Written) → WritesVenue n cells entry r exit →
       ByTests (write-tests n (length cells) (length entry)) (told-written r)
+
+-- the calls for C that name a rule by a number: 12 first, then the tests of the call that they make. Their struct flattens an answer that these give.
+pub record RulesTold : Type 0 where
+  pub line6 : (rule : ℕ) (p q : Cell) (entry exit : List ℤ) (r : OatListed) → FlatLine6 rule p q entry r exit → (a : Listed) × (r ≡ flat-listed a) ×
+      ByTests (rule-test rule else line-tests p q (total (differences p q) + 1) (length entry)) (told-listed a)
+  pub walks : (w : Walker) (how : OatManner) (n : Counts) (l : List ℕ) (p q : Cell) (r : OatHit) → FlatFinds w how n l p q r →
+      (a : FirstHit) × (r ≡ flat-hit a) × ByTests (rule-test (how .rule) else walk-tests n (length l) p q) (told-hit a)
+  pub seen : (how : OatManner) (n : Counts) (l : List ℕ) (at : Placement) (camera ball : Point) (r : OatSight) → FlatSees how n l at camera ball r →
+      (a : Sight) × (r ≡ flat-sight a) × ByTests (rule-test (how .rule) else sight-tests n (length l) at camera ball) (told-sight a)

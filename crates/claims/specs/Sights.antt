@@ -1,4 +1,4 @@
--- What is claimed of the sight call, by its contract: for either start mode, every grid, placement, camera and ball. Assumes nothing.
+-- What is claimed of the sight call, by its contract: for either start mode and rule, every grid, placement, camera and ball. Assumes nothing.
 use Prim.Native.Nat.{ℕ}
 use mathlib.Core.Path.{_≡_}
 use mathlib.Core.Bool.{true, false}
@@ -12,6 +12,8 @@ use Rattle.cells.specs.declared.Face.{Face}
 use Rattle.cells.specs.declared.Face.the-variants as Face
 use Rattle.cells.specs.declared.Manner.{Manner}
 use Rattle.cells.specs.declared.Refusal.{Refusal}
+use Rattle.cells.specs.declared.Rule.the-variants.{One, Two}
+use Rattle.cells.specs.declared.Start.{Start}
 use Rattle.cells.specs.declared.Start.the-variants.{Tested}
 use Rattle.cells.specs.declared.Verdict.the-variants.{Fine}
 use Rattle.cells.specs.Manners.{usual}
@@ -91,6 +93,12 @@ Seen-there how =
     Sees how example-counts marked-cells (placement (metres 0) (metres 1)) (point (halves 1) (halves 1) (halves 1))
     (point (halves 7) (halves 3) (halves 1))
 
+-- the same there exchanged: rule 2 meets the solid cell, rule 1 passes it
+abbrev pub Seen-back : Manner → Sight → Type 0
+Seen-back how =
+    Sees how example-counts marked-cells (placement (metres 0) (metres 1)) (point (halves 7) (halves 3) (halves 1))
+    (point (halves 1) (halves 1) (halves 1))
+
 -- and from the solid cell itself, (1,1,0): a camera in its housing
 abbrev pub Housed : Manner → Sight → Type 0
 Housed how =
@@ -105,3 +113,6 @@ pub record WrongSights : Type 0 where
   -- the default blocks a camera by its own housing; the tested start does not
   pub own-housing : (b : Block) → Housed usual (Blocked b) → ⊥
   pub housing-passed : (how : Manner) → how .start ≡ Tested → Housed how Clear → ⊥
+  -- rule 2 is taken for rule 1, and rule 1 for rule 2
+  pub rule-ignored : (start : Start) → Seen-back (record { start = start; rule = Two }) Clear → ⊥
+  pub always-rule-2 : (start : Start) (b : Block) → Seen-back (record { start = start; rule = One }) (Blocked b) → ⊥

@@ -1,12 +1,14 @@
 -- SCOPE, E: the starred cases, as one table. Assumes nothing.
 use Prim.Native.Nat.{ℕ, _-_}
 use mathlib.Core.Path.{_≡_}
-use mathlib.Core.List.{List, [], _∷_}
+use mathlib.Core.List.{List, [], _∷_, _++_}
 use mathlib.Core.Logic.{_⊎_, inl, inr}
 use lib.IntN.{pos, negℤ}
 use lib.Ieee.{Float, binary64, div, ofBits}
 use lib.ListN.{length}
 use Rattle.cells.specs.declared.Cell.{Cell}
+use Rattle.cells.specs.declared.Rule.{Rule}
+use Rattle.cells.specs.declared.Rule.the-variants.{One, Two}
 use Rattle.cells.specs.declared.Counts.{Counts}
 use Rattle.cells.specs.declared.Axis.the-variants.{X, Y, Z}
 use Rattle.cells.specs.declared.End.the-variants.{P, Q}
@@ -14,9 +16,11 @@ use Rattle.cells.specs.declared.Face.{Face}
 use Rattle.cells.specs.declared.Face.the-variants as Face
 use Rattle.cells.specs.declared.Manner.{Manner}
 use Rattle.cells.specs.Checks.{by-verdict}
-use Rattle.cells.specs.Manners.{usual, tested-start}
+use Rattle.cells.specs.Manners.{usual, tested-by, tested-start}
 use Rattle.cells.specs.Refusals.{Told, alone, at-end}
-use Rattle.lines.specs.Preference.{rule-1}
+use Rattle.lines.specs.declared.Order.{Order}
+use Rattle.lines.specs.declared.Order.the-variants.{Yzx, Xzy}
+use Rattle.lines.specs.Preference.{order-of, by-rule}
 use Rattle.lines.specs.Lines.{six-line, line-26}
 use Rattle.lists.specs.declared.Listed.the-variants as Listed
 use Rattle.lists.specs.Lists.{list-check, told-listed}
@@ -35,6 +39,7 @@ use Rattle.sight.specs.Sight as sights
 use Rattle.sight.specs.Sight.{sight, told-sight, blocked}
 use Rattle.claims.specs.Points.{metres, placement, point}
 use Rattle.claims.specs.Example.{counts, at, example-counts, example-cells, marked-cells}
+use Rattle.claims.specs.Rules.{low-post}
 use Rattle.claims.specs.Story.{long-bytes}
 use Rattle.claims.specs.Records.{example-venue, example-pair, minus-one-pair}
 use Rattle.claims.specs.Program.{example-input, example-output, marked-input, marked-output}
@@ -42,6 +47,10 @@ use Rattle.claims.specs.Program.{example-input, example-output, marked-i
 -- the cell (-x, y, z)
 abbrev pub at-minus : (x y z : ℕ) → Cell
 at-minus x y z = record { x = negℤ (pos x); y = pos y; z = pos z }
+
+-- the cell (x, y, -1)
+abbrev pub below-0 : (x y : ℕ) → Cell
+below-0 x y = record { x = pos x; y = pos y; z = negℤ (pos 1) }
 
 -- what a walk answers: a hit at a cell, with its code, place, entry face and reads; or clear, with its reads
 abbrev pub hit : Cell → (code num den : ℕ) → Face → (reads : ℕ) → Told ⊎ WalkSaid
@@ -55,29 +64,33 @@ clear reads = inr (said.clear reads)
 abbrev pub halves : ℕ → Float
 halves k = div binary64 (as-f64 k) (as-f64 2)
 
--- a row: the ends P and Q and the cells of the line between them; the ends, room for so many numbers, and what the 6-line's call answers; counts,
--- bytes, and the bytes marked; a walk, its manner, its grid and ends, and what it finds; a venue's record, its counts and its cells; a pair's record, P and Q;
+-- a row: the ends P and Q and the cells of the line between them, of the 6-line by a rule; two ends and the order of rule 2 between them; the ends, room for so many numbers, and what the 6-line's call answers; counts,
+-- bytes, and the bytes marked; a walk, its manner, its grid and ends, and what it finds; a venue's record, its counts and its cells; a pair's record, P, Q
+-- and the rule, or what is said of its refusal;
 -- the program's whole input and output; or a manner, a grid, its placement, camera and ball, and the 64 bits of the share, the cell, code, reads and
 -- entry face of what is in the way, or that nothing is
 pub data Row : Type 0 where
-  six : Cell → Cell → List Cell → Row
+  six : Rule → Cell → Cell → List Cell → Row
+  orders : Cell → Cell → Order → Row
   twenty-six : Cell → Cell → List Cell → Row
   lists : Cell → Cell → ℕ → Told ⊎ ℕ → Row
   marks : Counts → List ℕ → List ℕ → Row
   finds : Walker → Manner → Counts → List ℕ → Cell → Cell → Told ⊎ WalkSaid → Row
   venue : List ℕ → Counts → List ℕ → Row
   venue-part : List ℕ → List ℕ → Row
-  pair : List ℕ → Cell → Cell → Row
+  pair : List ℕ → Cell → Cell → Rule → Row
+  no-pair : List ℕ → Told → Row
   writes : List ℕ → List ℕ → Row
   sees : Manner → Counts → List ℕ → Placement → Point → Point → ℕ → Cell → ℕ → ℕ → Face → Row
   sees-clear : Manner → Counts → List ℕ → Placement → Point → Point → Row
 
 -- what a row says
 abbrev pub Holds : Row → Type 0
-Holds (six p q l) = six-line rule-1 p q ≡ l
+Holds (six rule p q l) = six-line (by-rule rule p q) p q ≡ l
+Holds (orders p q o) = order-of Two p q ≡ o
 Holds (twenty-six p q l) = line-26 p q ≡ l
 Holds (lists p q room says) = told-listed
-    (by-verdict Listed.Refused (Listed.Cells (length (six-line rule-1 p q))) (list-check p q (length (six-line rule-1 p q)) room)) ≡ says
+    (by-verdict Listed.Refused (Listed.Cells (length (six-line (by-rule One p q) p q))) (list-check p q (length (six-line (by-rule One p q) p q)) room)) ≡ says
 Holds (marks n l m) = marked 3 n l ≡ m
 Holds (finds w how n l p q says) = told-hit (first-hit w how n l p q) ≡ says
 Holds (venue s n cells) = told-venue (venue-read s) ≡ inr (n, length s - length cells, length cells)
@@ -85,7 +98,8 @@ Holds (venue-part s cells) = venue-cells s ≡ cells
 Holds (sees how n l place camera ball share c code reads face) =
     told-sight (sight how n l place camera ball) ≡ inr (blocked (record { share = ofBits binary64 share; cell = c; code = code; reads = reads; face = face }))
 Holds (sees-clear how n l place camera ball) = told-sight (sight how n l place camera ball) ≡ inr sights.clear
-Holds (pair s p q) = told-pair (pair-read s) ≡ inr (p, q)
+Holds (pair s p q rule) = told-pair (pair-read s) ≡ inr (p, q, rule)
+Holds (no-pair s t) = told-pair (pair-read s) ≡ inl t
 Holds (writes s out) = output s ≡ out
 
 infixr 20 _and_
@@ -98,14 +112,33 @@ pub data Every : List Row → Type 0 where
 abbrev pub program-rows : List Row
 program-rows = writes example-input example-output ∷ writes marked-input marked-output ∷ []
 
+-- the two ends (3,1,0) and (0,0,0) in a pair's record
+abbrev pub back-ends : List ℕ
+back-ends = 0 ∷ 3 ∷ 0 ∷ 1 ∷ 0 ∷ 0 ∷ 0 ∷ 0 ∷ 0 ∷ 0 ∷ 0 ∷ 0 ∷ []
+
 -- the program's input, `0000000F 01 0004 0002 0001 0000000000020000` and `0000000D 01 0000 0000 0000 0003 0001 0000`
 abbrev pub record-rows : List Row
 record-rows =
     venue example-venue example-counts example-cells
     ∷ venue-part example-venue example-cells
-    ∷ pair example-pair (at 0 0 0) (at 3 1 0)
+    ∷ pair example-pair (at 0 0 0) (at 3 1 0) One
     -- `FFFF` is -1
-    ∷ pair minus-one-pair (at 0 0 0) (at-minus 1 1 0)
+    ∷ pair minus-one-pair (at 0 0 0) (at-minus 1 1 0) One
+    -- version 2: its rule byte is its last; what comes behind a pair is not looked at
+    ∷ pair (0 ∷ 0 ∷ 0 ∷ 14 ∷ 2 ∷ back-ends ++ 2 ∷ []) (at 3 1 0) (at 0 0 0) Two
+    ∷ pair (0 ∷ 0 ∷ 0 ∷ 14 ∷ 2 ∷ back-ends ++ 1 ∷ []) (at 3 1 0) (at 0 0 0) One
+    ∷ pair (0 ∷ 0 ∷ 0 ∷ 14 ∷ 2 ∷ back-ends ++ 2 ∷ 1 ∷ []) (at 3 1 0) (at 0 0 0) Two
+    ∷ pair (0 ∷ 0 ∷ 0 ∷ 13 ∷ 1 ∷ back-ends ++ 2 ∷ []) (at 3 1 0) (at 0 0 0) One
+    -- 12: a rule byte that names no rule, also where a good one stands behind it
+    ∷ no-pair (0 ∷ 0 ∷ 0 ∷ 14 ∷ 2 ∷ back-ends ++ 0 ∷ []) (alone 12)
+    ∷ no-pair (0 ∷ 0 ∷ 0 ∷ 14 ∷ 2 ∷ back-ends ++ 3 ∷ 2 ∷ []) (alone 12)
+    -- 10 comes before 12: a length that is not the version's; 11 before both
+    ∷ no-pair (0 ∷ 0 ∷ 0 ∷ 13 ∷ 2 ∷ back-ends) (alone 10)
+    ∷ no-pair (0 ∷ 0 ∷ 0 ∷ 15 ∷ 2 ∷ back-ends ++ 3 ∷ 2 ∷ []) (alone 10)
+    ∷ no-pair (0 ∷ 0 ∷ 0 ∷ 14 ∷ 1 ∷ back-ends ++ 1 ∷ []) (alone 10)
+    ∷ no-pair (0 ∷ 0 ∷ 0 ∷ 14 ∷ 2 ∷ back-ends) (alone 10)
+    ∷ no-pair (0 ∷ 0 ∷ 0 ∷ 15 ∷ 3 ∷ back-ends ++ 3 ∷ 2 ∷ []) (alone 11)
+    ∷ no-pair (0 ∷ 0 ∷ 0 ∷ 13 ∷ 0 ∷ back-ends) (alone 11)
     ∷ program-rows
 
 -- the marked program's venue, its origin 0, its edge 1 metre, from the middle of (0,0,0) to the middle of (3,1,0): share 0.5
@@ -124,7 +157,58 @@ sight-rows =
     -- and in a housing of two cells: the one beside it is in the way, at share 0.25
     ∷ sees usual (counts 3 1 1) (2 ∷ 2 ∷ 0 ∷ []) (placement (metres 0) (metres 1)) (point (halves 1) (halves 1) (halves 1))
     (point (halves 5) (halves 1) (halves 1)) 0x3fd0_0000_0000_0000 (at 1 0 0) 2 2 (Face.Plus X)
+    -- from the middle of (3,1,0) to the middle of (0,0,0): in the way by rule 2, and passed by rule 1
+    ∷ sees (tested-by Two) example-counts marked-cells (placement (metres 0) (metres 1)) (point (halves 7) (halves 3) (halves 1))
+    (point (halves 1) (halves 1) (halves 1)) 0x3fe0_0000_0000_0000 (at 1 1 0) 2 3 (Face.Minus X)
+    ∷ sees-clear (tested-by One) example-counts marked-cells (placement (metres 0) (metres 1)) (point (halves 7) (halves 3) (halves 1))
+    (point (halves 1) (halves 1) (halves 1))
     ∷ record-rows
+
+-- rule 2, and rule 1 beside it where they differ. The order z, then y, then x says which end comes first: also below 0, and where x alone differs
+abbrev pub rule-rows : List Row
+rule-rows =
+    orders (at 1 0 0) (at 0 0 0) Xzy
+    ∷ orders (at 0 0 0) (at 1 0 0) Yzx
+    ∷ orders (at 0 0 0) (at 0 0 0) Yzx
+    -- a tie of three there and back: the mirror; by rule 1 the way back is another line, in the table below
+    ∷ six Two (at 0 0 0) (at 1 1 1) (at 0 0 0 ∷ at 0 1 0 ∷ at 0 1 1 ∷ at 1 1 1 ∷ [])
+    ∷ six Two (at 1 1 1) (at 0 0 0) (at 1 1 1 ∷ at 0 1 1 ∷ at 0 1 0 ∷ at 0 0 0 ∷ [])
+    -- z falls while x and y rise: Q comes first
+    ∷ six Two (at 0 0 1) (at 1 1 0) (at 0 0 1 ∷ at 1 0 1 ∷ at 1 0 0 ∷ at 1 1 0 ∷ [])
+    ∷ six Two (at 1 1 0) (at 0 0 1) (at 1 1 0 ∷ at 1 0 0 ∷ at 1 0 1 ∷ at 0 0 1 ∷ [])
+    ∷ six One (at 0 0 1) (at 1 1 0) (at 0 0 1 ∷ at 0 1 1 ∷ at 0 1 0 ∷ at 1 1 0 ∷ [])
+    -- z equal: y says which comes first
+    ∷ six Two (at 1 0 0) (at 0 1 0) (at 1 0 0 ∷ at 1 1 0 ∷ at 0 1 0 ∷ [])
+    ∷ six Two (at 0 1 0) (at 1 0 0) (at 0 1 0 ∷ at 1 1 0 ∷ at 1 0 0 ∷ [])
+    -- z is -1 at P and 0 at Q: P comes first
+    ∷ six Two (below-0 0 0) (at 1 1 0) (below-0 0 0 ∷ below-0 0 1 ∷ at 0 1 0 ∷ at 1 1 0 ∷ [])
+    -- ties one after another, and none
+    ∷ six Two (at 3 3 1) (at 0 0 0) (at 3 3 1 ∷ at 2 3 1 ∷ at 2 2 1 ∷ at 1 2 1 ∷ at 1 2 0 ∷ at 1 1 0 ∷ at 0 1 0 ∷ at 0 0 0 ∷ [])
+    ∷ six One (at 2 1 0) (at 0 0 0) (at 2 1 0 ∷ at 1 1 0 ∷ at 1 0 0 ∷ at 0 0 0 ∷ [])
+    ∷ six Two (at 2 1 0) (at 0 0 0) (at 2 1 0 ∷ at 1 1 0 ∷ at 1 0 0 ∷ at 0 0 0 ∷ [])
+    -- the program's venue from (3,1,0) to (0,0,0): rule 1 passes the solid cell, rule 2 meets it
+    ∷ finds Plain (tested-by One) example-counts example-cells (at 3 1 0) (at 0 0 0) (clear 5)
+    ∷ finds Plain (tested-by Two) example-counts example-cells (at 3 1 0) (at 0 0 0) (hit (at 1 1 0) 2 3 6 (Face.Minus X) 3)
+    ∷ finds Adaptive (tested-by One) example-counts marked-cells (at 3 1 0) (at 0 0 0) (clear 5)
+    ∷ finds Adaptive (tested-by Two) example-counts marked-cells (at 3 1 0) (at 0 0 0) (hit (at 1 1 0) 2 3 6 (Face.Minus X) 3)
+    -- one cell by both rules, at one fraction, by another face and another place
+    ∷ finds Plain (tested-by One) example-counts low-post (at 3 1 0) (at 0 0 0) (hit (at 1 0 0) 2 3 6 (Face.Minus X) 4)
+    ∷ finds Plain (tested-by Two) example-counts low-post (at 3 1 0) (at 0 0 0) (hit (at 1 0 0) 2 1 2 (Face.Minus Y) 4)
+    ∷ finds Adaptive (tested-by Two) example-counts low-post (at 3 1 0) (at 0 0 0) (hit (at 1 0 0) 2 1 2 (Face.Minus Y) 3)
+    -- a tie of three, each of its faces; and one long step over all three, which ends by the last
+    ∷ finds Plain (tested-by Two) (counts 2 2 2) (0 ∷ 0 ∷ 0 ∷ 0 ∷ 0 ∷ 0 ∷ 2 ∷ 0 ∷ []) (at 1 1 1) (at 0 0 0) (hit (at 0 1 1) 2 1 2 (Face.Minus X) 2)
+    ∷ finds Plain (tested-by Two) (counts 2 2 2) (0 ∷ 0 ∷ 2 ∷ 0 ∷ 0 ∷ 0 ∷ 0 ∷ 0 ∷ []) (at 1 1 1) (at 0 0 0) (hit (at 0 1 0) 2 1 2 (Face.Minus Z) 3)
+    ∷ finds Plain (tested-by Two) (counts 2 2 2) (2 ∷ 0 ∷ 0 ∷ 0 ∷ 0 ∷ 0 ∷ 0 ∷ 0 ∷ []) (at 1 1 1) (at 0 0 0) (hit (at 0 0 0) 2 1 2 (Face.Minus Y) 4)
+    ∷ finds Adaptive (tested-by Two) (counts 2 2 2) (2 ∷ 0 ∷ 0 ∷ 0 ∷ 0 ∷ 0 ∷ 0 ∷ 0 ∷ []) (at 1 1 1) (at 0 0 0) (hit (at 0 0 0) 2 1 2 (Face.Minus Y) 2)
+    -- faces of a near cell behind a run, along each longest axis: by rule 1 clear
+    ∷ finds Adaptive (tested-by Two) (counts 3 3 1) (0 ∷ 0 ∷ 0 ∷ 2 ∷ 1 ∷ 0 ∷ 0 ∷ 0 ∷ 0 ∷ []) (at 2 2 0) (at 0 0 0) (hit (at 0 1 0) 2 3 4 (Face.Minus X) 3)
+    ∷ finds Adaptive (tested-by Two) (counts 1 3 3) (0 ∷ 2 ∷ 0 ∷ 0 ∷ 1 ∷ 0 ∷ 0 ∷ 0 ∷ 0 ∷ []) (at 0 2 2) (at 0 0 0) (hit (at 0 1 0) 2 3 4 (Face.Minus Z) 3)
+    ∷ finds Adaptive (tested-by Two) (counts 3 1 3) (0 ∷ 0 ∷ 0 ∷ 2 ∷ 1 ∷ 0 ∷ 0 ∷ 0 ∷ 0 ∷ []) (at 2 0 2) (at 0 0 0) (hit (at 0 0 1) 2 3 4 (Face.Minus X) 3)
+    ∷ finds Adaptive (tested-by One) (counts 3 3 1) (0 ∷ 0 ∷ 0 ∷ 2 ∷ 1 ∷ 0 ∷ 0 ∷ 0 ∷ 0 ∷ []) (at 2 2 0) (at 0 0 0) (clear 4)
+    -- without marks the adaptive walks there and back may differ, also by rule 2
+    ∷ finds Adaptive (tested-by Two) (counts 2 2 1) (2 ∷ 1 ∷ 0 ∷ 2 ∷ []) (at 1 0 0) (at 0 1 0) (hit (at 1 1 0) 2 1 2 (Face.Plus Y) 2)
+    ∷ finds Adaptive (tested-by Two) (counts 2 2 1) (2 ∷ 1 ∷ 0 ∷ 2 ∷ []) (at 0 1 0) (at 1 0 0) (clear 2)
+    ∷ sight-rows
 
 -- where the start is not tested: a solid P is read and passed, and no long step starts there; a clear P may step long
 abbrev pub start-rows : List Row
@@ -150,20 +234,20 @@ start-rows =
     ∷ finds Adaptive usual example-counts marked-cells (at 1 1 0) (at 1 1 0) (clear 1)
     ∷ finds Plain tested-start example-counts marked-cells (at 1 1 0) (at 1 1 0) (hit (at 1 1 0) 2 0 1 Face.None 1)
     ∷ finds Adaptive tested-start example-counts marked-cells (at 1 1 0) (at 1 1 0) (hit (at 1 1 0) 2 0 1 Face.None 1)
-    ∷ sight-rows
+    ∷ rule-rows
 
--- every case; where a row says nothing else, the start is tested
+-- every case; where a row says nothing else, the start is tested and ties go by rule 1
 abbrev pub table : List Row
 table =
-    six (at 0 0 0) (at 2 1 0) (at 0 0 0 ∷ at 1 0 0 ∷ at 1 1 0 ∷ at 2 1 0 ∷ [])
+    six One (at 0 0 0) (at 2 1 0) (at 0 0 0 ∷ at 1 0 0 ∷ at 1 1 0 ∷ at 2 1 0 ∷ [])
     ∷ twenty-six (at 0 0 0) (at 2 1 0) (at 0 0 0 ∷ at 1 1 0 ∷ at 2 1 0 ∷ [])
-    ∷ six (at 0 0 0) (at-minus 2 1 0) (at 0 0 0 ∷ at-minus 1 0 0 ∷ at-minus 1 1 0 ∷ at-minus 2 1 0 ∷ [])
-    ∷ six (at 0 0 0) (at 1 1 1) (at 0 0 0 ∷ at 0 1 0 ∷ at 0 1 1 ∷ at 1 1 1 ∷ [])
-    ∷ six (at 1 1 1) (at 0 0 0) (at 1 1 1 ∷ at 1 0 1 ∷ at 1 0 0 ∷ at 0 0 0 ∷ [])
+    ∷ six One (at 0 0 0) (at-minus 2 1 0) (at 0 0 0 ∷ at-minus 1 0 0 ∷ at-minus 1 1 0 ∷ at-minus 2 1 0 ∷ [])
+    ∷ six One (at 0 0 0) (at 1 1 1) (at 0 0 0 ∷ at 0 1 0 ∷ at 0 1 1 ∷ at 1 1 1 ∷ [])
+    ∷ six One (at 1 1 1) (at 0 0 0) (at 1 1 1 ∷ at 1 0 1 ∷ at 1 0 0 ∷ at 0 0 0 ∷ [])
     ∷ twenty-six (at 0 0 0) (at 1 1 1) (at 0 0 0 ∷ at 1 1 1 ∷ [])
-    ∷ six (at 0 0 0) (at 3 1 0) (at 0 0 0 ∷ at 1 0 0 ∷ at 1 1 0 ∷ at 2 1 0 ∷ at 3 1 0 ∷ [])
+    ∷ six One (at 0 0 0) (at 3 1 0) (at 0 0 0 ∷ at 1 0 0 ∷ at 1 1 0 ∷ at 2 1 0 ∷ at 3 1 0 ∷ [])
     ∷ twenty-six (at 0 0 0) (at 3 1 0) (at 0 0 0 ∷ at 1 0 0 ∷ at 2 1 0 ∷ at 3 1 0 ∷ [])
-    ∷ six (at 5 6 7) (at 5 6 7) (at 5 6 7 ∷ [])
+    ∷ six One (at 5 6 7) (at 5 6 7) (at 5 6 7 ∷ [])
     ∷ twenty-six (at 5 6 7) (at 5 6 7) (at 5 6 7 ∷ [])
     -- just enough room, and one number less; the coordinate limit, and beyond it, P before Q
     ∷ lists (at 0 0 0) (at 2 1 0) 12 (inr 4)

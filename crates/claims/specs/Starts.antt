@@ -18,19 +18,20 @@ use Rattle.walks.specs.declared.Walker.the-variants.{Plain, Adaptive}
 use Rattle.walks.specs.declared.Hit.{Hit}
 use Rattle.walks.specs.declared.FirstHit.{FirstHit}
 use Rattle.walks.specs.declared.FirstHit.the-variants as FirstHit
-use Rattle.walks.specs.Walks.{hit-at}
+use Rattle.walks.specs.Walks.{Conduct, hit-at}
 use Rattle.walks.specs.Answers.{Finds}
 use Rattle.claims.specs.Example.{counts, at}
 
 -- 1. The one test of a cell: a hit exactly where its byte is solid, except that P is no hit where the start is not tested.
 pub record StartTest (n : Counts) (l : List ℕ) (p : Cell) : Type 0 where
-  pub tested : (how : Manner) → how .start ≡ Tested → (w : Cell) → hit-at how n l p w ≡ solid (byte-of n l w)
-  pub other : (how : Manner) (w : Cell) → (w ≡ p → ⊥) → hit-at how n l p w ≡ solid (byte-of n l w)
-  pub exempt : (how : Manner) → how .start ≡ Untested → hit-at how n l p p ≡ false
+  pub tested : (how : Conduct) → how .start ≡ Tested → (w : Cell) → hit-at how n l p w ≡ solid (byte-of n l w)
+  pub other : (how : Conduct) (w : Cell) → (w ≡ p → ⊥) → hit-at how n l p w ≡ solid (byte-of n l w)
+  pub exempt : (how : Conduct) → how .start ≡ Untested → hit-at how n l p p ≡ false
 
--- 2. Where P is not solid the two modes answer alike. Where P is not tested a hit is never P, and equal ends are clear with one read, or refused.
+-- 2. Where P is not solid the two modes answer alike, under the same rule. Where P is not tested a hit is never P, and equal ends are clear with one read, or refused.
 pub record TwoStarts (n : Counts) (l : List ℕ) (p q : Cell) : Type 0 where
-  pub alike : solid (byte-of n l p) ≡ false → (w : Walker) (how other : Manner) (r s : FirstHit) → Finds w how n l p q r → Finds w other n l p q s → r ≡ s
+  pub alike : solid (byte-of n l p) ≡ false → (w : Walker) (how other : Manner) → how .rule ≡ other .rule → (r s : FirstHit) →
+      Finds w how n l p q r → Finds w other n l p q s → r ≡ s
   -- a hit lies beyond P, and was entered by a face
   pub never-p : (w : Walker) (how : Manner) → how .start ≡ Untested → (h : Hit) → Finds w how n l p q (FirstHit.Hit h) →
       (h .cell ≡ p → ⊥) × (0 < h .place .num) × (h .place .face ≡ Face.None → ⊥)

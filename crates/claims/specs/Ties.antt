@@ -4,8 +4,10 @@
 use lib.ListN.{length}
 use Rattle.cells.specs.Refusals.{NumberOf}
 use Rattle.cells.proofs.number.Reads as number
-use Rattle.cells.specs.Manners.{usual}
+use Rattle.cells.specs.Manners.{usual, rule-check, rule-of}
 use Rattle.cells.proofs.Manner.usual.Reads as default
+use Rattle.cells.proofs.check_rule.Reads as check-rule
+use Rattle.cells.proofs.rule_of.Reads as named-rule
 use mathlib.Core.Path.{_≡_}
 use Rattle.grids.specs.Grid.{Shapes, GivesLayerPart, GivesLayer}
 use Rattle.grids.specs.Marks.{Marks, Completes}
@@ -40,7 +42,9 @@ use Rattle.records.proofs.write_venue.Reads as write-venue
 pub record Promised : Type 1 where
   pub of-number : (κs : _) (a : _) (r : _) (e : _) → number.Post κs a r e → NumberOf (a .0) r
   pub of-usual : (κs : _) (a : _) (r : _) (e : _) → default.Post κs a r e → r ≡ usual
-  pub of-line6 : (κs : _) (a : _) (r : _) (e : _) → line6.Post κs a r e → Line6 (a .0) (a .1 .0) (a .1 .1 .0 .now) r (e .1 .1 .0 .now)
+  pub of-check-rule : (κs : _) (a : _) (r : _) (e : _) → check-rule.Post κs a r e → r ≡ rule-check (a .0)
+  pub of-rule-of : (κs : _) (a : _) (r : _) (e : _) → named-rule.Post κs a r e → r ≡ rule-of (a .0)
+  pub of-line6 : (κs : _) (a : _) (r : _) (e : _) → line6.Post κs a r e → Line6 (a .1 .1 .0) (a .0) (a .1 .0) (a .1 .1 .1 .0 .now) r (e .1 .1 .1 .0 .now)
   pub of-line26 : (κs : _) (a : _) (r : _) (e : _) → line26.Post κs a r e → Line26 (a .0) (a .1 .0) (a .1 .1 .0 .now) r (e .1 .1 .0 .now)
   pub of-shape : (κs : _) (a : _) (r : _) (e : _) → shape.Post κs a r e → Shapes (a .0) (a .1 .0) r
   pub of-layer-part : (κs : _) (a : _) (r : _) (e : _) → layer-part.Post κs a r e → GivesLayerPart (a .0) (length (a .1 .0 .now)) (a .1 .1 .0) r
@@ -69,6 +73,8 @@ pub record StepsPromised : Type 1 where
 pub record AsksNothing : Type 1 where
   pub number-asks : (κs : _) (a : _) → number.Pre κs a
   pub usual-asks : (κs : _) (a : _) → default.Pre κs a
+  pub check-rule-asks : (κs : _) (a : _) → check-rule.Pre κs a
+  pub rule-of-asks : (κs : _) (a : _) → named-rule.Pre κs a
   pub line6-asks : (κs : _) (a : _) → line6.Pre κs a
   pub line26-asks : (κs : _) (a : _) → line26.Pre κs a
   pub shape-asks : (κs : _) (a : _) → shape.Pre κs a

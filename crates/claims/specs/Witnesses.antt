@@ -9,22 +9,23 @@ use lib.ListN.{length}
 use denote.Ref.{RefT}
 use Rattle.buffers.specs.Numbers.{AllBytes}
 use Rattle.cells.specs.declared.Face.the-variants as Face
-use Rattle.cells.specs.declared.Refusal.the-variants.{Bytes, Room, OffSurvey, Record}
+use Rattle.cells.specs.declared.Refusal.the-variants.{Bytes, Room, OffSurvey, Record, NoRule}
 use Rattle.cells.specs.declared.Axis.the-variants.{X, Y}
 use Rattle.cells.specs.declared.End.the-variants.{P}
 use Rattle.cells.specs.declared.Verdict.the-variants as Verdict
 use Rattle.cells.specs.declared.Verdict.the-variants.{Fine}
 use Rattle.cells.specs.Refusals.{NumberOf}
 use Rattle.cells.specs.declared.Manner.{Manner}
-use Rattle.cells.specs.Manners.{usual, tested-start}
+use Rattle.cells.specs.declared.Rule.the-variants.{One, Two}
+use Rattle.cells.specs.Manners.{usual, tested-by, tested-start}
 use Rattle.cells.specs.Touching.{Touches}
 use Rattle.lines.specs.Steps.{Steps}
-use Rattle.lines.specs.Crossings.{InOrder, LastMade, next, place}
-use Rattle.lines.specs.Preference.{rule-1}
+use Rattle.lines.specs.Crossings.{InOrder, LastMade, TieFree, next, place}
+use Rattle.lines.specs.Preference.{y-z-x}
 use Rattle.lines.specs.Lines.{differences, centres, InLimit}
 use Rattle.lines.specs.Segment.{Share, InOpen}
 use Rattle.lists.specs.declared.Listed.the-variants as Listed
-use Rattle.lists.specs.Lists.{Line6, Line26}
+use Rattle.lists.specs.Lists.{Line6, Line26, numbers}
 use Rattle.grids.specs.declared.Completeness.the-variants.{Yes, No}
 use Rattle.grids.specs.declared.LayerPart.the-variants.{Part}
 use Rattle.grids.specs.Grid.{size, count-check, byte-of, solid, Shapes, GivesLayerPart, GivesLayer}
@@ -50,8 +51,9 @@ use Rattle.oatmarten.specs.GridCalls.{FlatMarks, FlatCompletes}
 use Rattle.claims.specs.Program.{Runs, example-input, example-output}
 use Rattle.claims.specs.Example.{counts, at, example-counts, example-cells, marked-cells}
 use Rattle.claims.specs.Lists.{lowest, highest, room}
+use Rattle.claims.specs.Rules.{ComesFirst, four-cells, by-xzy}
 use Rattle.claims.specs.Points.{Finite, InItsCell, cube, metres, tenths, placement, point}
-use Rattle.claims.specs.Records.{Right, RightPair, example-venue, example-pair, example-room}
+use Rattle.claims.specs.Records.{Right, RightPair, example-venue, example-pair, example-room, pair-by}
 use Rattle.claims.specs.ProgramRows.{no-cells}
 use Rattle.claims.specs.Starred.{halves}
 use Rattle.claims.specs.Story.{all-clear}
@@ -65,15 +67,20 @@ pub record OfLines : Type 0 where
   pub share : Share 0 1
   pub centre-of-p : InOpen (at 0 0 0) (at 2 1 0) 0 1 (at 0 0 0)
   pub limits : InLimit lowest × InLimit highest
-  pub in-order : InOrder (centres rule-1 steps-there) (place (centres rule-1 steps-there) 2)
-  pub last-made : LastMade (centres rule-1 steps-there) (place (centres rule-1 steps-there) 2)
-      (next (centres rule-1 steps-there) (place (centres rule-1 steps-there) 1))
-  -- a list that is written, and one that is refused
-  pub listed : Line6 (at 0 0 0) (at 2 1 0) room (Listed.Cells 4)
+  pub in-order : InOrder (centres y-z-x steps-there) (place (centres y-z-x steps-there) 2)
+  pub last-made : LastMade (centres y-z-x steps-there) (place (centres y-z-x steps-there) 2)
+      (next (centres y-z-x steps-there) (place (centres y-z-x steps-there) 1))
+  -- ends with no tie between them, and one that comes first
+  pub tie-free : TieFree (centres y-z-x (differences (at 2 1 0) (at 0 0 0)))
+  pub comes-first : ComesFirst (at 0 0 0) (at 1 1 1)
+  -- a list that is written, there and back by rule 2; and one that is refused
+  pub by-two : Line6 Two (at 0 0 0) (at 1 1 1) four-cells (Listed.Cells 4) (numbers (at 0 0 0 ∷ at 0 1 0 ∷ at 0 1 1 ∷ at 1 1 1 ∷ []))
+  pub back-by-two : Line6 Two (at 1 1 1) (at 0 0 0) four-cells (Listed.Cells 4) by-xzy
+  pub listed : Line6 One (at 0 0 0) (at 2 1 0) room (Listed.Cells 4)
       (pos 0 ∷ pos 0 ∷ pos 0 ∷ pos 1 ∷ pos 0 ∷ pos 0 ∷ pos 1 ∷ pos 1 ∷ pos 0 ∷ pos 2 ∷ pos 1 ∷ pos 0 ∷ pos 7 ∷ [])
   pub listed-26 : Line26 (at 0 0 0) (at 2 1 0) room (Listed.Cells 3)
       (pos 0 ∷ pos 0 ∷ pos 0 ∷ pos 1 ∷ pos 1 ∷ pos 0 ∷ pos 2 ∷ pos 1 ∷ pos 0 ∷ pos 7 ∷ pos 7 ∷ pos 7 ∷ pos 7 ∷ [])
-  pub no-room : Line6 (at 0 0 0) (at 2 1 0) [] (Listed.Refused Room) []
+  pub no-room : Line6 One (at 0 0 0) (at 2 1 0) [] (Listed.Refused Room) []
 
 -- memory that a caller lends
 abbrev pub lent : List ℕ → RefT (List ℕ)
@@ -82,6 +89,15 @@ lent l = record { ptr = (0, 0); name = 0; now = l }
 -- the hit of both walks in the program's venue, marked
 abbrev pub the-hit : Hit
 the-hit = record { cell = at 1 1 0; code = 2; place = record { num = 1; den = 2; face = Face.Plus Y }; reads = 3 }
+
+-- that from the other end by rule 2
+abbrev pub the-hit-back : Hit
+the-hit-back = record { cell = at 1 1 0; code = 2; place = record { num = 3; den = 6; face = Face.Minus X }; reads = 3 }
+
+-- how many cells each walk reads from (2,1,0) to (0,0,0), where nothing is in the way
+abbrev pub back-reads : Walker → ℕ
+back-reads Plain = 4
+back-reads Adaptive = 3
 
 -- and that at P, from the solid cell, where it is tested
 abbrev pub the-start : Hit
@@ -106,6 +122,9 @@ pub record OfGrids : Type 0 where
   pub clear-marks : complete 3 (counts 3 2 1) all-clear ≡ true
   pub plain-clear : (how : Manner) → Finds Plain how (counts 3 2 1) all-clear (at 0 0 0) (at 2 1 0) (FirstHit.Clear 4)
   pub adaptive-clear : (how : Manner) → Finds Adaptive how (counts 3 2 1) all-clear (at 0 0 0) (at 2 1 0) (FirstHit.Clear 3)
+  -- from the other end, by rule 2
+  pub back-clear : (w : Walker) → Finds w (tested-by Two) (counts 3 2 1) all-clear (at 2 1 0) (at 0 0 0) (FirstHit.Clear (back-reads w))
+  pub back-hits : (w : Walker) → Finds w (tested-by Two) example-counts marked-cells (at 3 1 0) (at 0 0 0) (FirstHit.Hit the-hit-back)
   -- from the solid cell: clear where it is not tested, with complete marks; a hit at P where it is
   pub solid-start : solid (byte-of example-counts marked-cells (at 1 1 0)) ≡ true
   pub passed : (w : Walker) → Finds w usual example-counts marked-cells (at 1 1 0) (at 3 1 0) (FirstHit.Clear 3)
@@ -133,8 +152,10 @@ pub record OfRecords : Type 0 where
   pub exact : length example-venue ≡ 4 + announced example-venue
   pub venue : ReadsVenue example-venue (VenueRead.Read (record { counts = example-counts; start = 11; long = 8 }))
   pub right : Right example-venue (record { counts = example-counts; start = 11; long = 8 })
-  pub right-pair : RightPair example-pair (record { p = at 0 0 0; q = at 3 1 0 })
-  pub pair : ReadsPair example-pair (PairRead.Read (record { p = at 0 0 0; q = at 3 1 0 }))
+  pub right-pair : RightPair example-pair (record { p = at 0 0 0; q = at 3 1 0; rule = One })
+  pub second-pair : ReadsPair (pair-by 2) (PairRead.Read (record { p = at 3 1 0; q = at 0 0 0; rule = Two }))
+  pub no-such-rule : ReadsPair (pair-by 3) (PairRead.Refused NoRule)
+  pub pair : ReadsPair example-pair (PairRead.Read (record { p = at 0 0 0; q = at 3 1 0; rule = One }))
   pub cells : GivesCells (lent example-venue) (record { ptr = (0, 11); name = 0; now = example-cells })
   pub no-venue : ReadsVenue [] (VenueRead.Refused Record)
   -- a length that does not fit the counts, where all else does

@@ -9,7 +9,7 @@ use Rattle.cells.specs.declared.End.{End}
 use Rattle.cells.specs.declared.End.the-variants.{P}
 use Rattle.cells.specs.declared.Part.{Part}
 use Rattle.cells.specs.declared.Refusal.{Refusal}
-use Rattle.cells.specs.declared.Refusal.the-variants.{Limit, Count, Bytes, Layer, OffGrid, Room, Placement, NotFinite, OffSurvey, Record, Version}
+use Rattle.cells.specs.declared.Refusal.the-variants.{Limit, Count, Bytes, Layer, OffGrid, Room, Placement, NotFinite, OffSurvey, Record, Version, NoRule}
 use Rattle.cells.specs.declared.Verdict.{Verdict}
 use Rattle.cells.specs.Refusals.{told, NumberOf, told-verdict}
 use Rattle.lists.specs.declared.Listed.{Listed}
@@ -61,8 +61,10 @@ pub record TheTable : Type 0 where
   pub nine : (e : End) (a : Axis) → told (OffSurvey e a) ≡ record { number = 9; end = some e; axis = some a; part = none }
   pub ten : told Record ≡ record { number = 10; end = none; axis = none; part = none }
   pub eleven : told Version ≡ record { number = 11; end = none; axis = none; part = none }
+  pub twelve : told NoRule ≡ record { number = 12; end = none; axis = none; part = none }
 
--- wrong numbers: an end outside the grid called 9, another version called a record cut short
+-- wrong numbers: an end outside the grid called 9, another version called a record cut short, a number that names no rule called another version
 pub record WrongNumbers : Type 0 where
   pub off-grid-nine : told (OffGrid P X) .number ≡ 9 → ⊥
   pub version-as-record : told Version .number ≡ told Record .number → ⊥
+  pub rule-as-version : told NoRule .number ≡ told Version .number → ⊥

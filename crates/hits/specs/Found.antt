@@ -5,16 +5,16 @@ use mathlib.Core.Path.{_≡_}
 use mathlib.Core.Bool.{Bool, true, false, _&&_}
 use mathlib.Core.List.{List}
 use lib.ListN.{length}
-use Rattle.cells.specs.declared.Manner.{Manner}
+use Rattle.cells.specs.declared.Start.{Start}
 use Rattle.lines.specs.Steps.{Axis}
 use Rattle.lines.specs.Crossings.{place}
-use Rattle.lines.specs.Preference.{rule-1}
 use Rattle.lines.specs.Lines.{differences, longest, six-cell, number-26}
 use Rattle.tripod.specs.Tripod.{steps}
 use Rattle.grids.specs.Grid.{byte-of, solid}
 use Rattle.walks.specs.declared.Walker.{Walker}
 use Rattle.walks.specs.declared.Walker.the-variants.{Adaptive}
 use Rattle.walks.specs.declared.FirstHit.{FirstHit}
+use Rattle.walks.specs.Walks.{Conduct}
 use Rattle.walks.specs.Numbers.{ends, visits, Rises, OnWay, last-number, hits-at, step, end-of, reads-of, answer-at}
 use Rattle.routes.specs.declared.Route.{Route}
 use Rattle.routes.specs.declared.Spot.{Spot}
@@ -22,7 +22,7 @@ use Rattle.hits.specs.declared.Begun.{Begun}
 use Rattle.hits.specs.declared.Turn.{Turn}
 use Rattle.hits.specs.declared.Reach.{Reach}
 use Rattle.hits.specs.declared.Stop.{Stop}
-use Rattle.routes.specs.Route.{course, SpotAt, Planned}
+use Rattle.routes.specs.Route.{preference, course, SpotAt, Planned}
 use Rattle.runs.specs.Run.{cell-left}
 
 -- a walk that ends at place number e after so many reads
@@ -37,17 +37,20 @@ module _ (l : List ℕ) (k : Route) where
 
   -- a walk's step from number to number
   abbrev pub going : Walker → ℕ → ℕ
-  going w = step (k .n) l (k .p) (k .q) w
+  going w = step (preference k) (k .n) l (k .p) (k .q) w
 
--- of a walk that is made so
-module _ (how : Manner) (l : List ℕ) (k : Route) where
+-- a walk along a route, from such a start
+abbrev pub conduct-of : Start → Route → Conduct
+conduct-of from k = record { start = from; preference = preference k }
+
+module _ (from : Start) (l : List ℕ) (k : Route) where
   -- which numbers are hits
   abbrev pub hits : ℕ → Bool
-  hits = hits-at how (k .n) l (k .p) (k .q)
+  hits = hits-at (conduct-of from k) (k .n) l (k .p) (k .q)
 
   -- its test of number m is that of the byte, or where it is not tested there is none
   abbrev pub TestedAt : ℕ → Bool → Type 0
-  TestedAt m tested = hits m ≡ (tested && solid (byte-of (k .n) l (six-cell rule-1 (k .p) (k .q) m)))
+  TestedAt m tested = hits m ≡ (tested && solid (byte-of (k .n) l (six-cell (preference k) (k .p) (k .q) m)))
 
   -- at place number m of a walk that goes by `next`, r cells read before it
   pub record Walking (next : ℕ → ℕ) (m r : ℕ) (s : Spot) : Type 0 where
@@ -90,36 +93,38 @@ module _ (how : Manner) (l : List ℕ) (k : Route) where
 
   -- what a walk answers
   abbrev pub found : Walker → FirstHit
-  found w = answer-at how (k .n) l (k .p) (k .q) (end-of how (k .n) l (k .p) (k .q) w) (reads-of how (k .n) l (k .p) (k .q) w)
+  found w =
+      let how : Conduct = conduct-of from k in
+      answer-at how (k .n) l (k .p) (k .q) (end-of how (k .n) l (k .p) (k .q) w) (reads-of how (k .n) l (k .p) (k .q) w)
 
 -- past a cell that is not tested: whichever the walk, it is on its way so many faces further on, where the cell is tested
 pub record PastStart (k : Route) (s : Spot) (faces : ℕ) (tested : Bool) (r : Begun) : Type 0 where
   pub few : r .past ≤ faces
   pub leads :
-      (how : Manner) (l : List ℕ) → Planned (length l) k → (reads : ℕ) (next : ℕ → ℕ) (m : ℕ) → Crossing how l k tested s reads faces next m →
-      Crossing how l k true (r .spot) (reads + r .past) (faces - r .past) next (m + r .past)
+      (from : Start) (l : List ℕ) → Planned (length l) k → (reads : ℕ) (next : ℕ → ℕ) (m : ℕ) → Crossing from l k tested s reads faces next m →
+      Crossing from l k true (r .spot) (reads + r .past) (faces - r .past) next (m + r .past)
 
 module _ (l : List ℕ) (k : Route) where
   -- some walk has these faces to cross
   pub record CanWalk (tested : Bool) (s : Spot) (reads faces : ℕ) : Type 0 where
-    pub how : Manner
+    pub from : Start
     pub next : ℕ → ℕ
-    pub from : ℕ
-    pub crossing : Crossing how l k tested s reads faces next from
+    pub number : ℕ
+    pub crossing : Crossing from l k tested s reads faces next number
 
   -- and whichever it is, it was followed
   pub record Walked (tested : Bool) (s : Spot) (reads faces : ℕ) (r : Turn) : Type 0 where
-    pub leads : (how : Manner) (next : ℕ → ℕ) (m : ℕ) → Crossing how l k tested s reads faces next m →
-        Outcome how l k next (m + faces) (r .hit) (r .spot) (r .reads)
+    pub leads : (from : Start) (next : ℕ → ℕ) (m : ℕ) → Crossing from l k tested s reads faces next m →
+        Outcome from l k next (m + faces) (r .hit) (r .spot) (r .reads)
 
   -- what a turn of the adaptive walk asks: the longest axis, and some walk at that cell
   pub record CanGo (u : Axis) (tested : Bool) (s : Spot) (reads left : ℕ) : Type 0 where
     pub plan : Planned (length l) k
     pub long : steps (k .d) u ≡ longest (steps (k .d))
-    pub how : Manner
-    pub at : At26 how l k tested s reads left
+    pub from : Start
+    pub at : At26 from l k tested s reads left
 
   -- whichever it is: stopped, or on its way at a later cell of the 26-line
   pub record Reached (tested : Bool) (s : Spot) (reads left : ℕ) (r : Reach) : Type 0 where
     pub fewer : r .left < left
-    pub outcome : (how : Manner) → At26 how l k tested s reads left → Outcome26 how l k r
+    pub outcome : (from : Start) → At26 from l k tested s reads left → Outcome26 from l k r

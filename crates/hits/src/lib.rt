@@ -120,7 +120,7 @@ fn walk_from(cells: &[u8], k: Route, s: Spot, reads: u32, faces: u32, tested: bo
 // The plain walk: the 6-line to its first hit, or to Q.
 fn walk_plain(cells: &[u8], k: Route, start: Spot, how: Manner) -> Stop
     requires { ⌜ Planned (length (now cells)) k × SpotAt k (at 0 0 0) start ⌝ }
-    ensures { λ r. ⌜ Stops how (now (cells .entry)) k (going (now (cells .entry)) k Plain) r ⌝ }
+    ensures { λ r. ⌜ Stops (how .start) (now (cells .entry)) k (going (now (cells .entry)) k Plain) r ⌝ }
 {
     let d = k.d;
     let t = walk_from(cells, k, start, 0, d.total(), how.tests_start());
@@ -156,9 +156,10 @@ fn run_on(cells: &[u8], k: Route, h: RunRoute, long: Axis, s: Spot, reads: u32, 
     ensures { λ r. ⌜ Reached (now (cells .entry)) k true s reads left r ⌝ }
 {
     let d = k.d;
-    let r = runs::clear_run(cells, h, runs::run_spot_of(s, d, long), left);
+    let start = runs::run_spot_of(routes::raised(s, k), d, long);
+    let r = runs::clear_run(cells, h, start, left);
     let end = r.spot;
-    let spot = runs::spot_of(end, d, long);
+    let spot = routes::lowered(runs::spot_of(end, d, long), k);
     let made = left - r.left;
     Reach {
         spot: spot,
@@ -181,7 +182,8 @@ fn near_turn(
     requires { ⌜ CanGo (now cells) k long tested s reads left × (byte-of-spot (now cells) s ≡ 0 → ⊥) ⌝ }
     ensures { λ r. ⌜ Reached (now (cells .entry)) k tested s reads left r ⌝ }
 {
-    let e = s.e;
+    let order = k.order;
+    let e = tripod::raised(s.e, order);
     let d = k.d;
     let t = walk_from(
         cells,
@@ -225,7 +227,7 @@ fn passes_solid(cells: &[u8], s: Spot, how: Manner) -> bool
 // How the adaptive walk sets out: from P like from any other cell; but where it passes a solid P, over the faces to the next cell of the 26-line.
 fn set_out(cells: &[u8], k: Route, long: Axis, start: Spot, left: u32, how: Manner) -> Reach
     requires { ⌜ Planned (length (now cells)) k × SpotAt k (at 0 0 0) start × (left ≡ longest (steps (k .d))) × (steps (k .d) long ≡ left) ⌝ }
-    ensures { λ r. ⌜ Came how (now (cells .entry)) k r ⌝ }
+    ensures { λ r. ⌜ Came (how .start) (now (cells .entry)) k r ⌝ }
 {
     if 0 < left {
         if passes_solid(cells, start, how) {
@@ -243,7 +245,7 @@ fn set_out(cells: &[u8], k: Route, long: Axis, start: Spot, left: u32, how: Mann
 // The adaptive walk: from cell to cell of the 26-line, with long steps where the byte is 0, to the first hit or to Q.
 pub fn walk_adaptive(cells: &[u8], k: Route, start: Spot, how: Manner) -> Stop
     requires { ⌜ Planned (length (now cells)) k × SpotAt k (at 0 0 0) start ⌝ }
-    ensures { λ r. ⌜ Stops how (now (cells .entry)) k (going (now (cells .entry)) k Adaptive) r ⌝ }
+    ensures { λ r. ⌜ Stops (how .start) (now (cells .entry)) k (going (now (cells .entry)) k Adaptive) r ⌝ }
 {
     let d = k.d;
     let long = d.longest_axis();
@@ -287,7 +289,7 @@ fn is_passed(made: Diffs, how: Manner) -> bool
 // The answer of a walk from where it stopped.
 pub fn answer_of(cells: &[u8], k: Route, r: Stop, how: Manner) -> FirstHit
     requires { ⌜ Planned (length (now cells)) k × HasByte (length (now cells)) (r .spot .at) ⌝ }
-    ensures { λ a. ⌜ a ≡ answer-from how (now (cells .entry)) k r ⌝ }
+    ensures { λ a. ⌜ a ≡ answer-from (how .start) (now (cells .entry)) k r ⌝ }
 {
     let spot = r.spot;
     let code = routes::byte_at(cells, spot);
@@ -299,7 +301,8 @@ pub fn answer_of(cells: &[u8], k: Route, r: Stop, how: Manner) -> FirstHit
     if is_passed(made, how) {
         return FirstHit::Clear(r.reads);
     }
-    let place = places::place_after(k.p, k.q, k.d, made);
+    let order = k.order;
+    let place = places::place_after(k.p, k.q, order, k.d, made);
     FirstHit::Hit(Hit {
         cell: cell,
         code: code,
@@ -311,7 +314,7 @@ pub fn answer_of(cells: &[u8], k: Route, r: Stop, how: Manner) -> FirstHit
 // What the plain walk finds along a route.
 fn plain_answer(cells: &[u8], k: Route, how: Manner) -> FirstHit
     requires { ⌜ Planned (length (now cells)) k ⌝ }
-    ensures { λ r. ⌜ r ≡ found how (now (cells .entry)) k Plain ⌝ }
+    ensures { λ r. ⌜ r ≡ found (how .start) (now (cells .entry)) k Plain ⌝ }
 {
     let stop = walk_plain(cells, k, routes::first_spot(k), how);
     answer_of(cells, k, stop, how)
@@ -320,7 +323,7 @@ fn plain_answer(cells: &[u8], k: Route, how: Manner) -> FirstHit
 // What the adaptive walk finds along a route.
 fn adaptive_answer(cells: &[u8], k: Route, how: Manner) -> FirstHit
     requires { ⌜ Planned (length (now cells)) k ⌝ }
-    ensures { λ r. ⌜ r ≡ found how (now (cells .entry)) k Adaptive ⌝ }
+    ensures { λ r. ⌜ r ≡ found (how .start) (now (cells .entry)) k Adaptive ⌝ }
 {
     let stop = walk_adaptive(cells, k, routes::first_spot(k), how);
     answer_of(cells, k, stop, how)
@@ -330,9 +333,10 @@ fn adaptive_answer(cells: &[u8], k: Route, how: Manner) -> FirstHit
 pub fn first_plain(n: Counts, cells: &[u8], p: Cell, q: Cell, how: Manner) -> FirstHit
     ensures { λ r. ⌜ Finds Plain how n (now (cells .entry)) p q r ⌝ }
 {
+    let rule = how.rule;
     match grids::check_walk(n, cells.len(), p, q) {
         Verdict::Refused(r) => FirstHit::Refused(r),
-        Verdict::Fine => plain_answer(cells, routes::route_of(n, p, q), how),
+        Verdict::Fine => plain_answer(cells, routes::route_of(n, p, q, rule), how),
     }
 }
 
@@ -340,8 +344,9 @@ pub fn first_plain(n: Counts, cells: &[u8], p: Cell, q: Cell, how: Manner) -> Fi
 pub fn first_adaptive(n: Counts, cells: &[u8], p: Cell, q: Cell, how: Manner) -> FirstHit
     ensures { λ r. ⌜ Finds Adaptive how n (now (cells .entry)) p q r ⌝ }
 {
+    let rule = how.rule;
     match grids::check_walk(n, cells.len(), p, q) {
         Verdict::Refused(r) => FirstHit::Refused(r),
-        Verdict::Fine => adaptive_answer(cells, routes::route_of(n, p, q), how),
+        Verdict::Fine => adaptive_answer(cells, routes::route_of(n, p, q, rule), how),
     }
 }

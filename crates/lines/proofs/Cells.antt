@@ -16,13 +16,13 @@ use Rattle.cells.proofs.Touching.{and-both}
 use Rattle.cells.proofs.Signed.{up, dn, one-sided, diff-is, abs-is, leZ-true}
 use Rattle.lines.specs.Steps.{Axis, X, Y, Z, Steps, total, same}
 use Rattle.lines.specs.Crossings.{Course, upper, next, place}
-use Rattle.lines.specs.Preference.{Preference, rule-1}
+use Rattle.lines.specs.Preference.{Preference, y-z-x}
 use Rattle.lines.specs.Towards.{towards}
 use Rattle.lines.specs.Lines.{differences, cell-of, face-along, centres, six-cell, six-line, longest}
 use Rattle.lines.specs.Lines.{place-26, cell-26, line-26, in-limit, InLimit, number-26}
 use Rattle.lines.specs.Segment.{Share, InClosed, InOpen}
 use Rattle.lines.proofs.Steps.{bump, total-bump, same-self, Cmp, here, other, cmp}
-use Rattle.lines.proofs.Merge.{Next, Rule}
+use Rattle.lines.proofs.Merge.{Next, Choice}
 use Rattle.lines.proofs.Fractions.{Before, Good, InClosedSteps, InOpenSteps, next-rule, place-start, place-total}
 use Rattle.lines.proofs.Fractions.{place-suc, place-on, place-end, start-touched, entered-touched, none-left-out}
 use Rattle.lines.proofs.Centres.{centres-good, longest-most, is-place-26, skipped-26, moved-start, moved-end, moved-longest, moved-grows, moved-by-one}
@@ -164,7 +164,7 @@ module _ (r : Preference) (p q : Cell) where
       }
 
   pub six-touched : (n : ℕ) → n ≤ total D → (k : ℕ) × (d : ℕ) × Share k d × InClosed p q k d (six-cell r p q n)
-  unfolding Rule Next
+  unfolding Choice Next
   six-touched zero le =
       (0, 1, record { some = omega arith; most = omega arith }, rw (six-is 0) (closed-cell 0 1 (place C 0) (start-touched C G 1 (place C 0) (place-start C))))
   six-touched (suc n) le =
@@ -222,10 +222,10 @@ module _ (p q : Cell) where
   D′ = differences p q
 
   pub start-26 : cell-26 p q 0 ≡ p
-  start-26 = is-26 rule-1 p q 0 ∙ cell-start p q (place-26 D′ 0) (λ a. moved-start (longest D′) (D′ a))
+  start-26 = is-26 y-z-x p q 0 ∙ cell-start p q (place-26 D′ 0) (λ a. moved-start (longest D′) (D′ a))
 
   pub end-26 : cell-26 p q (longest D′) ≡ q
-  end-26 = is-26 rule-1 p q (longest D′) ∙ cell-end p q (place-26 D′ (longest D′)) (λ a. moved-end (longest D′) (D′ a) (longest-most D′ a))
+  end-26 = is-26 y-z-x p q (longest D′) ∙ cell-end p q (place-26 D′ (longest D′)) (λ a. moved-end (longest D′) (D′ a) (longest-most D′ a))
 
   pub line-26-is : line-26 p q ≡ tabulate (cell-26 p q) (longest D′ + 1)
   unfolding line-26
@@ -241,7 +241,7 @@ module _ (p q : Cell) where
   -- from m to m + 1
   moves-26 : (m : ℕ) (a : Axis) → apart (on (cell-26 p q m) a) (on (cell-26 p q (m + 1)) a) ≡
       (place-26 D′ m a - place-26 D′ (m + 1) a) + (place-26 D′ (m + 1) a - place-26 D′ m a)
-  moves-26 m a = rw (is-26 rule-1 p q m, is-26 rule-1 p q (m + 1)) (cells-apart p q (place-26 D′ m) (place-26 D′ (m + 1)) a)
+  moves-26 m a = rw (is-26 y-z-x p q m, is-26 y-z-x p q (m + 1)) (cells-apart p q (place-26 D′ m) (place-26 D′ (m + 1)) a)
 
   pub moves-by-one-26 : (m : ℕ) (a : Axis) → m < longest D′ → apart (on (cell-26 p q m) a) (on (cell-26 p q (m + 1)) a) ≤ 1
   moves-by-one-26 m a lt =

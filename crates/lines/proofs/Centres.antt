@@ -7,7 +7,7 @@ use native.Mathlib.Nat.{div-eq-of-lt-le}
 use native.Mathlib.Decide.{decLe}
 use Rattle.lines.specs.Steps.{Axis, X, Y, Z, Steps, total}
 use Rattle.lines.specs.Crossings.{Course, place, MadeUpto}
-use Rattle.lines.specs.Preference.{Preference, rule-1}
+use Rattle.lines.specs.Preference.{Preference, y-z-x}
 use Rattle.lines.specs.Lines.{centres, longest, moved-26, place-26}
 use Rattle.lines.proofs.Steps.{lt-or-ge, total-lt}
 use Rattle.lines.proofs.Merge.{Within, OnLine, fewer-is-below}
@@ -49,7 +49,7 @@ moved-after r D (suc n) m a some = ap (λ v. v / (2 * suc n)) (omega arith)
 
 -- a face was crossed by cell m exactly where its fraction is at most m over M
 pub moved-iff : (M D m i : ℕ) → 0 < M → (i < moved-26 M D m) ↔ ((1 + 2 * i) * M ≤ m * (2 * D))
-moved-iff M D m i some = rw (moved-after rule-1 (λ a. D) M m X some) (after-iff (centres rule-1 (λ a. D)) (centres-good rule-1 (λ a. D)) m M X i some)
+moved-iff M D m i some = rw (moved-after y-z-x (λ a. D) M m X some) (after-iff (centres y-z-x (λ a. D)) (centres-good y-z-x (λ a. D)) m M X i some)
 
 pub moved-start : (M D : ℕ) → moved-26 M D 0 ≡ 0
 unfolding moved-26
@@ -72,7 +72,7 @@ pub moved-within : (M D m : ℕ) → m ≤ M → moved-26 M D m ≤ D
 moved-within M D m le = go (lt-or-ge 0 M)
   where
     go : (0 < M) ⊎ (M ≤ 0) → moved-26 M D m ≤ D
-    go (inl some) = rw (moved-after rule-1 (λ a. D) M m X some) (after-within (centres rule-1 (λ a. D)) (centres-good rule-1 (λ a. D)) m M some le X)
+    go (inl some) = rw (moved-after y-z-x (λ a. D) M m X some) (after-within (centres y-z-x (λ a. D)) (centres-good y-z-x (λ a. D)) m M some le X)
     go (inr none) =
         let z : m ≡ 0 = omega arith in
         rw z (omega (arith, moved-start M D))

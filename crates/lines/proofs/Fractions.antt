@@ -12,7 +12,7 @@ use borrow.Author.Tests.{ltb-true, ltb-false, lt-ltb, le-ltb, eq-eqb, ne-eqb}
 use Rattle.lines.specs.Steps.{Axis, Steps, total, same}
 use Rattle.lines.specs.Crossings.{Course, upper, before, has-more, sooner, next, place, InOrder, LastMade, MadeUpto}
 use Rattle.lines.proofs.Steps.{Cmp, here, other, cmp, same-self, lt-or-ge, bump, walk-start, walk-suc, walk-total}
-use Rattle.lines.proofs.Merge.{Laws, Within, OnLine, Next, Rule, Leads, done, itself, wins, reached, walk-on}
+use Rattle.lines.proofs.Merge.{Laws, Within, OnLine, Next, Choice, Leads, done, itself, wins, reached, walk-on}
 use Rattle.lines.proofs.Merge.{walk-end, step-on, choice-rule, Last, enters-by-last, last-unique}
 
 -- 1 where rank r goes ahead of rank s in a tie, else 0
@@ -184,7 +184,7 @@ module _ (c : Course) (good : Good c) where
   pub other-leads : (t : Steps) (a b : Axis) → same a b ≡ 0 → before c a (t a) b (t b) ≡ false → Leads (c .count) (Before c) t b a
   other-leads t a b e h = leads-by t (not-before a b (t a) (t b) e h)
 
-  pub next-rule : Rule (c .count) (Before c) (next c)
+  pub next-rule : Choice (c .count) (Before c) (next c)
   unfolding next
   next-rule = choice-rule (c .count) (Before c) laws (sooner c) sooner-leads
 

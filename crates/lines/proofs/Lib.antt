@@ -5,3 +5,4 @@ pub mod Centres
 pub mod Signs
 pub mod Towards
 pub mod Cells
+pub mod Mirror

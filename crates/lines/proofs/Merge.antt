@@ -27,8 +27,8 @@ unfoldable pub Next : Steps → (Axis → ℕ → Axis → ℕ → Type 0) → S
 Next N B t n = (t n < N n) × ((b : Axis) → same n b ≡ 0 → t b < N b → B n (t n) b (t b))
 
 -- a rule that gives the next axis wherever a crossing is left
-unfoldable pub Rule : Steps → (Axis → ℕ → Axis → ℕ → Type 0) → (Steps → Axis) → Type 0
-Rule N B next = (t : Steps) → Within N t → total t < total N → Next N B t (next t)
+unfoldable pub Choice : Steps → (Axis → ℕ → Axis → ℕ → Type 0) → (Steps → Axis) → Type 0
+Choice N B next = (t : Steps) → Within N t → total t < total N → Next N B t (next t)
 
 -- n has a crossing behind it, and its last-taken one comes after the last-taken one of every other axis
 unfoldable pub Last : (Axis → ℕ → Axis → ℕ → Type 0) → Steps → Axis → Type 0
@@ -90,8 +90,8 @@ module _ (N : Steps) (B : Axis → ℕ → Axis → ℕ → Type 0) (laws : Laws
   step-within t n h here le = omega (arith, same-self n)
   step-within t n h (other e f) le = omega arith
 
-  pub walk-on : (next : Steps → Axis) → Rule N B next → (n : ℕ) → n ≤ total N → OnLine N B (after-steps next n) × Within N (after-steps next n)
-  unfolding Rule Next
+  pub walk-on : (next : Steps → Axis) → Choice N B next → (n : ℕ) → n ≤ total N → OnLine N B (after-steps next n) × Within N (after-steps next n)
+  unfolding Choice Next
   walk-on next rule zero le = (start-on (after-steps next 0) (walk-start next), λ a. omega (arith, walk-start next a))
   walk-on next rule (suc n) le =
       let t : Steps = after-steps next n in
@@ -100,13 +100,13 @@ module _ (N : Steps) (B : Axis → ℕ → Axis → ℕ → Type 0) (laws : Laws
       rw (walk-suc next n) (step-on t (next t) on nx, λ a. step-within t (next t) (nx .0) (cmp (next t) a) (wi a))
 
   -- used everywhere: a place on the line is the walk's, after as many steps as it has crossings
-  pub reached : (next : Steps → Axis) → Rule N B next → (t : Steps) → Within N t → OnLine N B t → (a : Axis) → t a ≡ after-steps next (total t) a
+  pub reached : (next : Steps → Axis) → Choice N B next → (t : Steps) → Within N t → OnLine N B t → (a : Axis) → t a ≡ after-steps next (total t) a
   reached next rule t wi on a =
       let le : total t ≤ total N = omega (arith, wi X, wi Y, wi Z) in
       let w = walk-on next rule (total t) le in
       one-place-for-each-number t (after-steps next (total t)) wi (w .1) on (w .0) (omega (arith, walk-total next (total t))) a
 
-  pub walk-end : (next : Steps → Axis) → Rule N B next → (a : Axis) → after-steps next (total N) a ≡ N a
+  pub walk-end : (next : Steps → Axis) → Choice N B next → (a : Axis) → after-steps next (total N) a ≡ N a
   walk-end next rule a = sym (reached next rule N (λ b. omega arith) end-on a)
 
   pub next-unique : (t : Steps) (m n : Axis) → Next N B t m → Next N B t n → m ≡ n
@@ -118,8 +118,8 @@ module _ (N : Steps) (B : Axis → ℕ → Axis → ℕ → Type 0) (laws : Laws
       go {n} q (other e f) = absurd (laws .asym (p .1 n e (q .0)) (q .1 m f (p .0)))
 
   -- the crossing by which the walk enters a place is the last of the last-taken ones
-  pub enters-by-last : (next : Steps → Axis) → Rule N B next → (n : ℕ) → n < total N → Last B (after-steps next (suc n)) (next (after-steps next n))
-  unfolding OnLine Rule Next Last
+  pub enters-by-last : (next : Steps → Axis) → Choice N B next → (n : ℕ) → n < total N → Last B (after-steps next (suc n)) (next (after-steps next n))
+  unfolding OnLine Choice Next Last
   enters-by-last next rule n lt =
       let t : Steps = after-steps next n in
       let m : Axis = next t in
@@ -168,8 +168,8 @@ module _ (N : Steps) (B : Axis → ℕ → Axis → ℕ → Type 0) (laws : Laws
   -- a choice between two axes that gives one that leads both, made twice, is a rule
   pub choice-rule :
       (sooner : Steps → Axis → Axis → Axis) → ((t : Steps) (a b : Axis) → Leads N B t (sooner t a b) a × Leads N B t (sooner t a b) b) →
-      Rule N B (λ t. sooner t X (sooner t Y Z))
-  unfolding Rule
+      Choice N B (λ t. sooner t X (sooner t Y Z))
+  unfolding Choice
   choice-rule sooner leads t wi lt = leader-is-next t _ (open-axis t N lt .0) all (open-axis t N lt .1)
     where
       all : (c : Axis) → Leads N B t (sooner t X (sooner t Y Z)) c

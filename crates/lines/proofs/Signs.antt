@@ -1,5 +1,6 @@
--- The decision values: their signs, with the tie bit, tell the order of two crossings under any preference; figure 6 is the instance of rule 1;
--- a step moves them by figure 6's sums; they stay small; and they make the 26-line too. Assumes nothing.
+-- The decision values: their signs, with the tie bit, tell the order of two crossings under any preference; lowered by the order's shift, figure 6's tests
+-- on them pick the next crossing in both orders of the rules; a step moves them by figure 6's sums; they stay small; and they make the 26-line too.
+-- Assumes nothing.
 use mathlib.Core.Path.{_≡_, refl, sym, ap, ap₂, _∙_}
 use mathlib.Core.Logic.{⊎-elim, _↔_}
 use mathlib.Core.Bool.{Bool, true, false, cond}
@@ -10,15 +11,17 @@ use lib.Dec.{ltb}
 use lib.IntN.{ℤ, pos, negsuc, _+ℤ_, _-ℤ_}
 use lib.Signed.{ltZ, _≤ℤ_}
 use borrow.Author.Tests.{lt-ltb, le-ltb}
-use Rattle.cells.proofs.Signed.{same-number, one-sided, sum-is, diff-is, lt-ltZ, le-ltZ, ≤ℤ-is}
+use Rattle.cells.proofs.Signed.{same-number, one-sided, sum-is, diff-is, lt-ltZ, le-ltZ, ltZ-true, ltZ-false, ≤ℤ-is}
 use Rattle.lines.specs.declared.Tripod.{Tripod}
 use Rattle.lines.specs.Steps.{Axis, X, Y, Z, Steps, total, same}
-use Rattle.lines.specs.Crossings.{before, next}
-use Rattle.lines.specs.Preference.{Preference, rule-1}
+use Rattle.lines.specs.declared.Order.{Order}
+use Rattle.lines.specs.declared.Order.the-variants.{Yzx, Xzy}
+use Rattle.lines.specs.Crossings.{Course, before, next}
+use Rattle.lines.specs.Preference.{Preference, prefers}
 use Rattle.lines.specs.Lines.{centres, longest, place-26}
-use Rattle.lines.specs.Decisions.{decision, e-xy, e-xz, e-zy, values, by-signs, doubled, moved-values}
+use Rattle.lines.specs.Decisions.{decision, values, by-signs, doubled, moved-values, shift, lowered, raised}
 use Rattle.lines.proofs.Steps.{same-self, lt-or-ge, bump, open-axis}
-use Rattle.lines.proofs.Merge.{Within, Next, Rule, Leads, itself, leads-trans, leader-is-next, next-unique}
+use Rattle.lines.proofs.Merge.{Within, Next, Choice, Leads, itself, leads-trans, leader-is-next, next-unique}
 use Rattle.lines.proofs.Fractions.{Before, ahead, before-test, laws, next-rule, before-leads, other-leads}
 use Rattle.lines.proofs.Centres.{centres-good, longest-most, moved-longest, moves-iff}
 
@@ -50,55 +53,91 @@ sign-tells r D t a b =
 
 -- ---- figure 6
 
--- under rule 1 x never goes first in a tie, and z not before y: the three values are tested against 0
-xy-tells : (D t : Steps) → before (centres rule-1 D) X (t X) Y (t Y) ≡ ltZ (e-xy D t) (pos 0)
-xy-tells D t = sign-tells rule-1 D t X Y
+pub same-values : {v w : Tripod} → v .xy ≡ w .xy → v .xz ≡ w .xz → v .zy ≡ w .zy → v ≡ w
+same-values p q s = λ i. record { xy = p i; xz = q i; zy = s i }
 
-xz-tells : (D t : Steps) → before (centres rule-1 D) X (t X) Z (t Z) ≡ ltZ (e-xz D t) (pos 0)
-xz-tells D t = sign-tells rule-1 D t X Z
-
-zy-tells : (D t : Steps) → before (centres rule-1 D) Z (t Z) Y (t Y) ≡ ltZ (e-zy D t) (pos 0)
-zy-tells D t = sign-tells rule-1 D t Z Y
-
--- the tests of figure 6 pick the next crossing of rule 1, at every place that is not the end
-pub signs-pick : (D t : Steps) → total t < total D → Next D (Before (centres rule-1 D)) t (by-signs (values D t))
-signs-pick D t lt =
-    go (ltZ (e-xy D t) (pos 0)) (ltZ (e-xz D t) (pos 0)) (ltZ (e-zy D t) (pos 0))
-    (xy-tells D t) (xz-tells D t) (zy-tells D t)
+-- a value that a number was taken off beforehand is tested against 0
+lowered-test : (z : ℤ) (h : ℕ) → ltZ (z -ℤ pos h) (pos 0) ≡ ltZ z (pos h)
+lowered-test z h = go (ltZ z (pos h)) refl
   where
-    first : (n : Axis) → Leads D (Before (centres rule-1 D)) t n X → Leads D (Before (centres rule-1 D)) t n Y →
-        Leads D (Before (centres rule-1 D)) t n Z → Next D (Before (centres rule-1 D)) t n
-    first n x y z = leader-is-next D (Before (centres rule-1 D)) (laws (centres rule-1 D) (centres-good rule-1 D)) t n (open-axis t D lt .0) all
-        (open-axis t D lt .1)
-      where
-        all : (b : Axis) → Leads D (Before (centres rule-1 D)) t n b
-        all X = x
-        all Y = y
-        all Z = z
+    go : (t : Bool) → ltZ z (pos h) ≡ t → ltZ (z -ℤ pos h) (pos 0) ≡ t
+    go true e = lt-ltZ (z -ℤ pos h) (pos 0) (omega (arith, diff-is z (pos h), ltZ-true z (pos h) e))
+    go false e = le-ltZ (z -ℤ pos h) (pos 0) (omega (arith, diff-is z (pos h), ltZ-false z (pos h) e))
 
-    then : {a b d : Axis} → Leads D (Before (centres rule-1 D)) t a b → Leads D (Before (centres rule-1 D)) t b d → Leads D (Before (centres rule-1 D)) t a d
-    then = leads-trans D (Before (centres rule-1 D)) (laws (centres rule-1 D) (centres-good rule-1 D)) t
+-- of a pair of axes the first goes ahead in a tie where the order's shift is 1, the second where it is 0
+pub record Tied (o : Order) (a b : Axis) : Type 0 where
+  pub first : ahead (prefers o .rank a) (prefers o .rank b) ≡ shift o
+  pub second : ahead (prefers o .rank b) (prefers o .rank a) + shift o ≡ 1
 
-    wins : (a b : Axis) → before (centres rule-1 D) a (t a) b (t b) ≡ true → Leads D (Before (centres rule-1 D)) t a b
-    wins = before-leads (centres rule-1 D) (centres-good rule-1 D) t
+-- so it is with the three pairs of figure 6
+pub tied-xy : (o : Order) → Tied o X Y
+tied-xy Yzx = record { first = refl; second = refl }
+tied-xy Xzy = record { first = refl; second = refl }
 
-    loses : (a b : Axis) → same a b ≡ 0 → before (centres rule-1 D) a (t a) b (t b) ≡ false → Leads D (Before (centres rule-1 D)) t b a
-    loses = other-leads (centres rule-1 D) (centres-good rule-1 D) t
+pub tied-xz : (o : Order) → Tied o X Z
+tied-xz Yzx = record { first = refl; second = refl }
+tied-xz Xzy = record { first = refl; second = refl }
 
-    go :
-        (p q s : Bool) → before (centres rule-1 D) X (t X) Y (t Y) ≡ p → before (centres rule-1 D) X (t X) Z (t Z) ≡ q →
-        before (centres rule-1 D) Z (t Z) Y (t Y) ≡ s →
-        Next D (Before (centres rule-1 D)) t (cond p (cond q X Z) (cond s Z Y))
-    go true true s p q _ = first X itself (wins X Y p) (wins X Z q)
-    go true false s p q _ = first Z (loses X Z refl q) (then (loses X Z refl q) (wins X Y p)) itself
-    go false q true p _ s = first Z (then (wins Z Y s) (loses X Y refl p)) (wins Z Y s) itself
-    go false q false p _ s = first Y (loses X Y refl p) itself (loses Z Y refl s)
+pub tied-zy : (o : Order) → Tied o Z Y
+tied-zy Yzx = record { first = refl; second = refl }
+tied-zy Xzy = record { first = refl; second = refl }
 
-pub figure-6-is-next : (D t : Steps) → Within D t → total t < total D → by-signs (values D t) ≡ next (centres rule-1 D) t
-unfolding Rule
-figure-6-is-next D t wi lt =
-    next-unique D (Before (centres rule-1 D)) (laws (centres rule-1 D) (centres-good rule-1 D)) t _ _
-    (signs-pick D t lt) (next-rule (centres rule-1 D) (centres-good rule-1 D) t wi lt)
+-- the tests of figure 6 on the lowered values pick the next crossing of their order, at every place that is not the end
+module _ (o : Order) (D t : Steps) where
+  abbrev C : Course
+  C = centres (prefers o) D
+
+  tells : (a b : Axis) → Tied o a b → before C a (t a) b (t b) ≡ ltZ (decision D t a b -ℤ pos (shift o)) (pos 0)
+  tells a b e = sign-tells (prefers o) D t a b ∙ ap (λ h. ltZ (decision D t a b) (pos h)) (e .first) ∙ sym (lowered-test (decision D t a b) (shift o))
+
+  pub signs-pick : total t < total D → Next D (Before C) t (by-signs (lowered o (values D t)))
+  signs-pick lt =
+      go (ltZ (lowered o (values D t) .xy) (pos 0)) (ltZ (lowered o (values D t) .xz) (pos 0)) (ltZ (lowered o (values D t) .zy) (pos 0))
+      (tells X Y (tied-xy o)) (tells X Z (tied-xz o)) (tells Z Y (tied-zy o))
+    where
+      first : (n : Axis) → Leads D (Before C) t n X → Leads D (Before C) t n Y → Leads D (Before C) t n Z → Next D (Before C) t n
+      first n x y z = leader-is-next D (Before C) (laws C (centres-good (prefers o) D)) t n (open-axis t D lt .0) all (open-axis t D lt .1)
+        where
+          all : (b : Axis) → Leads D (Before C) t n b
+          all X = x
+          all Y = y
+          all Z = z
+
+      then : {a b d : Axis} → Leads D (Before C) t a b → Leads D (Before C) t b d → Leads D (Before C) t a d
+      then = leads-trans D (Before C) (laws C (centres-good (prefers o) D)) t
+
+      wins : (a b : Axis) → before C a (t a) b (t b) ≡ true → Leads D (Before C) t a b
+      wins = before-leads C (centres-good (prefers o) D) t
+
+      loses : (a b : Axis) → same a b ≡ 0 → before C a (t a) b (t b) ≡ false → Leads D (Before C) t b a
+      loses = other-leads C (centres-good (prefers o) D) t
+
+      go :
+          (p q s : Bool) → before C X (t X) Y (t Y) ≡ p → before C X (t X) Z (t Z) ≡ q → before C Z (t Z) Y (t Y) ≡ s →
+          Next D (Before C) t (cond p (cond q X Z) (cond s Z Y))
+      go true true s p q _ = first X itself (wins X Y p) (wins X Z q)
+      go true false s p q _ = first Z (loses X Z refl q) (then (loses X Z refl q) (wins X Y p)) itself
+      go false q true p _ s = first Z (then (wins Z Y s) (loses X Y refl p)) (wins Z Y s) itself
+      go false q false p _ s = first Y (loses X Y refl p) itself (loses Z Y refl s)
+
+  pub figure-6-is-next : Within D t → total t < total D → by-signs (lowered o (values D t)) ≡ next C t
+  unfolding Choice
+  figure-6-is-next wi lt =
+      next-unique D (Before C) (laws C (centres-good (prefers o) D)) t _ _ (signs-pick lt) (next-rule C (centres-good (prefers o) D) t wi lt)
+
+-- what was taken off is put back
+pub raised-back : (o : Order) (v : Tripod) → raised o (lowered o v) ≡ v
+raised-back o v = same-values (back (v .xy)) (back (v .xz)) (back (v .zy))
+  where
+    back : (z : ℤ) → (z -ℤ pos (shift o)) +ℤ pos (shift o) ≡ z
+    back z = same-number _ _ (omega (arith, sum-is (z -ℤ pos (shift o)) (pos (shift o)), diff-is z (pos (shift o))))
+
+-- in the order y, z, x nothing is
+pub lowered-none : (v : Tripod) → lowered Yzx v ≡ v
+lowered-none v = same-values (none (v .xy)) (none (v .xz)) (none (v .zy))
+  where
+    none : (z : ℤ) → z -ℤ pos 0 ≡ z
+    none z = same-number _ _ (omega (arith, diff-is z (pos 0)))
 
 -- ---- the sums
 
@@ -109,8 +148,8 @@ minus : (p q n : ℕ) → pos p -ℤ pos (q + n) ≡ (pos p -ℤ pos q) -ℤ pos
 minus p q n = same-number _ _ (omega (arith, diff-is (pos p -ℤ pos q) (pos n), diff-is (pos p) (pos q), diff-is (pos p) (pos (q + n))))
 
 -- an odd multiple where its axis was stepped along, and where another was
-raised : (D i s : ℕ) → s ≡ 1 → D * (2 * (i + s) + 1) ≡ D * (2 * i + 1) + 2 * D
-raised D i s e = rw e (omega arith)
+stepped-on : (D i s : ℕ) → s ≡ 1 → D * (2 * (i + s) + 1) ≡ D * (2 * i + 1) + 2 * D
+stepped-on D i s e = rw e (omega arith)
 
 kept : (D i s : ℕ) → s ≡ 0 → D * (2 * (i + s) + 1) ≡ D * (2 * i + 1)
 kept D i s e = rw e (omega arith)
@@ -121,18 +160,15 @@ less p q = pos p -ℤ pos q
 module _ (D t : Steps) (a b : Axis) where
   -- a step along the first axis of a pair adds twice the second's difference
   pub first-adds : same a b ≡ 0 → decision D (bump t a) a b ≡ decision D t a b +ℤ pos (2 * D b)
-  first-adds e = ap₂ less (raised (D b) (t a) _ (same-self a)) (kept (D a) (t b) _ e) ∙ plus (D b * (2 * t a + 1)) (D a * (2 * t b + 1)) (2 * D b)
+  first-adds e = ap₂ less (stepped-on (D b) (t a) _ (same-self a)) (kept (D a) (t b) _ e) ∙ plus (D b * (2 * t a + 1)) (D a * (2 * t b + 1)) (2 * D b)
 
   -- one along the second takes away twice the first's
   pub second-takes : same b a ≡ 0 → decision D (bump t b) a b ≡ decision D t a b -ℤ pos (2 * D a)
-  second-takes e = ap₂ less (kept (D b) (t a) _ e) (raised (D a) (t b) _ (same-self b)) ∙ minus (D b * (2 * t a + 1)) (D a * (2 * t b + 1)) (2 * D a)
+  second-takes e = ap₂ less (kept (D b) (t a) _ e) (stepped-on (D a) (t b) _ (same-self b)) ∙ minus (D b * (2 * t a + 1)) (D a * (2 * t b + 1)) (2 * D a)
 
   -- one along the third axis does nothing
   pub third-keeps : (n : Axis) → same n a ≡ 0 → same n b ≡ 0 → decision D (bump t n) a b ≡ decision D t a b
   third-keeps n e f = ap₂ less (kept (D b) (t a) _ e) (kept (D a) (t b) _ f)
-
-pub same-values : {v w : Tripod} → v .xy ≡ w .xy → v .xz ≡ w .xz → v .zy ≡ w .zy → v ≡ w
-same-values p q s = λ i. record { xy = p i; xz = q i; zy = s i }
 
 -- a step moves the values by the sums of figure 6
 pub step-moves : (D t : Steps) (n : Axis) → values D (bump t n) ≡ moved-values (doubled D) n (values D t)
@@ -140,9 +176,31 @@ step-moves D t X = same-values (first-adds D t X Y refl) (first-adds D t X Z ref
 step-moves D t Y = same-values (second-takes D t X Y refl) (third-keeps D t X Z Y refl refl) (second-takes D t Z Y refl)
 step-moves D t Z = same-values (third-keeps D t X Y Z refl refl) (second-takes D t X Z refl) (first-adds D t Z Y refl)
 
+-- and the lowered ones by the same
+pub lowered-moves : (o : Order) (D t : Steps) (n : Axis) → lowered o (values D (bump t n)) ≡ moved-values (doubled D) n (lowered o (values D t))
+lowered-moves o D t n = ap (lowered o) (step-moves D t n) ∙ past n (values D t)
+  where
+    up-past : (z : ℤ) (m : ℕ) → (z +ℤ pos m) -ℤ pos (shift o) ≡ (z -ℤ pos (shift o)) +ℤ pos m
+    up-past z m =
+        same-number _ _ (omega (arith, sum-is z (pos m), diff-is (z +ℤ pos m) (pos (shift o)), diff-is z (pos (shift o)), sum-is (z -ℤ pos (shift o)) (pos m)))
+
+    down-past : (z : ℤ) (m : ℕ) → (z -ℤ pos m) -ℤ pos (shift o) ≡ (z -ℤ pos (shift o)) -ℤ pos m
+    down-past z m =
+        same-number _ _ (omega (arith, diff-is z (pos m), diff-is (z -ℤ pos m) (pos (shift o)), diff-is z (pos (shift o)), diff-is (z -ℤ pos (shift o)) (pos m)))
+
+    past : (n : Axis) (v : Tripod) → lowered o (moved-values (doubled D) n v) ≡ moved-values (doubled D) n (lowered o v)
+    past X v = same-values (up-past (v .xy) (2 * D Y)) (up-past (v .xz) (2 * D Z)) refl
+    past Y v = same-values (down-past (v .xy) (2 * D X)) refl (down-past (v .zy) (2 * D Z))
+    past Z v = same-values refl (down-past (v .xz) (2 * D X)) (up-past (v .zy) (2 * D Y))
+
 -- ---- the bound
 
--- within the coordinate limit differences are at most 16,383, and the values lie between -536,821,761 and 536,821,761
+pub shift-most : (o : Order) → shift o ≤ 1
+shift-most Yzx = omega arith
+shift-most Xzy = omega arith
+
+-- within the coordinate limit differences are at most 16,383, and the values lie between -536,821,761 and 536,821,761; lowered, they reach one further
+-- down
 pub stays-small :
     (D t : Steps) (a b : Axis) → D a ≤ 16383 → D b ≤ 16383 → t a ≤ D a → t b ≤ D b →
     (negsuc 536821760 ≤ℤ decision D t a b) × (decision D t a b ≤ℤ pos 536821761)

@@ -1,6 +1,7 @@
 -- Crossings of faces, each at a fraction of the way, and the order in which a line makes them. Assumes nothing.
 use Prim.Native.Nat.{ℕ, _+_, _-_, _*_, _≤_, _<_}
 use mathlib.Core.Path.{_≡_}
+use mathlib.Core.Logic.{_≢_}
 use mathlib.Core.Bool.{Bool, true, cond, not, _&&_, _||_}
 use lib.Dec.{ltb, eqb}
 use Rattle.lines.specs.Steps.{Axis, X, Y, Z, PerAxis, Steps, same, after-steps}
@@ -55,6 +56,10 @@ pub record InOrder (c : Course) (t : Steps) : Type 0 where
 pub record LastMade (c : Course) (t : Steps) (n : Axis) : Type 0 where
   pub some : 0 < t n
   pub last : (b : Axis) → same n b ≡ 0 → 0 < t b → before c b (t b - 1) n (t n - 1) ≡ true
+
+-- no two crossings of different axes lie at equal fractions
+pub record TieFree (c : Course) : Type 0 where
+  pub none : (a b : Axis) (i j : ℕ) → same a b ≡ 0 → i < c .count a → j < c .count b → upper c a i * c .lower b ≢ upper c b j * c .lower a
 
 -- just the crossings at fractions up to and including n over d are made
 pub record MadeUpto (c : Course) (n d : ℕ) (t : Steps) : Type 0 where

@@ -1,11 +1,13 @@
--- SCOPE L6, L7: the three decision values of figure 6 at a place of the line, the tests of their signs and the sums that move them.
--- Assumes nothing.
-use Prim.Native.Nat.{_+_, _*_}
+-- SCOPE L6, L7, L19: the three decision values of figure 6 at a place of the line, the tests of their signs and the sums that move them; and what is
+-- taken off them for the order x, z, y. Assumes nothing.
+use Prim.Native.Nat.{ℕ, _+_, _*_}
 use mathlib.Core.Bool.{cond}
 use lib.IntN.{ℤ, pos, _+ℤ_, _-ℤ_}
 use lib.Signed.{ltZ}
 use Rattle.lines.specs.declared.Tripod.{Tripod}
 use Rattle.lines.specs.declared.Doubled.{Doubled}
+use Rattle.lines.specs.declared.Order.{Order}
+use Rattle.lines.specs.declared.Order.the-variants.{Yzx, Xzy}
 use Rattle.lines.specs.Steps.{Axis, X, Y, Z, Steps}
 
 -- e_xy = B(2i+1)-A(2j+1)
@@ -40,6 +42,20 @@ abbrev pub moved-values : Doubled → Axis → Tripod → Tripod
 moved-values d X v = record { xy = v .xy +ℤ d .b2; xz = v .xz +ℤ d .c2; zy = v .zy }
 moved-values d Y v = record { xy = v .xy -ℤ d .a2; xz = v .xz; zy = v .zy -ℤ d .c2 }
 moved-values d Z v = record { xy = v .xy; xz = v .xz -ℤ d .a2; zy = v .zy +ℤ d .b2 }
+
+-- SCOPE L19: where two crossings come next at one fraction their value is 0, and figure 6 then takes the second axis of the pair. That is right for all
+-- three pairs, xy, xz and zy, in the order y, z, x, and wrong for all three in the order x, z, y: there each value is kept smaller by one
+abbrev pub shift : Order → ℕ
+shift Yzx = 0
+shift Xzy = 1
+
+-- the values as they are kept along a line of an order
+abbrev pub lowered : Order → Tripod → Tripod
+lowered o v = record { xy = v .xy -ℤ pos (shift o); xz = v .xz -ℤ pos (shift o); zy = v .zy -ℤ pos (shift o) }
+
+-- and those of figure 6 again
+abbrev pub raised : Order → Tripod → Tripod
+raised o v = record { xy = v .xy +ℤ pos (shift o); xz = v .xz +ℤ pos (shift o); zy = v .zy +ℤ pos (shift o) }
 
 -- the decision value of any two axes: e_xy is that of x and y, e_xz that of x and z, e_zy that of z and y
 abbrev pub decision : Steps → Steps → Axis → Axis → ℤ

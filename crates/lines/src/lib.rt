@@ -1,5 +1,11 @@
-// Theory only: what a 6-line and a 26-line are stands in specs/, the laws about them in proofs/. The two structs are what the code keeps of a
-// line on its way, as the definitions name it.
+// Theory only: what a 6-line and a 26-line are stands in specs/, the laws about them in proofs/. The types are what the code keeps of a line on
+// its way, as the definitions name it.
+
+// The axes in the order in which a line takes them where it could cross the faces of two or three at one point.
+pub enum Order {
+    Yzx,
+    Xzy,
+}
 
 // The three decision values of figure 6.
 pub struct Tripod {

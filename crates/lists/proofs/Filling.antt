@@ -9,14 +9,13 @@ use lib.ListN.{length, length-set}
 use Rattle.cells.specs.declared.Cell.{Cell}
 use Rattle.lines.specs.Steps.{Axis, X, Y, Z, Steps, at, total}
 use Rattle.lines.specs.Crossings.{Course, next, place}
-use Rattle.lines.specs.Preference.{rule-1}
+use Rattle.lines.specs.declared.Order.{Order}
+use Rattle.lines.specs.Preference.{prefers}
 use Rattle.lines.specs.Lines.{differences, centres}
 use Rattle.cells.specs.Tabulate.{tabulate}
-use Rattle.lines.specs.Decisions.{values}
 use Rattle.lines.proofs.Steps.{bump}
-use Rattle.lines.proofs.Fractions.{place-suc, place-on, place-total}
+use Rattle.lines.proofs.Fractions.{place-start, place-suc, place-on, place-total}
 use Rattle.lines.proofs.Centres.{centres-good}
-use Rattle.lines.proofs.Cells.{cell-start}
 use Rattle.tripod.specs.Tripod.{NextFace}
 use Rattle.lists.specs.declared.six.SixWay.{SixWay}
 use Rattle.lists.specs.declared.six.SixSpot.{SixSpot}
@@ -59,29 +58,36 @@ module _ (f : ℕ → Cell) (last : ℕ) (out₀ : List ℤ) (room : 3 * (last +
 
 -- ---- the 6-line
 
--- at the start
-pub spot-start : (p q : Cell) (t : Steps) (s : SixSpot) → ((a : Axis) → t a ≡ 0) → s .at ≡ p → s .e ≡ values (differences p q) (at 0 0 0) → SixSpotAt p q t s
-spot-start p q t s z e v =
+pub no-steps : (a : Axis) → at 0 0 0 a ≡ 0
+no-steps X = refl
+no-steps Y = refl
+no-steps Z = refl
+
+abbrev pub C : Order → Cell → Cell → Course
+C o p q = centres (prefers o) (differences p q)
+
+-- the loop starts at P, on its way to q, with so many crossings before it
+pub record Begun (o : Order) (p q : Cell) (w : SixWay) (s : SixSpot) (crossings : ℕ) : Type 0 where
+  pub way : SixWayOf p q w
+  pub spot : SixSpotAt o p q (place (C o p q) 0) s
+  pub count : crossings ≡ total (differences p q)
+
+pub begins : (o : Order) (p q : Cell) (w : SixWay) (s : SixSpot) (crossings : ℕ) → SixWayOf p q w → SixSpotAt o p q (at 0 0 0) s →
+    crossings ≡ total (differences p q) → Begun o p q w s crossings
+begins o p q w s crossings way spot count =
     record {
-      cell = e ∙ sym (cell-start p q t z);
-      value = v ∙ ap (values (differences p q)) (sym (fun-ext zero-steps));
+      way = way;
+      spot = subst (λ t. SixSpotAt o p q t s) (fun-ext (λ a. no-steps a ∙ sym (place-start (C o p q) a))) spot;
+      count = count;
     }
-  where
-    zero-steps : (a : Axis) → t a ≡ at 0 0 0 a
-    zero-steps X = z X
-    zero-steps Y = z Y
-    zero-steps Z = z Z
 
-abbrev pub C : Cell → Cell → Course
-C p q = centres rule-1 (differences p q)
-
-module _ (p q : Cell) (w : SixWay) (way : SixWayOf p q w) where
+module _ (o : Order) (p q : Cell) (w : SixWay) (way : SixWayOf p q w) where
   pub six-turn :
-      (m : ℕ) (s : SixSpot) (n : Axis) → m < total (differences p q) → SixSpotAt p q (place (C p q) m) s → NextFace (s .e) n →
-      SixSpotAt p q (place (C p q) (m + 1)) (crossed-six w n s)
+      (m : ℕ) (s : SixSpot) (n : Axis) → m < total (differences p q) → SixSpotAt o p q (place (C o p q) m) s → NextFace (s .e) n →
+      SixSpotAt o p q (place (C o p q) (m + 1)) (crossed-six w n s)
   six-turn m s n lt h face =
-      let (on, wi) = place-on (C p q) (centres-good rule-1 (differences p q)) m (omega arith) in
-      let t = place (C p q) m in
-      let e : n ≡ next (C p q) t = face .comes-first (differences p q) t wi (omega (arith, place-total (C p q) m)) (h .value) in
-      subst (λ u. SixSpotAt p q u (crossed-six w n s)) (ap (bump t) e ∙ sym (place-suc (C p q) m) ∙ ap (place (C p q)) (sym (add-one m)))
-      (spot-crossed p q w way t s n h)
+      let (on, wi) = place-on (C o p q) (centres-good (prefers o) (differences p q)) m (omega arith) in
+      let t = place (C o p q) m in
+      let e : n ≡ next (C o p q) t = face .comes-first o (differences p q) t wi (omega (arith, place-total (C o p q) m)) (h .value) in
+      subst (λ u. SixSpotAt o p q u (crossed-six w n s)) (ap (bump t) e ∙ sym (place-suc (C o p q) m) ∙ ap (place (C o p q)) (sym (add-one m)))
+      (spot-crossed o p q w way t s n h)

@@ -95,3 +95,10 @@ end-fine e c h =
 
 pub ends-fine : (p q : Cell) → ends-check p q ≡ Fine → InLimit p × InLimit q
 ends-fine p q h = (end-fine P p (fine-first (end-check P p) _ h), end-fine Q q (fine-rest (end-check P p) _ h))
+
+-- and within the limit they pass, whichever is P
+limit-fine : (e : End) (c : Cell) → InLimit c → end-check e c ≡ Fine
+limit-fine e c h = rw (h .limit X, h .limit Y, h .limit Z)
+
+pub limits-pass : (p q : Cell) → InLimit p → InLimit q → ends-check p q ≡ Fine
+limits-pass p q hp hq = rw (limit-fine P p hp, limit-fine Q q hq)

@@ -14,11 +14,12 @@ use Rattle.cells.proofs.Machine.{parts-small}
 use Rattle.lines.specs.Steps.{Axis, X, Y, Z, Steps}
 use Rattle.lines.specs.Towards.{towards}
 use Rattle.lines.specs.Lines.{differences, cell-of, in-limit, InLimit}
-use Rattle.lines.specs.Decisions.{values, moved-values}
+use Rattle.lines.specs.declared.Order.{Order}
+use Rattle.lines.specs.Decisions.{moved-values}
 use Rattle.lines.proofs.Steps.{bump}
 use Rattle.lines.proofs.Cells.{limited-difference}
-use Rattle.lines.proofs.Signs.{step-moves}
-use Rattle.tripod.proofs.Laws.{limit-parts, place-small, doubled-small}
+use Rattle.lines.proofs.Signs.{lowered-moves}
+use Rattle.tripod.proofs.Laws.{limit-parts, lowered-small, doubled-small}
 use Rattle.lists.specs.declared.six.SixWay.{SixWay}
 use Rattle.lists.specs.declared.six.SixSpot.{SixSpot}
 use Rattle.lists.specs.Kept.{unit, heading, stepped-cell, SixWayOf, SixSpotAt, crossed-six, CanCrossSix}
@@ -67,17 +68,17 @@ stepped-on p q t X = λ i. record { x = towards-next (p .x) (q .x) (t X) i; y = 
 stepped-on p q t Y = λ i. record { x = towards-kept (p .x) (q .x) (t X) i; y = towards-next (p .y) (q .y) (t Y) i; z = towards-kept (p .z) (q .z) (t Z) i }
 stepped-on p q t Z = λ i. record { x = towards-kept (p .x) (q .x) (t X) i; y = towards-kept (p .y) (q .y) (t Y) i; z = towards-next (p .z) (q .z) (t Z) i }
 
-module _ (p q : Cell) (w : SixWay) (way : SixWayOf p q w) where
+module _ (o : Order) (p q : Cell) (w : SixWay) (way : SixWayOf p q w) where
   -- across a face along n lies the spot of the place one step further
-  pub spot-crossed : (t : Steps) (s : SixSpot) (n : Axis) → SixSpotAt p q t s → SixSpotAt p q (bump t n) (crossed-six w n s)
+  pub spot-crossed : (t : Steps) (s : SixSpot) (n : Axis) → SixSpotAt o p q t s → SixSpotAt o p q (bump t n) (crossed-six w n s)
   spot-crossed t s n h =
       record {
         cell = ap₂ (λ d c. stepped-cell d n c) (way .towards) (h .cell) ∙ stepped-on p q t n;
-        value = ap₂ (λ d e. moved-values d n e) (way .twice) (h .value) ∙ sym (step-moves (differences p q) t n);
+        value = ap₂ (λ d e. moved-values d n e) (way .twice) (h .value) ∙ sym (lowered-moves o (differences p q) t n);
       }
 
   -- at a place of a line within the limit every sum of a step fits
-  pub can-cross : InLimit p → InLimit q → (t : Steps) (s : SixSpot) → ((a : Axis) → t a ≤ differences p q a) → SixSpotAt p q t s → CanCrossSix s w
+  pub can-cross : InLimit p → InLimit q → (t : Steps) (s : SixSpot) → ((a : Axis) → t a ≤ differences p q a) → SixSpotAt o p q t s → CanCrossSix s w
   can-cross hp hq t s le h =
       record {
         cells = rw (h .cell, way .towards) (record {
@@ -88,7 +89,7 @@ module _ (p q : Cell) (w : SixWay) (way : SixWayOf p q w) where
           hy = unit-small (p .y) (q .y);
           hz = unit-small (p .z) (q .z);
         });
-        values = rw (h .value) (place-small (differences p q) t (limited-difference p q hp hq) le);
+        values = rw (h .value) (lowered-small (differences p q) t (limited-difference p q hp hq) le o);
         twice = rw (way .twice) (doubled-small (differences p q) (limited-difference p q hp hq));
       }
     where

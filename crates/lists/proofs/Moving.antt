@@ -14,7 +14,7 @@ use Rattle.cells.specs.Small.{Small}
 use Rattle.cells.proofs.Signed.{same-number, one-sided, sum-is, diff-is, leZ-true, leZ-false}
 use Rattle.cells.proofs.Machine.{held, held-is, parts-small, nat-held, nat-small, small-diff}
 use Rattle.lines.specs.Steps.{Axis, X, Y, Z, Steps}
-use Rattle.lines.specs.Preference.{rule-1}
+use Rattle.lines.specs.Preference.{y-z-x}
 use Rattle.lines.specs.Towards.{towards}
 use Rattle.lines.specs.Lines.{differences, longest, moved-26, cell-26, in-limit, InLimit}
 use Rattle.lines.proofs.Cells.{is-26, limited-difference}
@@ -147,7 +147,7 @@ module _ (p q : Cell) where
 
   -- they are its cell
   pub paced-cell : (m : ℕ) (c : Coordinates) → Paced p q m c → cell-at c ≡ cell-26 p q m
-  paced-cell m c h = (λ i. record { x = h .x .at i; y = h .y .at i; z = h .z .at i }) ∙ sym (is-26 rule-1 p q m)
+  paced-cell m c h = (λ i. record { x = h .x .at i; y = h .y .at i; z = h .z .at i }) ∙ sym (is-26 y-z-x p q m)
 
   pub paced-first : Paced p q 0 (firsts p E)
   paced-first = record { x = start X; y = start Y; z = start Z }

@@ -8,9 +8,10 @@ use lib.Signed.{leZ}
 use lib.ListN.{set}
 use Rattle.cells.specs.declared.Cell.{Cell}
 use Rattle.cells.specs.Small.{Small}
+use Rattle.lines.specs.declared.Order.{Order}
 use Rattle.lines.specs.Steps.{Axis, X, Y, Z, Steps}
 use Rattle.lines.specs.Lines.{differences, longest, cell-of, InLimit}
-use Rattle.lines.specs.Decisions.{values, doubled, moved-values}
+use Rattle.lines.specs.Decisions.{values, doubled, moved-values, lowered}
 use Rattle.tripod.specs.declared.Diffs.{Diffs}
 use Rattle.tripod.specs.Tripod.{steps, Short, SmallTripod, SmallDoubled}
 use Rattle.lists.specs.declared.six.Heading.{Heading}
@@ -48,10 +49,10 @@ pub record SixWayOf (p q : Cell) (w : SixWay) : Type 0 where
   pub towards : w .towards ≡ heading p q
   pub twice : w .twice ≡ doubled (differences p q)
 
--- the spot of a place of the line from p to q
-pub record SixSpotAt (p q : Cell) (t : Steps) (s : SixSpot) : Type 0 where
+-- the spot of a place of the line from p to q, in an order
+pub record SixSpotAt (o : Order) (p q : Cell) (t : Steps) (s : SixSpot) : Type 0 where
   pub cell : s .at ≡ cell-of p q t
-  pub value : s .e ≡ values (differences p q) t
+  pub value : s .e ≡ lowered o (values (differences p q) t)
 
 -- the place across the next face along n
 abbrev pub crossed-six : SixWay → Axis → SixSpot → SixSpot

@@ -13,10 +13,11 @@ use Rattle.cells.specs.declared.End.{End}
 use Rattle.cells.specs.declared.End.the-variants.{P, Q}
 use Rattle.cells.specs.declared.Cell.{Cell}
 use Rattle.cells.specs.declared.Refusal.the-variants.{Limit, Room}
+use Rattle.cells.specs.declared.Rule.{Rule}
 use Rattle.cells.specs.declared.Verdict.{Verdict}
 use Rattle.cells.specs.Checks.{refuse-when, _then_, by-verdict}
 use Rattle.cells.specs.Refusals.{Told, told}
-use Rattle.lines.specs.Preference.{rule-1}
+use Rattle.lines.specs.Preference.{by-rule}
 use Rattle.lines.specs.Lines.{six-line, line-26, in-limit}
 use Rattle.lists.specs.declared.Listed.{Listed}
 use Rattle.lists.specs.declared.Listed.the-variants as Listed
@@ -50,8 +51,8 @@ pub record Lists (line : List Cell) (p q : Cell) (entry : List ℤ) (r : Listed)
   pub holds : exit ≡ by-verdict (λ r. entry) (filled line entry) (list-check p q (length line) (length entry))
 
 -- the contracts of the two calls
-abbrev pub Line6 : Cell → Cell → List ℤ → Listed → List ℤ → Type 0
-Line6 p q = Lists (six-line rule-1 p q) p q
+abbrev pub Line6 : Rule → Cell → Cell → List ℤ → Listed → List ℤ → Type 0
+Line6 rule p q = Lists (six-line (by-rule rule p q) p q) p q
 
 abbrev pub Line26 : Cell → Cell → List ℤ → Listed → List ℤ → Type 0
 Line26 p q = Lists (line-26 p q) p q

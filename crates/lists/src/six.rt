@@ -3,11 +3,11 @@ ghost use mathlib.Core.Path.{_≡_};
 ghost use Prim.Native.Nat.{_+_, _*_, _≤_};
 ghost use lib.ListN.{length};
 ghost use Rattle.lines.specs.Lines.{differences, six-line, InLimit};
-ghost use Rattle.lines.specs.Preference.{rule-1};
-ghost use Rattle.lines.specs.Steps.{total};
+ghost use Rattle.lines.specs.Preference.{order-of, by-rule};
+ghost use Rattle.lines.specs.Steps.{at, total};
 ghost use Rattle.tripod.specs.Tripod.{steps, Short};
 ghost use Rattle.lists.specs.Lists.{filled, Line6};
-ghost use Rattle.lists.specs.Kept.{stepped-cell, crossed-six, CanStep, CanCrossSix, SixWayOf, Measured};
+ghost use Rattle.lists.specs.Kept.{stepped-cell, crossed-six, CanStep, CanCrossSix, SixWayOf, SixSpotAt, Measured};
 use crate::Listed;
 use crate::ends::check_ends;
 use crate::ends::unit_to;
@@ -15,6 +15,7 @@ use crate::put;
 use cells::Axis;
 use cells::Cell;
 use cells::Refusal;
+use cells::Rule;
 use cells::Verdict;
 use lines::Doubled;
 use lines::Tripod;
@@ -53,6 +54,15 @@ fn six_way_of(p: Cell, q: Cell, d: Diffs) -> SixWay
         towards: towards,
         twice: twice,
     }
+}
+
+// The spot of P, ties by a rule.
+fn first_spot(p: Cell, q: Cell, d: Diffs, rule: Rule) -> SixSpot
+    requires { ⌜ Measured p q d ⌝ }
+    ensures { λ r. ⌜ SixSpotAt (order-of rule p q) p q (at 0 0 0) r ⌝ }
+{
+    let e = tripod::lowered(tripod::first_values(d), tripod::order_of(rule, p, q));
+    SixSpot { at: p, e: e }
 }
 
 // The neighbouring cell along n.
@@ -97,13 +107,12 @@ fn crossed(s: SixSpot, w: SixWay, n: Axis) -> SixSpot
 }
 
 // The cells of the 6-line, at the front of the slice.
-fn fill6(out: &mut [i32], p: Cell, q: Cell, d: Diffs)
+fn fill6(out: &mut [i32], p: Cell, q: Cell, d: Diffs, rule: Rule)
     requires { ⌜ Measured p q d × (3 * (total (steps d) + 1) ≤ length (now out)) ⌝ }
-    ensures { λ _. ⌜ now (out .exit) ≡ filled (six-line rule-1 p q) (now (out .entry)) ⌝ }
+    ensures { λ _. ⌜ now (out .exit) ≡ filled (six-line (by-rule rule p q) p q) (now (out .entry)) ⌝ }
 {
     let w = six_way_of(p, q, d);
-    let e = tripod::first_values(d);
-    let mut s = SixSpot { at: p, e: e };
+    let mut s = first_spot(p, q, d, rule);
     let crossings = d.total();
     let mut m: u32 = 0;
     let mut at: usize = 0;
@@ -116,9 +125,9 @@ fn fill6(out: &mut [i32], p: Cell, q: Cell, d: Diffs)
     put(out, at, q);
 }
 
-// The 6-line from p to q.
-pub fn line6(p: Cell, q: Cell, out: &mut [i32]) -> Listed
-    ensures { λ r. ⌜ Line6 p q (now (out .entry)) r (now (out .exit)) ⌝ }
+// The 6-line from p to q, ties by a rule.
+pub fn line6(p: Cell, q: Cell, rule: Rule, out: &mut [i32]) -> Listed
+    ensures { λ r. ⌜ Line6 rule p q (now (out .entry)) r (now (out .exit)) ⌝ }
 {
     match check_ends(p, q) {
         Verdict::Refused(r) => Listed::Refused(r),
@@ -128,7 +137,7 @@ pub fn line6(p: Cell, q: Cell, out: &mut [i32]) -> Listed
             if out.len() < 3 * (cells as usize) {
                 Listed::Refused(Refusal::Room)
             } else {
-                fill6(out, p, q, d);
+                fill6(out, p, q, d, rule);
                 Listed::Cells(cells)
             }
         }

@@ -2,7 +2,7 @@
 -- inputs a, its answer r and the memory at exit e. A weaker `ensures` fails here, in its own crate. Assumes nothing.
 use lib.ListN.{length}
 use Rattle.walks.specs.declared.Walker.the-variants.{Plain, Adaptive}
-use Rattle.oatmarten.specs.Inputs.{as-cell, as-counts, as-manner, as-placement, as-point}
+use Rattle.oatmarten.specs.Inputs.{as-cell, as-counts, as-placement, as-point}
 use Rattle.oatmarten.specs.LineCalls.{FlatLine6, FlatLine26}
 use Rattle.oatmarten.specs.GridCalls.{FlatMarks, FlatCompletes, FlatGivesLayerPart}
 use Rattle.oatmarten.specs.WalkCalls.{FlatFinds}
@@ -21,7 +21,8 @@ use Rattle.oatmarten.proofs.record_calls.oat_read_venue.Reads as read-v
 use Rattle.oatmarten.proofs.record_calls.oat_read_pair.Reads as read-pair
 use Rattle.oatmarten.proofs.record_calls.oat_write_venue.Reads as write-venue
 
-pub of-line6 : (κs : _) (a : _) (r : _) (e : _) → line6.Post κs a r e → FlatLine6 (as-cell (a .0)) (as-cell (a .1 .0)) (a .1 .1 .0 .now) r (e .1 .1 .0 .now)
+pub of-line6 : (κs : _) (a : _) (r : _) (e : _) → line6.Post κs a r e →
+    FlatLine6 (a .1 .1 .0) (as-cell (a .0)) (as-cell (a .1 .0)) (a .1 .1 .1 .0 .now) r (e .1 .1 .1 .0 .now)
 of-line6 κs a r e h = h
 
 pub of-line26 : (κs : _) (a : _) (r : _) (e : _) → line26.Post κs a r e → FlatLine26 (as-cell (a .0)) (as-cell (a .1 .0)) (a .1 .1 .0 .now) r (e .1 .1 .0 .now)
@@ -37,18 +38,18 @@ pub of-layer : (κs : _) (a : _) (r : _) (e : _) → layer.Post κs a r e → Fl
 of-layer κs a r e h = h
 
 pub of-plain : (κs : _) (a : _) (r : _) (e : _) → plain.Post κs a r e →
-    FlatFinds Plain (as-manner (a .1 .1 .1 .1 .0)) (as-counts (a .0)) (a .1 .0 .now) (as-cell (a .1 .1 .0)) (as-cell (a .1 .1 .1 .0)) r
+    FlatFinds Plain (a .1 .1 .1 .1 .0) (as-counts (a .0)) (a .1 .0 .now) (as-cell (a .1 .1 .0)) (as-cell (a .1 .1 .1 .0)) r
 of-plain κs a r e h = h
 
 pub of-adaptive : (κs : _) (a : _) (r : _) (e : _) → adaptive.Post κs a r e →
-    FlatFinds Adaptive (as-manner (a .1 .1 .1 .1 .0)) (as-counts (a .0)) (a .1 .0 .now) (as-cell (a .1 .1 .0)) (as-cell (a .1 .1 .1 .0)) r
+    FlatFinds Adaptive (a .1 .1 .1 .1 .0) (as-counts (a .0)) (a .1 .0 .now) (as-cell (a .1 .1 .0)) (as-cell (a .1 .1 .1 .0)) r
 of-adaptive κs a r e h = h
 
 pub of-cell-of : (κs : _) (a : _) (r : _) (e : _) → cell-of.Post κs a r e → FlatLooksUp (as-counts (a .0)) (as-placement (a .1 .0)) (as-point (a .1 .1 .0)) r
 of-cell-of κs a r e h = h
 
 pub of-sight : (κs : _) (a : _) (r : _) (e : _) → sight.Post κs a r e →
-    FlatSees (as-manner (a .1 .1 .1 .1 .1 .0)) (as-counts (a .0)) (a .1 .0 .now) (as-placement (a .1 .1 .0)) (as-point (a .1 .1 .1 .0))
+    FlatSees (a .1 .1 .1 .1 .1 .0) (as-counts (a .0)) (a .1 .0 .now) (as-placement (a .1 .1 .0)) (as-point (a .1 .1 .1 .0))
     (as-point (a .1 .1 .1 .1 .0)) r
 of-sight κs a r e h = h
 

@@ -7,6 +7,7 @@ use Rattle.cells.specs.declared.Counts.{Counts}
 use Rattle.cells.specs.declared.Manner.{Manner}
 use Rattle.cells.specs.declared.Start.{Start}
 use Rattle.cells.specs.declared.Start.the-variants.{Untested, Tested}
+use Rattle.cells.specs.Manners.{rule-of}
 use Rattle.oatmarten.specs.declared.inputs.OatCell.{OatCell}
 use Rattle.oatmarten.specs.declared.inputs.OatCounts.{OatCounts}
 use Rattle.oatmarten.specs.declared.inputs.OatManner.{OatManner}
@@ -23,12 +24,12 @@ as-cell c = record { x = c .x; y = c .y; z = c .z }
 abbrev pub as-counts : OatCounts → Counts
 as-counts n = record { nx = n .nx; ny = n .ny; nz = n .nz }
 
--- the manner that C's struct means: 0 stands for a start that is not tested, any other number for one that is
+-- the manner that C's struct means, where its rule names one: for `start` 0 stands for a start that is not tested, any other number for one that is
 abbrev pub as-start : ℕ → Start
 as-start number = cond (eqb number 0) Untested Tested
 
 abbrev pub as-manner : OatManner → Manner
-as-manner how = record { start = as-start (how .start) }
+as-manner how = record { start = as-start (how .start); rule = rule-of (how .rule) }
 
 -- the placement and the point that C's structs mean
 abbrev pub as-placement : OatPlacement → Placement

@@ -1,27 +1,26 @@
 -- How the answer of a list call is flattened for C: what SCOPE says of it, as numbers. Assumes nothing.
+use Prim.Native.Nat.{ℕ}
+use mathlib.Core.Path.{_≡_}
 use mathlib.Core.List.{List}
 use lib.IntN.{ℤ}
 use Rattle.cells.specs.declared.Cell.{Cell}
-use Rattle.lines.specs.Lines.{six-line, line-26}
-use Rattle.lines.specs.Preference.{rule-1}
+use Rattle.cells.specs.Manners.{rule-of, rule-check}
 use Rattle.lists.specs.declared.Listed.{Listed}
 use Rattle.lists.specs.declared.Listed.the-variants.{Cells, Refused}
-use Rattle.lists.specs.Lists.{Lists}
+use Rattle.lists.specs.Lists.{Line6, Line26}
 use Rattle.oatmarten.specs.declared.line_calls.OatListed.{OatListed}
 use Rattle.oatmarten.specs.Refusals.{accepted, flat-refusal}
-use Rattle.oatmarten.specs.Flattening.{Flattens}
+use Rattle.oatmarten.specs.Flattening.{Flattens, After}
 
 abbrev pub flat-listed : Listed → OatListed
 flat-listed (Cells n) = record { said = accepted; count = n }
 flat-listed (Refused r) = record { said = flat-refusal r; count = 0 }
 
--- ---- the contracts: of a call that lists a line, and of the two calls
+-- ---- the contracts of the two calls; 12 comes first, and leaves the memory as it was
 
-abbrev pub FlatLists : List Cell → Cell → Cell → List ℤ → OatListed → List ℤ → Type 0
-FlatLists line p q entry r exit = Flattens flat-listed (λ a. Lists line p q entry a exit) r
-
-abbrev pub FlatLine6 : Cell → Cell → List ℤ → OatListed → List ℤ → Type 0
-FlatLine6 p q = FlatLists (six-line rule-1 p q) p q
+abbrev pub FlatLine6 : ℕ → Cell → Cell → List ℤ → OatListed → List ℤ → Type 0
+FlatLine6 rule p q entry r exit =
+    Flattens flat-listed (λ a. After (rule-check rule) (λ why. (a ≡ Refused why) × (exit ≡ entry)) (Line6 (rule-of rule) p q entry a exit)) r
 
 abbrev pub FlatLine26 : Cell → Cell → List ℤ → OatListed → List ℤ → Type 0
-FlatLine26 p q = FlatLists (line-26 p q) p q
+FlatLine26 p q entry r exit = Flattens flat-listed (λ a. Line26 p q entry a exit) r

@@ -3,6 +3,8 @@ use Prim.Native.Nat.{ℕ}
 use mathlib.Core.List.{List}
 use lib.IntN.{pos}
 use Rattle.cells.specs.declared.Counts.{Counts}
+use Rattle.cells.specs.declared.Rule.{Rule}
+use Rattle.cells.specs.declared.Rule.the-variants.{One, Two}
 use Rattle.oatmarten.specs.declared.record_calls.OatVenue.{OatVenue}
 use Rattle.oatmarten.specs.declared.record_calls.OatPair.{OatPair}
 use Rattle.oatmarten.specs.declared.record_calls.OatWritten.{OatWritten}
@@ -31,6 +33,11 @@ flat-venue (VenueRead.Refused r) =
       length = 0;
     }
 
+-- a rule's number
+abbrev pub rule-number : Rule → ℕ
+rule-number One = 1
+rule-number Two = 2
+
 abbrev pub flat-pair : PairRead → OatPair
 flat-pair (PairRead.Read e) =
     record {
@@ -41,6 +48,7 @@ flat-pair (PairRead.Read e) =
       qx = e .q .x;
       qy = e .q .y;
       qz = e .q .z;
+      rule = rule-number (e .rule);
     }
 flat-pair (PairRead.Refused r) =
     record {
@@ -51,6 +59,7 @@ flat-pair (PairRead.Refused r) =
       qx = pos 0;
       qy = pos 0;
       qz = pos 0;
+      rule = 0;
     }
 
 abbrev pub flat-written : Written → OatWritten

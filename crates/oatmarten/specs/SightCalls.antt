@@ -1,9 +1,11 @@
 -- How a point's cell and the sight answer are flattened for C: what SCOPE says of them, as numbers. Assumes nothing.
+use mathlib.Core.Path.{_≡_}
 use Prim.Native.Nat.{ℕ}
 use mathlib.Core.List.{List}
 use lib.IntN.{pos}
 use Rattle.cells.specs.declared.Counts.{Counts}
-use Rattle.cells.specs.declared.Manner.{Manner}
+use Rattle.cells.specs.Manners.{rule-check}
+use Rattle.oatmarten.specs.declared.inputs.OatManner.{OatManner}
 use Rattle.oatmarten.specs.declared.refusals.OatSaid.{OatSaid}
 use Rattle.oatmarten.specs.declared.sight_calls.OatFound.{OatFound}
 use Rattle.survey.specs.declared.Placement.{Placement}
@@ -18,7 +20,8 @@ use Rattle.survey.specs.Survey.{LooksUp}
 use Rattle.sight.specs.Sight.{Sees}
 use Rattle.oatmarten.specs.Refusals.{accepted, flat-refusal}
 use Rattle.oatmarten.specs.Faces.{face-number}
-use Rattle.oatmarten.specs.Flattening.{Flattens}
+use Rattle.oatmarten.specs.Flattening.{Flattens, After}
+use Rattle.oatmarten.specs.Inputs.{as-manner}
 
 abbrev pub flat-found : Lookup → OatFound
 flat-found (Lookup.Cell c) = record { said = accepted; x = c .x; y = c .y; z = c .z }
@@ -61,5 +64,7 @@ flat-sight (Sight.Refused r) = unblocked (flat-refusal r)
 abbrev pub FlatLooksUp : Counts → Placement → Point → OatFound → Type 0
 FlatLooksUp n at p = Flattens flat-found (LooksUp n at p)
 
-abbrev pub FlatSees : Manner → Counts → List ℕ → Placement → Point → Point → OatSight → Type 0
-FlatSees how n cells at camera ball = Flattens flat-sight (Sees how n cells at camera ball)
+-- 12 comes first
+abbrev pub FlatSees : OatManner → Counts → List ℕ → Placement → Point → Point → OatSight → Type 0
+FlatSees how n cells at camera ball =
+    Flattens flat-sight (λ a. After (rule-check (how .rule)) (λ why. a ≡ Sight.Refused why) (Sees (as-manner how) n cells at camera ball a))

@@ -45,10 +45,11 @@ pub(crate) fn counts(n: OatCounts) -> Counts
     }
 }
 
-// How a walk is made; start: 0 not tested, any other number tested.
+// How a walk is made; start: 0 not tested, any other number tested; rule: 1 or 2.
 #[repr(C)]
 pub struct OatManner {
     pub start: u32,
+    pub rule: u32,
 }
 
 // A start by C's number.
@@ -62,12 +63,13 @@ fn start_of(number: u32) -> Start
     }
 }
 
-// A manner of C's as such.
+// A manner of C's as such, once its rule is tested.
 pub(crate) fn manner(how: OatManner) -> Manner
     ensures { λ r. ⌜ r ≡ as-manner how ⌝ }
 {
     Manner {
         start: start_of(how.start),
+        rule: cells::rule_of(how.rule),
     }
 }
 

@@ -7,6 +7,7 @@ use crate::inputs::cell;
 use crate::refusals::ACCEPTED;
 use crate::refusals::OatSaid;
 use crate::refusals::flatten;
+use cells::Verdict;
 use lists::Listed;
 
 // The answer of a line list: the number of cells.
@@ -31,14 +32,19 @@ fn flat_listed(l: Listed) -> OatListed
     }
 }
 
-// The 6-line from p to q.
+// The 6-line from p to q, ties by the rule of a number.
 #[no_mangle]
-pub extern "C" fn oat_line6(p: OatCell, q: OatCell, out: &mut [i32]) -> OatListed
-    ensures { λ r. ⌜ FlatLine6 (as-cell p) (as-cell q) (now (out .entry)) r (now (out .exit)) ⌝ }
+pub extern "C" fn oat_line6(p: OatCell, q: OatCell, rule: u32, out: &mut [i32]) -> OatListed
+    ensures { λ r. ⌜ FlatLine6 rule (as-cell p) (as-cell q) (now (out .entry)) r (now (out .exit)) ⌝ }
 {
-    let from = cell(p);
-    let to = cell(q);
-    flat_listed(lists::line6(from, to, out))
+    match cells::check_rule(rule) {
+        Verdict::Refused(r) => flat_listed(Listed::Refused(r)),
+        Verdict::Fine => {
+            let from = cell(p);
+            let to = cell(q);
+            flat_listed(lists::line6(from, to, cells::rule_of(rule), out))
+        }
+    }
 }
 
 // The 26-line from p to q.

@@ -1,12 +1,13 @@
 // Reading a venue's and a pair's record and writing a venue's, for C.
 ghost use mathlib.Core.Path.{_≡_};
 ghost use Rattle.oatmarten.specs.Inputs.{as-counts};
-ghost use Rattle.oatmarten.specs.RecordCalls.{flat-venue, flat-pair, flat-written, FlatReadsVenue, FlatReadsPair, FlatWritesVenue};
+ghost use Rattle.oatmarten.specs.RecordCalls.{flat-venue, rule-number, flat-pair, flat-written, FlatReadsVenue, FlatReadsPair, FlatWritesVenue};
 use crate::inputs::OatCounts;
 use crate::inputs::counts;
 use crate::refusals::ACCEPTED;
 use crate::refusals::OatSaid;
 use crate::refusals::flatten;
+use cells::Rule;
 use records::PairRead;
 use records::VenueRead;
 use records::Written;
@@ -22,7 +23,7 @@ pub struct OatVenue {
     pub length: u64,
 }
 
-// A pair's record that was read: P and Q.
+// A pair's record that was read: P and Q, and the number of the rule.
 #[repr(C)]
 pub struct OatPair {
     pub said: OatSaid,
@@ -32,6 +33,7 @@ pub struct OatPair {
     pub qx: i32,
     pub qy: i32,
     pub qz: i32,
+    pub rule: u32,
 }
 
 // The number of bytes of a venue's record that was written.
@@ -67,6 +69,15 @@ fn flat_venue(v: VenueRead) -> OatVenue
     }
 }
 
+fn rule_code(r: Rule) -> u32
+    ensures { λ n. ⌜ n ≡ rule-number r ⌝ }
+{
+    match r {
+        Rule::One => 1,
+        Rule::Two => 2,
+    }
+}
+
 fn flat_pair(e: PairRead) -> OatPair
     ensures { λ r. ⌜ r ≡ flat-pair e ⌝ }
 {
@@ -74,6 +85,7 @@ fn flat_pair(e: PairRead) -> OatPair
         PairRead::Read(ends) => {
             let p = ends.p;
             let q = ends.q;
+            let rule = ends.rule;
             let px = p.x;
             let py = p.y;
             let pz = p.z;
@@ -88,6 +100,7 @@ fn flat_pair(e: PairRead) -> OatPair
                 qx: qx,
                 qy: qy,
                 qz: qz,
+                rule: rule_code(rule),
             }
         }
         PairRead::Refused(r) => OatPair {
@@ -98,6 +111,7 @@ fn flat_pair(e: PairRead) -> OatPair
             qx: 0,
             qy: 0,
             qz: 0,
+            rule: 0,
         },
     }
 }

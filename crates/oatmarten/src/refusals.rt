@@ -68,6 +68,7 @@ fn end_of(r: Refusal) -> u32
         Refusal::OffSurvey(e, _) => end_code(e),
         Refusal::Record => 0,
         Refusal::Version => 0,
+        Refusal::NoRule => 0,
     }
 }
 
@@ -87,6 +88,7 @@ fn axis_of(r: Refusal) -> u32
         Refusal::OffSurvey(_, a) => axis_code(a),
         Refusal::Record => 0,
         Refusal::Version => 0,
+        Refusal::NoRule => 0,
     }
 }
 

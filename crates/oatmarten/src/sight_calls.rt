@@ -1,6 +1,6 @@
 // The cell of a surveyed point, and the sight answer, for C.
 ghost use mathlib.Core.Path.{_≡_};
-ghost use Rattle.oatmarten.specs.Inputs.{as-counts, as-manner, as-placement, as-point};
+ghost use Rattle.oatmarten.specs.Inputs.{as-counts, as-placement, as-point};
 ghost use Rattle.oatmarten.specs.SightCalls.{flat-found, unblocked, flat-sight, FlatLooksUp, FlatSees};
 use crate::faces::face_code;
 use crate::inputs::OatCounts;
@@ -14,6 +14,7 @@ use crate::inputs::point;
 use crate::refusals::ACCEPTED;
 use crate::refusals::OatSaid;
 use crate::refusals::flatten;
+use cells::Verdict;
 use sight::Block;
 use sight::Sight;
 use survey::Lookup;
@@ -131,11 +132,16 @@ pub extern "C" fn oat_sight(
     ball: OatPoint,
     how: OatManner,
 ) -> OatSight
-    ensures { λ r. ⌜ FlatSees (as-manner how) (as-counts n) (now (cells .entry)) (as-placement at) (as-point camera) (as-point ball) r ⌝ }
+    ensures { λ r. ⌜ FlatSees how (as-counts n) (now (cells .entry)) (as-placement at) (as-point camera) (as-point ball) r ⌝ }
 {
-    let grid = counts(n);
-    let place = placement(at);
-    let from = point(camera);
-    let to = point(ball);
-    flat_sight(sight::see(grid, cells, place, from, to, manner(how)))
+    match cells::check_rule(how.rule) {
+        Verdict::Refused(r) => flat_sight(Sight::Refused(r)),
+        Verdict::Fine => {
+            let grid = counts(n);
+            let place = placement(at);
+            let from = point(camera);
+            let to = point(ball);
+            flat_sight(sight::see(grid, cells, place, from, to, manner(how)))
+        }
+    }
 }

@@ -1,7 +1,7 @@
 // The first-hit calls for C.
 ghost use mathlib.Core.Path.{_≡_};
 ghost use Rattle.walks.specs.declared.Walker.the-variants.{Plain, Adaptive};
-ghost use Rattle.oatmarten.specs.Inputs.{as-cell, as-counts, as-manner};
+ghost use Rattle.oatmarten.specs.Inputs.{as-cell, as-counts};
 ghost use Rattle.oatmarten.specs.WalkCalls.{no-hit, flat-hit, FlatFinds};
 use crate::faces::face_code;
 use crate::inputs::OatCell;
@@ -13,6 +13,7 @@ use crate::inputs::manner;
 use crate::refusals::ACCEPTED;
 use crate::refusals::OatSaid;
 use crate::refusals::flatten;
+use cells::Verdict;
 use walks::FirstHit;
 use walks::Hit;
 
@@ -88,12 +89,17 @@ pub extern "C" fn oat_plain(
     q: OatCell,
     how: OatManner,
 ) -> OatHit
-    ensures { λ r. ⌜ FlatFinds Plain (as-manner how) (as-counts n) (now (cells .entry)) (as-cell p) (as-cell q) r ⌝ }
+    ensures { λ r. ⌜ FlatFinds Plain how (as-counts n) (now (cells .entry)) (as-cell p) (as-cell q) r ⌝ }
 {
-    let grid = counts(n);
-    let from = cell(p);
-    let to = cell(q);
-    flat_hit(hits::first_plain(grid, cells, from, to, manner(how)))
+    match cells::check_rule(how.rule) {
+        Verdict::Refused(r) => flat_hit(FirstHit::Refused(r)),
+        Verdict::Fine => {
+            let grid = counts(n);
+            let from = cell(p);
+            let to = cell(q);
+            flat_hit(hits::first_plain(grid, cells, from, to, manner(how)))
+        }
+    }
 }
 
 // The first hit of the adaptive walk.
@@ -105,10 +111,15 @@ pub extern "C" fn oat_adaptive(
     q: OatCell,
     how: OatManner,
 ) -> OatHit
-    ensures { λ r. ⌜ FlatFinds Adaptive (as-manner how) (as-counts n) (now (cells .entry)) (as-cell p) (as-cell q) r ⌝ }
+    ensures { λ r. ⌜ FlatFinds Adaptive how (as-counts n) (now (cells .entry)) (as-cell p) (as-cell q) r ⌝ }
 {
-    let grid = counts(n);
-    let from = cell(p);
-    let to = cell(q);
-    flat_hit(hits::first_adaptive(grid, cells, from, to, manner(how)))
+    match cells::check_rule(how.rule) {
+        Verdict::Refused(r) => flat_hit(FirstHit::Refused(r)),
+        Verdict::Fine => {
+            let grid = counts(n);
+            let from = cell(p);
+            let to = cell(q);
+            flat_hit(hits::first_adaptive(grid, cells, from, to, manner(how)))
+        }
+    }
 }

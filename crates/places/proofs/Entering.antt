@@ -1,19 +1,21 @@
 -- The place of a hit: of the crossings last made, the one that is last in the order is that by which the 6-line entered the cell. Assumes nothing.
-use mathlib.Core.Path.{_≡_, refl, ap, _∙_}
+use mathlib.Core.Path.{_≡_, refl, ap, ap₂, _∙_}
 use mathlib.Core.Bool.{Bool, true, false, cond, _&&_}
 use Prim.Native.Nat.{ℕ, zero, suc, _+_, _-_, _*_, _≤_, _<_}
 use native.Mathlib.Omega.{arith}
 use native.Mathlib.Decide.{decLt}
-use lib.Dec.{ltb, leb}
-use borrow.Author.Tests.{ltb-true, leb-true, lt-ltb, le-leb, eq-eqb, ne-eqb}
+use lib.Dec.{ltb}
+use borrow.Author.Tests.{lt-ltb, le-leb, lt-leb, eq-eqb, ne-eqb}
 use Rattle.cells.specs.declared.Cell.{Cell}
-use Rattle.cells.proofs.Touching.{and-both}
+use Rattle.lines.specs.declared.Order.{Order}
 use Rattle.lines.specs.Steps.{Axis, X, Y, Z, Steps, total, same}
-use Rattle.lines.specs.Preference.{rule-1}
+use Rattle.lines.specs.Preference.{prefers}
 use Rattle.lines.specs.Crossings.{Course, next, place, LastMade}
 use Rattle.lines.specs.Lines.{differences, centres}
-use Rattle.lines.proofs.Fractions.{Before, before-true, place-total, entered-by-last}
+use Rattle.lines.specs.Decisions.{shift}
+use Rattle.lines.proofs.Fractions.{Before, ahead, before-true, place-total, entered-by-last}
 use Rattle.lines.proofs.Centres.{centres-good}
+use Rattle.lines.proofs.Signs.{Tied, tied-xy, tied-xz, tied-zy}
 use Rattle.walks.specs.Answers.{entered-at}
 use Rattle.places.specs.Entered.{numerator, behind, last-axis, place-along, place-at-p, entered}
 
@@ -24,97 +26,84 @@ numerator-suc i = omega arith
 less-one : (i : ℕ) → suc i - 1 ≡ i
 less-one i = omega arith
 
--- ---- the test, as an inequality
+and-no : (b : Bool) → (b && false) ≡ false
+and-no true = refl
+and-no false = refl
 
-behind-true : (i a j b : ℕ) → 0 < i → j * a ≤ i * b → behind i a j b ≡ true
-behind-true i a j b some le = simp (lt-ltb 0 i some, le-leb (j * a) (i * b) le)
+-- ---- the test of two axes, by the crossings last made on each
 
-behind-parts : (i a j b : ℕ) → behind i a j b ≡ true → (0 < i) × (j * a ≤ i * b)
-behind-parts i a j b h = let (s, l) = and-both (ltb 0 i) (leb (j * a) (i * b)) h in (ltb-true 0 i s, leb-true (j * a) (i * b) l)
-
-is-false : (t : Bool) → (t ≡ true → ⊥) → t ≡ false
-is-false true h = absurd (h refl)
-is-false false h = refl
-
-module _ (D t : Steps) where
+module _ (o : Order) (D t : Steps) where
   abbrev C : Course
-  C = centres rule-1 D
+  C = centres (prefers o) D
 
-  -- the crossing last made on n, against that on another axis b which goes ahead of n where they are equal
-  later : (n b : Axis) → LastMade C t n → same n b ≡ 0 → numerator (t b) * D n ≤ numerator (t n) * D b
+  -- whether the crossing last made on a comes after the one on b
+  abbrev after : Axis → Axis → Bool
+  after a b = behind (numerator (t a)) (D a) (numerator (t b)) (D b) (shift o)
+
+  -- where a is the first axis of its pair and has the last crossing of all
+  first-is-last : (a b : Axis) → Tied o a b → LastMade C t a → same a b ≡ 0 → after a b ≡ true
   unfolding Before
-  later n b h e =
+  first-is-last a b pair h e =
       elim (decLt 0 (t b)) [
-        | yes some ↦ by (t b) (t n) (D n) (D b) (suc (rule-1 .rank b) - rule-1 .rank n) some (h .some)
-            (before-true C b n (t b - 1) (t n - 1) (h .last b e some))
-        | no none ↦ none-made (t b) (omega arith)
+        | yes some ↦ by (t b) (t a) (D a) (D b) (shift o) (ahead (prefers o .rank b) (prefers o .rank a)) some (h .some) (before-true C b a (t b - 1) (t a - 1) (h .last b e some)) (pair .second)
+        | no none ↦ unmade (t b) (t a) (omega arith) (h .some)
       ]
     where
-      none-made : (i : ℕ) → i ≡ 0 → numerator i * D n ≤ numerator (t n) * D b
-      none-made i z = rw z (omega arith)
+      unmade : (i j : ℕ) → i ≡ 0 → 0 < j → behind (numerator j) (D a) (numerator i) (D b) (shift o) ≡ true
+      unmade i j z some = rw z (simp (lt-ltb 0 (numerator j) (omega arith), le-leb (0 * D a + 0) (numerator j * D b) (omega arith)))
 
-      by : (i j a c r : ℕ) → 0 < i → 0 < j → (1 + 2 * (i - 1)) * (2 * a) < (1 + 2 * (j - 1)) * (2 * c) + (1 - r) → numerator i * a ≤ numerator j * c
-      by (suc i) (suc j) a c r si sj lt = let k = simp less-one at lt in rw (numerator-suc i, numerator-suc j) (omega arith)
+      by : (i j d f h x : ℕ) → 0 < i → 0 < j → (1 + 2 * (i - 1)) * (2 * d) < (1 + 2 * (j - 1)) * (2 * f) + x → x + h ≡ 1 →
+          behind (numerator j) d (numerator i) f h ≡ true
+      by (suc i) (suc j) d f h x si sj lt sum =
+          let k = simp less-one at lt in
+          let le : numerator (suc i) * d + h ≤ numerator (suc j) * f = rw (numerator-suc i, numerator-suc j) (omega arith) in
+          simp (
+            lt-ltb 0 (numerator (suc j)) (omega arith),
+            ne-eqb (numerator (suc i)) 0 (λ z. omega arith),
+            le-leb (numerator (suc i) * d + h) (numerator (suc j) * f) le,
+          )
 
-  -- an axis that does not go ahead comes strictly earlier
-  strictly : (n b : Axis) → LastMade C t n → same n b ≡ 0 → 0 < t b → rule-1 .rank n < rule-1 .rank b → numerator (t b) * D n < numerator (t n) * D b
+  -- and where b is the second and has it
+  second-is-last : (a b : Axis) → Tied o a b → LastMade C t b → same b a ≡ 0 → after a b ≡ false
   unfolding Before
-  strictly n b h e some ranks = by (t b) (t n) (D n) (D b) some (h .some) (before-true C b n (t b - 1) (t n - 1) (h .last b e some)) ranks
+  second-is-last a b pair h e =
+      elim (decLt 0 (t a)) [
+        | yes some ↦ by (t a) (t b) (D b) (D a) (shift o) (ahead (prefers o .rank a) (prefers o .rank b)) some (h .some) (before-true C a b (t a - 1) (t b - 1) (h .last a e some)) (pair .first)
+            (omega (arith, pair .second))
+        | no none ↦ unmade (t a) (omega arith)
+      ]
     where
-      by : (i j a c : ℕ) {r s : ℕ} → 0 < i → 0 < j → (1 + 2 * (i - 1)) * (2 * a) < (1 + 2 * (j - 1)) * (2 * c) + (1 - (suc r - s)) → s < r →
-          numerator i * a < numerator j * c
-      by (suc i) (suc j) a c si sj lt ranks = let k = simp less-one at lt in rw (numerator-suc i, numerator-suc j) (omega arith)
+      unmade : (i : ℕ) → i ≡ 0 → behind (numerator i) (D a) (numerator (t b)) (D b) (shift o) ≡ false
+      unmade i z = rw z refl
 
-  made : (i : ℕ) → 0 < numerator i → 0 < i
-  made zero h = absurd (omega arith)
-  made (suc i) h = omega arith
+      by : (i j d f h x : ℕ) → 0 < i → 0 < j → (1 + 2 * (i - 1)) * (2 * d) < (1 + 2 * (j - 1)) * (2 * f) + x → x ≡ h → h ≤ 1 →
+          behind (numerator i) f (numerator j) d h ≡ false
+      by (suc i) (suc j) d f h x si sj lt is most =
+          let k = simp less-one at lt in
+          let gt : numerator (suc i) * d < numerator (suc j) * f + h = rw (numerator-suc i, numerator-suc j) (omega arith) in
+          simp (ne-eqb (numerator (suc j)) 0 (λ z. omega arith), lt-leb (numerator (suc j) * f + h) (numerator (suc i) * d) gt) (and-no (ltb 0 (numerator (suc i))))
 
-  some-numerator : (i : ℕ) → 0 < i → 0 < numerator i
-  some-numerator i h = omega arith
-
-  -- x is found only where it is the last
-  not-x : (n : Axis) → LastMade C t n → same n X ≡ 0 → rule-1 .rank n < rule-1 .rank X → behind (numerator (t X)) (D X) (numerator (t n)) (D n) ≡ false
-  not-x n h e ranks =
-      is-false _ (λ k.
-      let (some, le) = behind-parts (numerator (t X)) (D X) (numerator (t n)) (D n) k in
-      omega (arith, strictly n X h e (made (t X) some) ranks))
-
-  pub last-axis-is : (n : Axis) → LastMade C t n → last-axis D t ≡ n
-  last-axis-is X h =
-      simp (
-        behind-true (numerator (t X)) (D X) (numerator (t Y)) (D Y) (some-numerator (t X) (h .some)) (later X Y h refl),
-        behind-true (numerator (t X)) (D X) (numerator (t Z)) (D Z) (some-numerator (t X) (h .some)) (later X Z h refl),
-      )
+  -- the axis that the tests find has the last crossing
+  pub last-axis-is : (n : Axis) → LastMade C t n → last-axis o D t ≡ n
+  last-axis-is X h = simp (first-is-last X Y (tied-xy o) h refl, first-is-last X Z (tied-xz o) h refl)
   last-axis-is Z h =
-      ap (λ b. cond (behind (numerator (t X)) (D X) (numerator (t Y)) (D Y) && b) X
-      (cond (behind (numerator (t Z)) (D Z) (numerator (t Y)) (D Y)) Z Y)) (not-x Z h refl (omega arith))
-      ∙ and-no (behind (numerator (t X)) (D X) (numerator (t Y)) (D Y))
-      ∙ ap (λ b. cond b Z Y) (behind-true (numerator (t Z)) (D Z) (numerator (t Y)) (D Y) (some-numerator (t Z) (h .some)) (later Z Y h refl))
-    where
-      and-no : (b : Bool) → cond (b && false) X (cond (behind (numerator (t Z)) (D Z) (numerator (t Y)) (D Y)) Z Y) ≡ cond
-          (behind (numerator (t Z)) (D Z) (numerator (t Y)) (D Y)) Z Y
-      and-no true = refl
-      and-no false = refl
+      ap₂ (λ b c. cond (after X Y && b) X (cond c Z Y)) (second-is-last X Z (tied-xz o) h refl) (first-is-last Z Y (tied-zy o) h refl)
+      ∙ ap (λ b. cond b X Z) (and-no (after X Y))
   last-axis-is Y h =
-      ap (λ b. cond (b && behind (numerator (t X)) (D X) (numerator (t Z)) (D Z)) X
-      (cond (behind (numerator (t Z)) (D Z) (numerator (t Y)) (D Y)) Z Y)) (not-x Y h refl (omega arith))
-      ∙ ap (λ b. cond b Z Y)
-      (is-false _ (λ k.
-      let (some, le) = behind-parts (numerator (t Z)) (D Z) (numerator (t Y)) (D Y) k in
-      omega (arith, strictly Y Z h refl (made (t Z) some) (omega arith))))
+      ap₂ (λ b c. cond (b && after X Z) X (cond c Z Y)) (second-is-last X Y (tied-xy o) h refl) (second-is-last Z Y (tied-zy o) h refl)
 
 -- so the place found at place number s is that of the definition
-pub entered-is : (p q : Cell) (s : ℕ) → s ≤ total (differences p q) →
-    entered p q (differences p q) (place (centres rule-1 (differences p q)) s) ≡ entered-at p q s
+pub entered-is : (o : Order) (p q : Cell) (s : ℕ) → s ≤ total (differences p q) →
+    entered p q o (differences p q) (place (centres (prefers o) (differences p q)) s) ≡ entered-at (prefers o) p q s
 unfolding entered
-entered-is p q zero le =
-    let c = centres rule-1 (differences p q) in
-    ap (λ b. cond b place-at-p (place-along p q (differences p q) (place c 0) (last-axis (differences p q) (place c 0))))
+entered-is o p q zero le =
+    let c = centres (prefers o) (differences p q) in
+    ap (λ b. cond b place-at-p (place-along p q (differences p q) (place c 0) (last-axis o (differences p q) (place c 0))))
     (eq-eqb (total (place c 0)) 0 (place-total c 0))
-entered-is p q (suc s) le =
-    let c = centres rule-1 (differences p q) in
+entered-is o p q (suc s) le =
+    let c = centres (prefers o) (differences p q) in
     let t = place c (suc s) in
-    ap (λ b. cond b place-at-p (place-along p q (differences p q) t (last-axis (differences p q) t)))
+    ap (λ b. cond b place-at-p (place-along p q (differences p q) t (last-axis o (differences p q) t)))
     (ne-eqb (total t) 0 (λ e. omega (arith, place-total c (suc s))))
-    ∙ ap (place-along p q (differences p q) t) (last-axis-is (differences p q) t (next c (place c s))
-    (entered-by-last c (centres-good rule-1 (differences p q)) s (omega arith)))
+    ∙ ap (place-along p q (differences p q) t) (last-axis-is o (differences p q) t (next c (place c s))
+    (entered-by-last c (centres-good (prefers o) (differences p q)) s (omega arith)))

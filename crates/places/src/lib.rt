@@ -8,10 +8,11 @@ ghost use Rattle.cells.specs.declared.Face.the-variants as Face;
 ghost use Rattle.lines.specs.Steps.{X, Y, Z};
 ghost use Rattle.lines.specs.Lines.{face-along};
 ghost use Rattle.tripod.specs.Tripod.{steps, Short};
-ghost use Rattle.places.specs.Entered.{numerator, behind, last-made, of-last, entered};
+ghost use Rattle.places.specs.Entered.{numerator, added, behind, last-made, of-last, entered};
 use cells::Axis;
 use cells::Cell;
 use cells::Face;
+use lines::Order;
 use tripod::Diffs;
 use walks::Place;
 
@@ -23,12 +24,21 @@ fn numerator_of(i: u32) -> u32
     if i == 0 { 0 } else { 2 * i - 1 }
 }
 
-// Whether a crossing was made at i over 2a, and one at j over 2b lies at no greater fraction.
-fn is_behind(i: u32, a: u32, j: u32, b: u32) -> bool
-    requires { ⌜ (i ≤ 32767) × (a ≤ 16383) × (j ≤ 32767) × (b ≤ 16383) ⌝ }
-    ensures { λ r. ⌜ r ≡ behind i a j b ⌝ }
+// What is added to the product of a crossing at j: nothing where none was made.
+fn added(j: u32, shift: u32) -> u32
+    requires { ⌜ shift ≤ 1 ⌝ }
+    ensures { λ r. ⌜ (r ≡ added j shift) × (r ≤ 1) ⌝ }
 {
-    if i == 0 { false } else { j * a <= i * b }
+    if j == 0 { 0 } else { shift }
+}
+
+// Whether a crossing was made at i over 2a, and none at j over 2b or one at a fraction that is no greater; with a shift of 1, that is less.
+fn is_behind(i: u32, a: u32, j: u32, b: u32, shift: u32) -> bool
+    requires { ⌜ (i ≤ 32767) × (a ≤ 16383) × (j ≤ 32767) × (b ≤ 16383) × (shift ≤ 1) ⌝ }
+    ensures { λ r. ⌜ r ≡ behind i a j b shift ⌝ }
+{
+    let later = j * a + added(j, shift) <= i * b;
+    if i == 0 { false } else { later }
 }
 
 fn both(s: bool, t: bool) -> bool
@@ -44,17 +54,18 @@ pub struct Last {
 }
 
 // Of the crossings last made on each axis, the last.
-fn last_made(d: Diffs, t: Diffs) -> Last
+fn last_made(d: Diffs, t: Diffs, o: Order) -> Last
     requires { ⌜ Short d × Short t ⌝ }
-    ensures { λ r. ⌜ r ≡ last-made (steps d) (steps t) ⌝ }
+    ensures { λ r. ⌜ r ≡ last-made o (steps d) (steps t) ⌝ }
 {
+    let shift = tripod::shift_of(o);
     let i = numerator_of(t.a);
     let j = numerator_of(t.b);
     let k = numerator_of(t.c);
-    let y_before = is_behind(i, d.a, j, d.b);
-    let z_before = is_behind(i, d.a, k, d.c);
+    let y_before = is_behind(i, d.a, j, d.b, shift);
+    let z_before = is_behind(i, d.a, k, d.c, shift);
     let x = both(y_before, z_before);
-    let z = is_behind(k, d.c, j, d.b);
+    let z = is_behind(k, d.c, j, d.b, shift);
     Last { x: x, z: z }
 }
 
@@ -118,9 +129,9 @@ fn last_face(p: Cell, q: Cell, w: Last) -> Face
 }
 
 // The place of a hit on the line from p to q, after t steps of d.
-pub fn place_after(p: Cell, q: Cell, d: Diffs, t: Diffs) -> Place
+pub fn place_after(p: Cell, q: Cell, o: Order, d: Diffs, t: Diffs) -> Place
     requires { ⌜ Short d × Short t ⌝ }
-    ensures { λ r. ⌜ r ≡ entered p q (steps d) (steps t) ⌝ }
+    ensures { λ r. ⌜ r ≡ entered p q o (steps d) (steps t) ⌝ }
 {
     if t.total() == 0 {
         return Place {
@@ -129,7 +140,7 @@ pub fn place_after(p: Cell, q: Cell, d: Diffs, t: Diffs) -> Place
             face: Face::None,
         };
     }
-    let w = last_made(d, t);
+    let w = last_made(d, t, o);
     let num = numerator_of(of_last(w, t.a, t.b, t.c));
     let den = 2 * of_last(w, d.a, d.b, d.c);
     let face = last_face(p, q, w);

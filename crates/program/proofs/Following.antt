@@ -35,7 +35,7 @@ after-walks k Fine found = refl
 module _ (n : Counts) (cells : List ℕ) (k : ℕ) where
   after-pair : (r : PairRead) → Follows k (said-of-pair n cells k r .next)
   after-pair (PairRead.Refused r) = after-refused k (told r .number)
-  after-pair (PairRead.Read e) = after-walks k (walk-check n (length cells) (e .p) (e .q)) (answers n cells (e .p) (e .q))
+  after-pair (PairRead.Read e) = after-walks k (walk-check n (length cells) (e .p) (e .q)) (answers n cells e)
 
   follows : (s : List ℕ) → Follows k (pair-said n cells k s .next)
   unfolding pair-said

@@ -5,13 +5,13 @@ use mathlib.Core.Bool.{Bool, false, cond, _||_}
 use mathlib.Core.List.{List, [], _∷_, _++_}
 use lib.Dec.{ltb, eqb}
 use lib.ListN.{length, take, drop}
-use Rattle.cells.specs.declared.Cell.{Cell}
 use Rattle.cells.specs.declared.Counts.{Counts}
 use Rattle.cells.specs.declared.Refusal.{Refusal}
 use Rattle.cells.specs.declared.Refusal.the-variants.{Room, Record}
 use Rattle.cells.specs.declared.Verdict.{Verdict}
 use Rattle.cells.specs.declared.Verdict.the-variants.{Fine, Refused}
-use Rattle.cells.specs.Manners.{tested-start}
+use Rattle.cells.specs.declared.Manner.{Manner}
+use Rattle.cells.specs.Manners.{tested-by}
 use Rattle.cells.specs.Refusals.{told}
 use Rattle.walks.specs.declared.FirstHit.{FirstHit}
 use Rattle.walks.specs.declared.FirstHit.the-variants as FirstHit
@@ -19,6 +19,7 @@ use Rattle.grids.specs.Inside.{walk-check}
 use Rattle.walks.specs.Answers.{first-hit}
 use Rattle.records.specs.declared.venues.VenueRead.{VenueRead}
 use Rattle.records.specs.declared.venues.VenueRead.the-variants as VenueRead
+use Rattle.records.specs.declared.pairs.Pair.{Pair}
 use Rattle.records.specs.declared.pairs.PairRead.{PairRead}
 use Rattle.records.specs.declared.pairs.PairRead.the-variants as PairRead
 use Rattle.records.specs.Heads.{length-field, announced}
@@ -86,10 +87,11 @@ plain-letter = 80
 abbrev pub adaptive-letter : ℕ
 adaptive-letter = 65
 
--- SCOPE T8, T16: the letter of each walk and what it answers, in the order of the lines; the start is tested
-abbrev pub answers : Counts → List ℕ → Cell → Cell → List (ℕ × FirstHit)
-answers n cells p q =
-    (plain-letter, first-hit Plain tested-start n cells p q) ∷ (adaptive-letter, first-hit Adaptive tested-start n cells p q) ∷ []
+-- SCOPE T8, T16, T17: the letter of each walk and what it answers, in the order of the lines; the start is tested, ties go by the pair's rule
+abbrev pub answers : Counts → List ℕ → Pair → List (ℕ × FirstHit)
+answers n cells e =
+    let how : Manner = tested-by (e .rule) in
+    (plain-letter, first-hit Plain how n cells (e .p) (e .q)) ∷ (adaptive-letter, first-hit Adaptive how n cells (e .p) (e .q)) ∷ []
 
 -- a line for each
 abbrev pub walk-lines : (k : ℕ) → List (ℕ × FirstHit) → List ℕ
@@ -104,7 +106,7 @@ said-of-walks k Fine found = record { text = walk-lines k found; next = On (k + 
 module _ (n : Counts) (cells : List ℕ) (k : ℕ) where
   abbrev pub said-of-pair : PairRead → Said
   said-of-pair (PairRead.Refused r) = pair-refused k r
-  said-of-pair (PairRead.Read e) = said-of-walks k (walk-check n (length cells) (e .p) (e .q)) (answers n cells (e .p) (e .q))
+  said-of-pair (PairRead.Read e) = said-of-walks k (walk-check n (length cells) (e .p) (e .q)) (answers n cells e)
 
   -- SCOPE T7, T3: nothing where no byte is left; 10 for a pair that is too long, before it is read
   unfoldable pub pair-said : List ℕ → Said

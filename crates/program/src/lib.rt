@@ -6,7 +6,6 @@ ghost use Rattle.io.specs.Counts.{Counts as Count};
 ghost use Rattle.texts.specs.Text.{line-room, Puts};
 ghost use Rattle.program.specs.Program.{beyond, venue-refused, venue-said, after-refusal, pair-refused, walk-line};
 ghost use Rattle.program.specs.Program.{answers, walk-lines, said-of-pair, pair-said, text-room, Says, Follows};
-use cells::Cell;
 use cells::Counts;
 use cells::Manner;
 use cells::Refusal;
@@ -124,19 +123,21 @@ fn walk_line(text: &mut [u8], at: usize, k: u64, letter: u8, a: FirstHit) -> usi
     }
 }
 
-// How the program's walks are made: the start is tested.
-const MANNER: Manner = Manner {
-    start: Start::Tested,
-};
-
-// A line for each walk between two cells, one behind the other.
-fn walk_lines(n: Counts, cells: &[u8], k: u64, p: Cell, q: Cell, text: &mut [u8]) -> usize
+// A line for each walk between the ends of a pair, one behind the other: the start is tested, ties go by the pair's rule.
+fn walk_lines(n: Counts, cells: &[u8], k: u64, e: Pair, text: &mut [u8]) -> usize
     requires { ⌜ text-room ≤ length (now text) ⌝ }
-    ensures { λ r. ⌜ Puts (walk-lines k (answers n (now (cells .entry)) p q)) 0 (now (text .entry)) r (now (text .exit)) ⌝ }
+    ensures { λ r. ⌜ Puts (walk-lines k (answers n (now (cells .entry)) e)) 0 (now (text .entry)) r (now (text .exit)) ⌝ }
 {
-    let plain = hits::first_plain(n, cells, p, q, MANNER);
+    let rule = e.rule;
+    let how = Manner {
+        start: Start::Tested,
+        rule: rule,
+    };
+    let p = e.p;
+    let q = e.q;
+    let plain = hits::first_plain(n, cells, p, q, how);
     let next = walk_line(text, 0, k, b'P', plain);
-    let adaptive = hits::first_adaptive(n, cells, p, q, MANNER);
+    let adaptive = hits::first_adaptive(n, cells, p, q, how);
     walk_line(text, next, k, b'A', adaptive)
 }
 
@@ -150,7 +151,7 @@ fn pair_said(n: Counts, cells: &[u8], k: u64, e: Pair, text: &mut [u8]) -> Step
     match grids::check_walk(n, cells.len(), p, q) {
         Verdict::Refused(r) => pair_refused(k, r, text),
         Verdict::Fine => Step {
-            long: walk_lines(n, cells, k, p, q, text),
+            long: walk_lines(n, cells, k, e, text),
             next: Next::On(k + 1),
         },
     }

@@ -1,25 +1,26 @@
 -- Bytes after a record are not looked at. Assumes nothing.
 use mathlib.Core.Path.{_≡_, refl, ap, ap₂, _∙_}
-use mathlib.Core.Bool.{not}
+use mathlib.Core.Bool.{Bool, true, false, cond, not}
 use mathlib.Core.List.{List, _++_}
 use Prim.Native.Nat.{ℕ, _+_, _*_, _≤_, _<_}
 use native.Mathlib.Omega.{arith}
-use lib.Dec.{ltb}
+use lib.Dec.{ltb, eqb}
 use lib.ListN.{length, getD, take, drop, length-append, length-drop, List·getD-append}
 use lib.Seq.{take-append-le, drop-append-le}
-use borrow.Author.Tests.{le-ltb, ltb-false}
+use borrow.Author.Tests.{le-ltb, ltb-false, eqb-true, not-false}
 use Rattle.buffers.specs.Numbers.{two-at}
 use Rattle.cells.specs.declared.Refusal.the-variants.{Record, Version}
 use Rattle.cells.specs.declared.Verdict.{Verdict}
 use Rattle.cells.specs.declared.Verdict.the-variants.{Fine, Refused}
 use Rattle.cells.specs.Checks.{refuse-when, by-verdict}
+use Rattle.cells.specs.Manners.{rule-check}
 use Rattle.cells.proofs.Checks.{passed, then-same}
 use Rattle.records.specs.declared.venues.VenueRead.{VenueRead}
 use Rattle.records.specs.declared.venues.VenueRead.the-variants as VenueRead
 use Rattle.records.specs.declared.pairs.PairRead.the-variants as PairRead
 use Rattle.records.specs.Heads.{length-field, announced, version-of, whole-check}
 use Rattle.records.specs.Venues.{venue-version, venue-head, counts-from, counts-at, venue-in, venue-check, venue-read, part-of, venue-cells}
-use Rattle.records.specs.Pairs.{pair-length, ends-from, cell-in, pair-in, pair-check, pair-read}
+use Rattle.records.specs.Pairs.{pair-version, pair-length, ends-from, cell-in, rule-byte, pair-in, pair-check, pair-read}
 use Rattle.records.proofs.HeadTests.{head-least, pair-least, whole-is, venue-whole, pair-whole, part-within}
 
 -- what stands in the first bytes
@@ -55,10 +56,21 @@ module _ (s rest : List ℕ) (exact : length s ≡ length-field + announced s) w
   same-venue : venue-head (version-of s) ≤ announced s → venue-in (s ++ rest) ≡ venue-in s
   same-venue head = let least = head-least (version-of s) in rw (same-version (omega arith), announces, same-head head)
 
+  -- the rule byte is the last of a record of version 2
+  same-rule : announced s ≡ pair-length (version-of s) → rule-byte (s ++ rest) ≡ rule-byte s
+  unfolding rule-byte pair-length
+  same-rule long =
+      let least = pair-least (version-of s) in
+      rw (same-version (omega arith)) (go (eqb (version-of s) 2) long)
+    where
+      go : (second : Bool) → announced s ≡ cond second 14 13 → cond second (getD (s ++ rest) 17 0) 1 ≡ cond second (getD s 17 0) 1
+      go true fourteen = same s rest 17 (omega arith)
+      go false thirteen = refl
+
   same-pair : announced s ≡ pair-length (version-of s) → pair-in (s ++ rest) ≡ pair-in s
   same-pair long =
       let least = pair-least (version-of s) in
-      rw (same-cell ends-from (omega arith), same-cell (ends-from + 6) (omega arith))
+      rw (same-cell ends-from (omega arith), same-cell (ends-from + 6) (omega arith), same-rule long)
 
   -- ---- the verdicts
 
@@ -76,7 +88,15 @@ module _ (s rest : List ℕ) (exact : length s ≡ length-field + announced s) w
 
   same-pair-check : pair-check (s ++ rest) ≡ pair-check s
   unfolding pair-check
-  same-pair-check = rw same-whole (then-same (whole-check s) (λ fine. rw (same-version (whole-is s fine .some), announces)))
+  same-pair-check =
+      rw same-whole
+      (then-same (whole-check s)
+      (λ fine.
+      rw (same-version (whole-is s fine .some), announces)
+      (then-same (refuse-when (not (pair-version (version-of s))) Version)
+      (λ known.
+      then-same (refuse-when (not (eqb (announced s) (pair-length (version-of s)))) Record)
+      (λ long. ap rule-check (same-rule (eqb-true _ _ (not-false _ (passed _ _ long)))))))))
 
   same-venue-check : venue-check (s ++ rest) ≡ venue-check s
   unfolding venue-check

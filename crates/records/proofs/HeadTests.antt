@@ -12,13 +12,16 @@ use Rattle.cells.specs.declared.Refusal.the-variants.{Record, Version}
 use Rattle.cells.specs.declared.Verdict.{Verdict}
 use Rattle.cells.specs.declared.Verdict.the-variants.{Fine}
 use Rattle.cells.specs.Checks.{refuse-when, _then_}
+use Rattle.cells.specs.Manners.{rule-check}
 use Rattle.grids.specs.Grid.{shape}
 use Rattle.cells.proofs.Checks.{fine-first, fine-rest, each-fine, passed, then-same, then-four, by-fine}
 use Rattle.records.specs.declared.venues.Venue.{Venue}
 use Rattle.records.specs.declared.venues.VenueRead.the-variants as VenueRead
+use Rattle.records.specs.declared.pairs.Pair.{Pair}
+use Rattle.records.specs.declared.pairs.PairRead.the-variants as PairRead
 use Rattle.records.specs.Heads.{length-field, announced, version-of, whole-check}
 use Rattle.records.specs.Venues.{venue-version, venue-head, venue-in, venue-check, venue-read}
-use Rattle.records.specs.Pairs.{pair-version, pair-length, pair-check}
+use Rattle.records.specs.Pairs.{pair-version, pair-length, rule-byte, pair-in, pair-check, pair-read}
 
 -- a venue's head holds the version and the counts
 pub head-least : (version : ℕ) → 7 ≤ venue-head version
@@ -29,10 +32,22 @@ pub head-most : (version : ℕ) → venue-head version ≤ 16
 unfolding venue-head
 head-most version = lit< tt
 
--- a pair's record holds the version and both ends
+-- a pair's record holds the version and both ends, and at most one byte more
 pub pair-least : (version : ℕ) → 13 ≤ pair-length version
 unfolding pair-length
-pair-least version = lit< tt
+pair-least version = go (eqb version 2)
+  where
+    go : (second : Bool) → 13 ≤ cond second 14 13
+    go true = lit< tt
+    go false = lit< tt
+
+pub pair-longest : (version : ℕ) → pair-length version ≤ 14
+unfolding pair-length
+pair-longest version = go (eqb version 2)
+  where
+    go : (second : Bool) → cond second 14 13 ≤ 14
+    go true = lit< tt
+    go false = lit< tt
 
 -- ---- what is known of a record that was not refused
 
@@ -115,13 +130,29 @@ venue-whole s e =
     let w = head-fits s (venue-version (version-of s)) _ head in
     record { there = w .there; version = w .version; head = ltb-false _ _ (w .long); shaped = shaped }
 
+-- a pair's tests: those of its head, then the rule
+abbrev pub pair-head-tests : List ℕ → Verdict
+pair-head-tests s = head-tests s (pair-version (version-of s)) (not (eqb (announced s) (pair-length (version-of s))))
+
+pub pair-tests : (s : List ℕ) → pair-check s ≡ (pair-head-tests s then rule-check (rule-byte s))
+unfolding pair-check
+pair-tests s =
+    then-four (whole-check s)
+    (refuse-when (not (pair-version (version-of s))) Version)
+    (refuse-when (not (eqb (announced s) (pair-length (version-of s)))) Record)
+    (rule-check (rule-byte s))
+
 pub record PairWhole (s : List ℕ) : Type 0 where
   pub there : length-field + announced s ≤ length s
+  pub version : pair-version (version-of s) ≡ true
   pub long : announced s ≡ pair-length (version-of s)
+  pub ruled : rule-check (rule-byte s) ≡ Fine
 
 pub pair-whole : (s : List ℕ) → pair-check s ≡ Fine → PairWhole s
-unfolding pair-check
-pair-whole s e = let w = head-fits s (pair-version (version-of s)) _ e in record { there = w .there; long = eqb-true _ _ (not-false _ (w .long)) }
+pair-whole s e =
+    let (head, ruled) = each-fine (pair-head-tests s) _ (sym (pair-tests s) ∙ e) in
+    let w = head-fits s (pair-version (version-of s)) _ head in
+    record { there = w .there; version = w .version; long = eqb-true _ _ (not-false _ (w .long)); ruled = ruled }
 
 -- ---- an accepted venue
 
@@ -138,3 +169,12 @@ part-within s v e =
     let (w, f) = venue-accepted s v e in
     subst (λ (u : Venue). u .start + u .long ≤ length s) f
     (let there = w .there in let head = w .head in omega arith)
+
+-- ---- an accepted pair
+
+-- the verdict and the pair of an answer
+pub pair-accepted : (s : List ℕ) (e : Pair) → pair-read s ≡ PairRead.Read e → PairWhole s × (pair-in s ≡ e)
+unfolding pair-read
+pair-accepted s e h =
+    let (fine, same) = by-fine PairRead.Refused (pair-check s) (PairRead.Read (pair-in s)) (λ r no. let z : _≡_ {A = ℕ} 0 1 = cc no in omega arith) h in
+    (pair-whole s fine, cc same)

@@ -5,6 +5,7 @@ use mathlib.Core.Logic.{_⊎_}
 use mathlib.Core.Option.{Option, some, Option·map}
 use Rattle.cells.specs.declared.Cell.{Cell}
 use Rattle.cells.specs.declared.Counts.{Counts}
+use Rattle.cells.specs.declared.Rule.{Rule}
 use Rattle.cells.specs.Refusals.{Told}
 use Rattle.cells.proofs.Refusals.{told-back, tells-apart, untold-by}
 use Rattle.records.specs.declared.writing.Written.{Written}
@@ -27,8 +28,8 @@ told-venue-back (VenueRead.Read v) = refl
 pub told-venue-one : (r s : VenueRead) → told-venue r ≡ told-venue s → r ≡ s
 told-venue-one = tells-apart told-venue untold-venue told-venue-back
 
-abbrev untold-pair : Told ⊎ (Cell × Cell) → Option PairRead
-untold-pair = untold-by PairRead.Refused (λ e. PairRead.Read (record { p = e .0; q = e .1 }))
+abbrev untold-pair : Told ⊎ (Cell × Cell × Rule) → Option PairRead
+untold-pair = untold-by PairRead.Refused (λ e. PairRead.Read (record { p = e .0; q = e .1; rule = e .2 }))
 
 pub told-pair-back : (r : PairRead) → untold-pair (told-pair r) ≡ some r
 told-pair-back (PairRead.Refused r) = ap (Option·map PairRead.Refused) (told-back r)

@@ -3,7 +3,10 @@ use mathlib.Core.Path.{_≡_, sym, ap, ap₂, _∙_, subst}
 use Prim.Native.Nat.{ℕ}
 use Rattle.cells.specs.declared.Cell.{Cell}
 use Rattle.cells.specs.declared.Counts.{Counts}
+use Rattle.cells.specs.declared.Rule.{Rule}
 use Rattle.cells.specs.declared.Verdict.the-variants.{Fine}
+use Rattle.lines.specs.declared.Order.{Order}
+use Rattle.lines.specs.Preference.{order-of}
 use Rattle.lines.specs.Lines.{differences}
 use Rattle.lines.specs.Decisions.{doubled}
 use Rattle.tripod.specs.Tripod.{steps, Short}
@@ -23,8 +26,8 @@ module _ (n : Counts) (bytes : ℕ) (p q : Cell) (fine : walk-check n bytes p q 
     record { bytes = bytes; shaped = has-shape; inside = accepted n bytes p q fine .q-in },
   )
 
-  pub route-planned : (k : Route) → RouteOf n p q k → Planned bytes k
-  route-planned k r =
+  pub route-planned : (rule : Rule) (k : Route) → RouteOf rule n p q k → Planned bytes k
+  route-planned rule k r =
       record {
         shaped = subst (λ m. Shaped m bytes) (sym (r .grid)) has-shape;
         p-in = subst (λ m. InGrid m (k .p)) (sym (r .grid)) (subst (InGrid n) (sym (r .start)) (accepted n bytes p q fine .p-in));
@@ -39,6 +42,7 @@ module _ (n : Counts) (bytes : ℕ) (p q : Cell) (fine : walk-check n bytes p q 
 pub p-enclosed : {bytes : ℕ} {k : Route} → Planned bytes k → Enclosed (k .n) (k .p) × Short (k .d) × (steps (k .d) ≡ differences (k .p) (k .q))
 p-enclosed {bytes} plan = (record { bytes = bytes; shaped = plan .shaped; inside = plan .p-in }, plan .short, plan .is)
 
--- what is said of a route's grid and ends is said of those of the call
-pub of-route : {A : Type 0} (n : Counts) (p q : Cell) (k : Route) → RouteOf n p q k → (f : Counts → Cell → Cell → A) → f (k .n) (k .p) (k .q) ≡ f n p q
-of-route n p q k r f = ap (λ m. f m (k .p) (k .q)) (r .grid) ∙ ap₂ (f n) (r .start) (r .end)
+-- what is said of a route's grid, ends and order is said of those of the call
+pub of-route : {A : Type 0} (rule : Rule) (n : Counts) (p q : Cell) (k : Route) → RouteOf rule n p q k → (f : Counts → Cell → Cell → Order → A) →
+    f (k .n) (k .p) (k .q) (k .order) ≡ f n p q (order-of rule p q)
+of-route rule n p q k r f = ap₂ (λ m o. f m (k .p) (k .q) o) (r .grid) (r .order) ∙ ap₂ (λ a b. f n a b (order-of rule p q)) (r .start) (r .end)

@@ -1,17 +1,18 @@
 -- The spot of a cell of the 26-line, and the faces from there to the next one. Assumes nothing.
-use mathlib.Core.Path.{_≡_, sym, subst, fun-ext}
+use mathlib.Core.Path.{_≡_, sym, ap, _∙_, subst, fun-ext}
 use Prim.Native.Nat.{ℕ, _+_, _≤_, _<_}
 use native.Mathlib.Omega.{arith}
 use Rattle.lines.specs.Steps.{X, Y, Z, Steps, total}
-use Rattle.lines.specs.Preference.{rule-1}
 use Rattle.lines.specs.Crossings.{place}
 use Rattle.lines.specs.Lines.{differences, longest, place-26, number-26}
+use Rattle.lines.specs.Decisions.{values, raised}
 use Rattle.lines.proofs.Centres.{is-place-26}
+use Rattle.lines.proofs.Signs.{raised-back}
 use Rattle.tripod.specs.declared.Moves.{Moves}
 use Rattle.tripod.specs.Tripod.{LongMoves, moves-on}
 use Rattle.routes.specs.declared.Route.{Route}
 use Rattle.routes.specs.declared.Spot.{Spot}
-use Rattle.routes.specs.Route.{course, SpotAt}
+use Rattle.routes.specs.Route.{preference, course, SpotAt}
 
 module _ (k : Route) where
   abbrev D : Steps
@@ -19,15 +20,20 @@ module _ (k : Route) where
 
   -- the spot of 26-line cell m is that of its number
   pub at-26 : (m : ℕ) (s : Spot) → m ≤ longest D → SpotAt k (place (course k) (number-26 (k .p) (k .q) m)) s → SpotAt k (place-26 D m) s
-  at-26 m s le = subst (λ t. SpotAt k t s) (sym (fun-ext (is-place-26 D rule-1 m le)))
+  at-26 m s le = subst (λ t. SpotAt k t s) (sym (fun-ext (is-place-26 D (preference k) m le)))
 
   pub from-26 : (m : ℕ) (s : Spot) → m ≤ longest D → SpotAt k (place-26 D m) s → SpotAt k (place (course k) (number-26 (k .p) (k .q) m)) s
-  from-26 m s le = subst (λ t. SpotAt k t s) (fun-ext (is-place-26 D rule-1 m le))
+  from-26 m s le = subst (λ t. SpotAt k t s) (fun-ext (is-place-26 D (preference k) m le))
+
+  -- raised, its values are those of figure 6
+  pub figure-6-values : (m : ℕ) (s : Spot) → m ≤ longest D → SpotAt k (place (course k) (number-26 (k .p) (k .q) m)) s →
+      raised (k .order) (s .e) ≡ values D (place-26 D m)
+  figure-6-values m s le h = ap (raised (k .order)) (at-26 m s le h .value) ∙ raised-back (k .order) (values D (place-26 D m))
 
   -- so many faces lie before the next
   pub faces-between :
-      (m : ℕ) (s : Spot) (r : Moves) → m < longest D → SpotAt k (place (course k) (number-26 (k .p) (k .q) m)) s → LongMoves D (s .e) r →
+      (m : ℕ) (s : Spot) (r : Moves) → m < longest D → SpotAt k (place (course k) (number-26 (k .p) (k .q) m)) s → LongMoves D (raised (k .order) (s .e)) r →
       number-26 (k .p) (k .q) (m + 1) ≡ number-26 (k .p) (k .q) m + total (moves-on r)
   faces-between m s r lt h moves =
-      let value = at-26 m s (omega arith) h .value in
+      let value = figure-6-values m s (omega arith) h in
       omega (arith, moves .go-on m lt value X, moves .go-on m lt value Y, moves .go-on m lt value Z)

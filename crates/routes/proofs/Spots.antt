@@ -17,7 +17,6 @@ use Rattle.cells.proofs.Signed.{dn, same-number, one-sided, sum-is, diff-is, ab
 use Rattle.cells.proofs.Machine.{parts-small, nat-small}
 use Rattle.lines.specs.Steps.{Axis, X, Y, Z, Steps, at, total}
 use Rattle.lines.specs.Towards.{towards}
-use Rattle.lines.specs.Preference.{rule-1}
 use Rattle.lines.specs.Crossings.{next, place}
 use Rattle.lines.specs.Lines.{differences, cell-of, InLimit, in-limit}
 use Rattle.lines.specs.Decisions.{values, moved-values}
@@ -25,9 +24,9 @@ use Rattle.lines.proofs.Steps.{bump}
 use Rattle.lines.proofs.Fractions.{place-suc, place-on, place-total}
 use Rattle.lines.proofs.Centres.{centres-good}
 use Rattle.lines.proofs.Cells.{limited-difference, cell-on}
-use Rattle.lines.proofs.Signs.{step-moves}
+use Rattle.lines.proofs.Signs.{lowered-moves}
 use Rattle.tripod.specs.Tripod.{NextFace}
-use Rattle.tripod.proofs.Laws.{place-small, doubled-small}
+use Rattle.tripod.proofs.Laws.{lowered-small, doubled-small}
 use Rattle.grids.specs.Grid.{index, cell-at, byte-of, byte-index}
 use Rattle.grids.specs.Inside.{Shaped, count-on, InGrid, off-axis}
 use Rattle.grids.proofs.Places.{x-below, y-below, z-below}
@@ -35,7 +34,7 @@ use Rattle.grids.proofs.Inside.{inside-parts, counts-most, byte-below}
 use Rattle.walks.proofs.Inside.{cell-inside}
 use Rattle.routes.specs.declared.Route.{Route}
 use Rattle.routes.specs.declared.Spot.{Spot}
-use Rattle.routes.specs.Route.{stride, strides, stride-on, Planned, course, SpotAt, HasByte, byte-of-spot, crossed-spot, CanCross}
+use Rattle.routes.specs.Route.{stride, strides, stride-on, Planned, preference, course, SpotAt, HasByte, byte-of-spot, crossed-spot, CanCross}
 
 -- ---- cells of the grid
 
@@ -155,7 +154,7 @@ module _ (bytes : ℕ) (k : Route) (plan : Planned bytes k) where
   spot-crossed t s n le h =
       record {
         index = ap₂ (λ i w. i +ℤ stride-on w n) (h .index) (plan .moves) ∙ index-next t n le;
-        value = ap₂ (λ d e. moved-values d n e) (plan .twice) (h .value) ∙ sym (step-moves D t n);
+        value = ap₂ (λ d e. moved-values d n e) (plan .twice) (h .value) ∙ sym (lowered-moves (k .order) D t n);
       }
 
   few : bytes ≤ 1073741824
@@ -183,20 +182,20 @@ module _ (bytes : ℕ) (k : Route) (plan : Planned bytes k) where
         x = rw (plan .moves) (stride-small (k .p .x) (k .q .x) 1 (omega arith));
         y = rw (plan .moves) (stride-small (k .p .y) (k .q .y) (k .n .nx) (omega (arith, plan .shaped .x .most)));
         z = rw (plan .moves) (stride-small (k .p .z) (k .q .z) (k .n .nx * k .n .ny) (plan .shaped .layer-most));
-        values = rw (h .value) (place-small D t short-at le);
+        values = rw (h .value) (lowered-small D t short-at le (k .order));
         twice = rw (plan .twice) (doubled-small D short-at);
       }
 
   -- ---- the 6-line
 
   pub place-within : (m : ℕ) → m ≤ total D → (a : Axis) → place (course k) m a ≤ D a
-  place-within m le = place-on (course k) (centres-good rule-1 D) m le .1
+  place-within m le = place-on (course k) (centres-good (preference k) D) m le .1
 
   -- across the next face lies the next place
   pub six-turn : (m : ℕ) (s : Spot) (n : Axis) → m < total D → SpotAt k (place (course k) m) s → NextFace (s .e) n →
       SpotAt k (place (course k) (m + 1)) (crossed-spot k n s)
   six-turn m s n lt h face =
       let t = place (course k) m in
-      let e : n ≡ next (course k) t = face .comes-first D t (place-within m (omega arith)) (omega (arith, place-total (course k) m)) (h .value) in
+      let e : n ≡ next (course k) t = face .comes-first (k .order) D t (place-within m (omega arith)) (omega (arith, place-total (course k) m)) (h .value) in
       let is : bump t n ≡ place (course k) (m + 1) = ap (bump t) e ∙ sym (place-suc (course k) m) ∙ ap (place (course k)) (sym (add-one m)) in
       subst (λ u. SpotAt k u (crossed-spot k n s)) is (spot-crossed t s n (λ a. subst (λ u. u a ≤ D a) (sym is) (place-within (m + 1) (omega arith) a)) h)

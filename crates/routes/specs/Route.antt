@@ -8,12 +8,14 @@ use lib.Signed.{leZ}
 use lib.ListN.{getD}
 use Rattle.cells.specs.declared.Cell.{Cell}
 use Rattle.cells.specs.declared.Counts.{Counts}
+use Rattle.cells.specs.declared.Rule.{Rule}
 use Rattle.cells.specs.Small.{Small}
+use Rattle.lines.specs.declared.Order.{Order}
 use Rattle.lines.specs.Steps.{Axis, X, Y, Z, Steps}
-use Rattle.lines.specs.Preference.{rule-1}
+use Rattle.lines.specs.Preference.{Preference, prefers, order-of}
 use Rattle.lines.specs.Crossings.{Course}
 use Rattle.lines.specs.Lines.{differences, centres, cell-of}
-use Rattle.lines.specs.Decisions.{values, doubled, moved-values}
+use Rattle.lines.specs.Decisions.{values, doubled, moved-values, lowered, raised}
 use Rattle.tripod.specs.Tripod.{steps, Short, SmallTripod, SmallDoubled}
 use Rattle.grids.specs.Grid.{index, byte-index}
 use Rattle.grids.specs.Inside.{Shaped, InGrid}
@@ -35,11 +37,12 @@ stride-on h X = h .x
 stride-on h Y = h .y
 stride-on h Z = h .z
 
--- the route from p to q
-pub record RouteOf (n : Counts) (p q : Cell) (k : Route) : Type 0 where
+-- the route from p to q by a rule
+pub record RouteOf (rule : Rule) (n : Counts) (p q : Cell) (k : Route) : Type 0 where
   pub grid : k .n ≡ n
   pub start : k .p ≡ p
   pub end : k .q ≡ q
+  pub order : k .order ≡ order-of rule p q
   pub is : steps (k .d) ≡ differences p q
   pub short : Short (k .d)
   pub moves : k .strides ≡ strides n p q
@@ -55,14 +58,25 @@ pub record Planned (bytes : ℕ) (k : Route) : Type 0 where
   pub moves : k .strides ≡ strides (k .n) (k .p) (k .q)
   pub twice : k .twice ≡ doubled (differences (k .p) (k .q))
 
+-- which axis goes first in its ties
+abbrev pub preference : Route → Preference
+preference k = prefers (k .order)
+
 -- the order of its crossings
 abbrev pub course : Route → Course
-course k = centres rule-1 (differences (k .p) (k .q))
+course k = centres (preference k) (differences (k .p) (k .q))
 
 -- the spot of a place of the route
 pub record SpotAt (k : Route) (t : Steps) (s : Spot) : Type 0 where
   pub index : s .at ≡ pos (byte-index (k .n) (cell-of (k .p) (k .q) t))
-  pub value : s .e ≡ values (differences (k .p) (k .q)) t
+  pub value : s .e ≡ lowered (k .order) (values (differences (k .p) (k .q)) t)
+
+-- a spot with the values of figure 6 themselves, and with those of an order
+abbrev pub raised-spot : Order → Spot → Spot
+raised-spot o s = record { at = s .at; e = raised o (s .e) }
+
+abbrev pub lowered-spot : Order → Spot → Spot
+lowered-spot o s = record { at = s .at; e = lowered o (s .e) }
 
 -- where a byte is
 pub record HasByte (bytes : ℕ) (at : ℤ) : Type 0 where

@@ -5,13 +5,15 @@ ghost use Prim.Native.Nat.{_≤_};
 ghost use lib.ListN.{length};
 ghost use Rattle.lines.specs.Steps.{at};
 ghost use Rattle.lines.specs.Lines.{differences};
-ghost use Rattle.tripod.specs.Tripod.{steps, Short};
+ghost use Rattle.tripod.specs.Tripod.{steps, Short, SmallTripod};
 ghost use Rattle.grids.specs.Inside.{Enclosed};
-ghost use Rattle.routes.specs.Route.{stride, strides, RouteOf, SpotAt, HasByte, byte-of-spot, crossed-spot, CanCross};
+ghost use Rattle.routes.specs.Route.{stride, strides, RouteOf, SpotAt, HasByte, byte-of-spot, crossed-spot, raised-spot, lowered-spot, CanCross};
 use cells::Axis;
 use cells::Cell;
 use cells::Counts;
+use cells::Rule;
 use lines::Doubled;
+use lines::Order;
 use lines::Tripod;
 use tripod::Diffs;
 
@@ -27,6 +29,7 @@ pub struct Route {
     pub n: Counts,
     pub p: Cell,
     pub q: Cell,
+    pub order: Order,
     pub d: Diffs,
     pub strides: Strides,
     pub twice: Doubled,
@@ -58,18 +61,20 @@ fn strides_of(n: Counts, p: Cell, q: Cell) -> Strides
     Strides { x: x, y: y, z: z }
 }
 
-// The route from p to q.
-pub fn route_of(n: Counts, p: Cell, q: Cell) -> Route
+// The route from p to q, ties by a rule.
+pub fn route_of(n: Counts, p: Cell, q: Cell, rule: Rule) -> Route
     requires { ⌜ Enclosed n p × Enclosed n q ⌝ }
-    ensures { λ r. ⌜ RouteOf n p q r ⌝ }
+    ensures { λ r. ⌜ RouteOf rule n p q r ⌝ }
 {
     let d = tripod::measured(p, q);
     let strides = strides_of(n, p, q);
     let twice = tripod::twice(d);
+    let order = tripod::order_of(rule, p, q);
     Route {
         n: n,
         p: p,
         q: q,
+        order: order,
         d: d,
         strides: strides,
         twice: twice,
@@ -81,9 +86,32 @@ pub fn first_spot(k: Route) -> Spot
     requires { ⌜ Enclosed (k .n) (k .p) × Short (k .d) × (steps (k .d) ≡ differences (k .p) (k .q)) ⌝ }
     ensures { λ r. ⌜ SpotAt k (at 0 0 0) r ⌝ }
 {
-    let e = tripod::first_values(k.d);
+    let order = k.order;
+    let e = tripod::lowered(tripod::first_values(k.d), order);
     let index = grids::index_of(k.n, k.p) as i32;
     Spot { at: index, e: e }
+}
+
+// A spot with the values of figure 6 themselves.
+pub fn raised(s: Spot, k: Route) -> Spot
+    requires { ⌜ SmallTripod (s .e) ⌝ }
+    ensures { λ r. ⌜ r ≡ raised-spot (k .order) s ⌝ }
+{
+    let at = s.at;
+    let order = k.order;
+    let e = tripod::raised(s.e, order);
+    Spot { at: at, e: e }
+}
+
+// And with those that are kept along the route again.
+pub fn lowered(s: Spot, k: Route) -> Spot
+    requires { ⌜ SmallTripod (s .e) ⌝ }
+    ensures { λ r. ⌜ r ≡ lowered-spot (k .order) s ⌝ }
+{
+    let at = s.at;
+    let order = k.order;
+    let e = tripod::lowered(s.e, order);
+    Spot { at: at, e: e }
 }
 
 // The byte of a spot.

@@ -14,17 +14,17 @@ use Rattle.cells.specs.Small.{Small}
 use Rattle.cells.proofs.Signed.{up, dn, same-number, one-sided, sum-is, diff-is}
 use Rattle.cells.proofs.Machine.{nat-small, parts-small}
 use Rattle.lines.specs.Steps.{Axis, X, Y, Z, Steps}
-use Rattle.lines.specs.Preference.{rule-1}
 use Rattle.lines.specs.Lines.{differences, cell-of, longest, place-26, cell-26}
-use Rattle.lines.specs.Decisions.{values, doubled, decision}
+use Rattle.lines.specs.Decisions.{values, doubled, decision, lowered, raised}
 use Rattle.lines.proofs.Centres.{within-26}
 use Rattle.lines.proofs.Cells.{is-26}
+use Rattle.lines.proofs.Signs.{raised-back}
 use Rattle.tripod.proofs.Laws.{decision-small}
 use Rattle.tripod.proofs.Leap.{where-to, where-at}
 use Rattle.grids.specs.Grid.{byte-of, byte-index}
 use Rattle.routes.specs.declared.Route.{Route}
 use Rattle.routes.specs.declared.Spot.{Spot}
-use Rattle.routes.specs.Route.{stride, strides, stride-on, Planned, SpotAt, HasByte, byte-there}
+use Rattle.routes.specs.Route.{stride, strides, stride-on, Planned, preference, SpotAt, raised-spot, lowered-spot, HasByte, byte-there}
 use Rattle.routes.proofs.Spots.{short-at, index-next, spot-byte, byte-is, can-cross}
 use Rattle.runs.specs.declared.RunRoute.{RunRoute}
 use Rattle.runs.specs.declared.RunSpot.{RunSpot}
@@ -89,9 +89,12 @@ module _ (bytes : ℕ) (k : Route) (plan : Planned bytes k) where
   pub route-is : (u : Axis) → run-route k u ≡ run-there u
   route-is u = ap₂ (λ s d. sides-by (stride-on s) d u) (plan .moves) (ap twice-on (plan .twice) ∙ twice-is D)
 
-  -- a spot of any place
+  -- a spot of any place, with the values of figure 6, and the one of the route
+  abbrev values-there : Steps → Spot
+  values-there t = record { at = pos (index-of t); e = values D t }
+
   abbrev spot-there : Steps → Spot
-  spot-there t = record { at = pos (index-of t); e = values D t }
+  spot-there t = lowered-spot (k .order) (values-there t)
 
   is-spot : (t : Steps) → SpotAt k t (spot-there t)
   is-spot t = record { index = refl; value = refl }
@@ -216,7 +219,7 @@ module _ (bytes : ℕ) (k : Route) (plan : Planned bytes k) where
     pub run-byte-is : (cells : List ℕ) → byte-there cells (run-cell k u m .at) ≡ byte-of (k .n) cells (cell-26 (k .p) (k .q) m)
     run-byte-is cells =
         byte-is bytes k plan cells (place-26 D m) (spot-there (place-26 D m)) (is-spot (place-26 D m))
-        ∙ ap (byte-of (k .n) cells) (sym (is-26 rule-1 (k .p) (k .q) m))
+        ∙ ap (byte-of (k .n) cells) (sym (is-26 (preference k) (k .p) (k .q) m))
 
     -- what is due may be added
     pub dues-small : SmallDue (run-cell k u m)
@@ -226,33 +229,38 @@ module _ (bytes : ℕ) (k : Route) (plan : Planned bytes k) where
         on-axis b = due-small D (place-26 D m) u b (short-at bytes k plan) (within-26 D m le)
 
   -- a spot of 26-line cell m, as a cell of a run
-  pub run-starts : (u : Axis) (m : ℕ) (s : Spot) → SpotAt k (place-26 D m) s → run-spot u D s ≡ run-cell k u m
-  run-starts u m s h = ap₂ (λ i e. run-spot u D (record { at = i; e = e })) (h .index) (h .value) ∙ from u
+  pub run-starts : (u : Axis) (m : ℕ) (s : Spot) → SpotAt k (place-26 D m) s → run-spot u D (raised-spot (k .order) s) ≡ run-cell k u m
+  run-starts u m s h =
+      ap₂ (λ i e. run-spot u D (record { at = i; e = e })) (h .index)
+      (ap (raised (k .order)) (h .value) ∙ raised-back (k .order) (values D (place-26 D m))) ∙ from u
     where
       t : Steps
       t = place-26 D m
 
-      from : (u : Axis) → run-spot u D (spot-there (place-26 D m)) ≡ run-cell k u m
+      from : (u : Axis) → run-spot u D (values-there (place-26 D m)) ≡ run-cell k u m
       from X = refl
       from Y = λ i. record { at = pos (index-26 k m); v = turned D t Y Z i; w = turned D t Y X i; wv = decision D t X Z }
       from Z = λ i. record { at = pos (index-26 k m); v = due-on D t Z Y; w = turned D t Z X i; wv = decision D t X Y }
 
   -- and back
-  pub run-ends : (u : Axis) (m : ℕ) → SpotAt k (place-26 D m) (spot-back u D (run-cell k u m))
-  run-ends u m = record { index = at u; value = values-back u }
+  pub values-back : (u : Axis) (m : ℕ) → spot-back u D (run-cell k u m) .e ≡ values D (place-26 D m)
+  values-back u m = by u
     where
       t : Steps
       t = place-26 D m
 
+      by : (u : Axis) → spot-back u D (run-cell k u m) .e ≡ values D (place-26 D m)
+      by X = λ i. record { xy = taken-back D t X Y i; xz = taken-back D t X Z i; zy = decision D t Z Y }
+      by Y = λ i. record { xy = turned-back D t Y X i; xz = decision D t X Z; zy = turned-back D t Y Z i }
+      by Z = λ i. record { xy = decision D t X Y; xz = turned-back D t Z X i; zy = taken-back D t Z Y i }
+
+  pub run-ends : (u : Axis) (m : ℕ) → SpotAt k (place-26 D m) (lowered-spot (k .order) (spot-back u D (run-cell k u m)))
+  run-ends u m = record { index = at u; value = ap (lowered (k .order)) (values-back u m) }
+    where
       at : (u : Axis) → spot-back u D (run-cell k u m) .at ≡ pos (index-26 k m)
       at X = refl
       at Y = refl
       at Z = refl
-
-      values-back : (u : Axis) → spot-back u D (run-cell k u m) .e ≡ values D (place-26 D m)
-      values-back X = λ i. record { xy = taken-back D t X Y i; xz = taken-back D t X Z i; zy = decision D t Z Y }
-      values-back Y = λ i. record { xy = turned-back D t Y X i; xz = decision D t X Z; zy = turned-back D t Y Z i }
-      values-back Z = λ i. record { xy = decision D t X Y; xz = turned-back D t Z X i; zy = taken-back D t Z Y i }
 
 -- ---- a run on its way
 

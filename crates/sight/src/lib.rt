@@ -73,7 +73,8 @@ fn walked(n: Counts, cells: &[u8], p: Cell, q: Cell, how: Manner) -> FirstHit
     requires { ⌜ walk-check n (length (now cells)) p q ≡ Fine ⌝ }
     ensures { λ r. ⌜ Finds Adaptive how n (now (cells .entry)) p q r ⌝ }
 {
-    let k = routes::route_of(n, p, q);
+    let rule = how.rule;
+    let k = routes::route_of(n, p, q, rule);
     let stop = hits::walk_adaptive(cells, k, routes::first_spot(k), how);
     hits::answer_of(cells, k, stop, how)
 }

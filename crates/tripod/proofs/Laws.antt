@@ -15,13 +15,14 @@ use Rattle.cells.proofs.Signed.{up, dn, one-sided, diff-is, abs-is, leZ-true, l
 use mir.Syntax.{w32}
 use mir.Val.{SFits, toZ, ofZ}
 use Rattle.cells.proofs.Machine.{parts-small, nat-small, nat-held, held, held-is, small-held, small-sum, small-diff}
+use Rattle.lines.specs.declared.Order.{Order}
 use Rattle.lines.specs.declared.Tripod.{Tripod}
 use Rattle.lines.specs.Steps.{Axis, X, Y, Z, Steps}
 use Rattle.lines.specs.Lines.{longest, place-26, differences, in-limit, InLimit}
-use Rattle.lines.specs.Decisions.{decision, values, doubled, by-signs}
+use Rattle.lines.specs.Decisions.{decision, values, doubled, by-signs, shift, lowered}
 use Rattle.lines.proofs.Cells.{limited-difference}
 use Rattle.lines.proofs.Centres.{longest-most, moved-grows, moved-by-one, moved-longest}
-use Rattle.lines.proofs.Signs.{figure-6-is-next, stays-small, first-longest, second-longest}
+use Rattle.lines.proofs.Signs.{figure-6-is-next, shift-most, stays-small, first-longest, second-longest}
 use Rattle.tripod.specs.declared.Diffs.{Diffs}
 use Rattle.tripod.specs.declared.Moves.{Moves}
 use Rattle.tripod.specs.Tripod.{steps, Short, SmallTripod, SmallDoubled, NextFace, LongMoves, bit, moves-on}
@@ -79,6 +80,17 @@ module _ (D t : Steps) (short : (a : Axis) → D a ≤ 16383) (le : (a : Axis) �
   pub place-small : SmallTripod (values D t)
   place-small = record { xy = decision-small X Y; xz = decision-small X Z; zy = decision-small Z Y }
 
+  -- lowered they still may
+  lowered-decision : (o : Order) (a b : Axis) → Small (decision D t a b -ℤ pos (shift o))
+  lowered-decision o a b =
+      let m = decision-most a b in
+      let e = diff-is (decision D t a b) (pos (shift o)) in
+      let f = one-sided (decision D t a b -ℤ pos (shift o)) in
+      parts-small (decision D t a b -ℤ pos (shift o)) (omega (arith, shift-most o)) (omega (arith, shift-most o))
+
+  pub lowered-small : (o : Order) → SmallTripod (lowered o (values D t))
+  lowered-small o = record { xy = lowered-decision o X Y; xz = lowered-decision o X Z; zy = lowered-decision o Z Y }
+
 pub doubled-small : (D : Steps) → ((a : Axis) → D a ≤ 16383) → SmallDoubled (doubled D)
 doubled-small D short = record { a2 = small X; b2 = small Y; c2 = small Z }
   where
@@ -101,7 +113,7 @@ module _ (b a : ℕ) (hb : b ≤ 16383) (ha : a ≤ 16383) where
 
 -- the signs of figure 6 give the next face
 pub by-signs-next : (e : Tripod) → NextFace e (by-signs e)
-by-signs-next e = record { comes-first = λ D t le lt h. ap by-signs h ∙ figure-6-is-next D t le lt }
+by-signs-next e = record { comes-first = λ o D t le lt h. ap by-signs h ∙ figure-6-is-next o D t le lt }
 
 -- ---- the long step
 
@@ -175,3 +187,26 @@ module _ (e : ℤ) (n : ℕ) (he : Small e) (hn : n ≤ 16383) where
 
   pub most-test : leZ (held e) (toZ w32 n) ≡ leZ e (pos n)
   most-test = ap₂ leZ (small-held e he) n-held
+
+-- a value and a shift, which is at most 1
+module _ (e : ℤ) (n : ℕ) (he : Small e) (most : n ≤ 1) where
+  t-held : toZ w32 n ≡ pos n
+  t-held = nat-held n (omega arith)
+
+  t-small : Small (pos n)
+  t-small = nat-small n (omega arith)
+
+  pub sum-shift-fits : SFits w32 (held e +ℤ toZ w32 n)
+  sum-shift-fits = rw (small-held e he, t-held) (small-sum e (pos n) he t-small)
+
+  pub diff-shift-fits : SFits w32 (held e -ℤ toZ w32 n)
+  diff-shift-fits = rw (small-held e he, t-held) (small-diff e (pos n) he t-small)
+
+-- n being the shift t
+pub sum-shift-held : (e : ℤ) (n t : ℕ) → Small e → n ≡ t → n ≤ 1 → held (held e +ℤ toZ w32 n) ≡ e +ℤ pos t
+sum-shift-held e n t he is most =
+    held-is (held e +ℤ toZ w32 n) (sum-shift-fits e n he most) ∙ ap₂ _+ℤ_ (small-held e he) (t-held e n he most ∙ ap pos is)
+
+pub diff-shift-held : (e : ℤ) (n t : ℕ) → Small e → n ≡ t → n ≤ 1 → held (held e -ℤ toZ w32 n) ≡ e -ℤ pos t
+diff-shift-held e n t he is most =
+    held-is (held e -ℤ toZ w32 n) (diff-shift-fits e n he most) ∙ ap₂ _-ℤ_ (small-held e he) (t-held e n he most ∙ ap pos is)

@@ -7,9 +7,10 @@ use Rattle.lines.specs.declared.Tripod.{Tripod}
 use Rattle.lines.specs.declared.Doubled.{Doubled}
 use Rattle.lines.specs.Steps.{Axis, X, Y, Z, Steps, at, total}
 use Rattle.lines.specs.Crossings.{next}
-use Rattle.lines.specs.Preference.{rule-1}
+use Rattle.lines.specs.declared.Order.{Order}
+use Rattle.lines.specs.Preference.{prefers}
 use Rattle.lines.specs.Lines.{centres, longest, place-26}
-use Rattle.lines.specs.Decisions.{values}
+use Rattle.lines.specs.Decisions.{values, lowered}
 use Rattle.tripod.specs.declared.Diffs.{Diffs}
 use Rattle.tripod.specs.declared.Moves.{Moves}
 
@@ -34,9 +35,10 @@ pub record SmallDoubled (d : Doubled) : Type 0 where
   pub b2 : Small (d .b2)
   pub c2 : Small (d .c2)
 
--- where e are the values at a place that is not the end, r is the axis of the crossing that comes next
+-- where e are the values of an order at a place that is not the end, r is the axis of the crossing that comes next
 pub record NextFace (e : Tripod) (r : Axis) : Type 0 where
-  pub comes-first : (D t : Steps) → ((a : Axis) → t a ≤ D a) → total t < total D → e ≡ values D t → r ≡ next (centres rule-1 D) t
+  pub comes-first :
+      (o : Order) (D t : Steps) → ((a : Axis) → t a ≤ D a) → total t < total D → e ≡ lowered o (values D t) → r ≡ next (centres (prefers o) D) t
 
 -- 1 for a move, else 0
 abbrev pub bit : Bool → ℕ

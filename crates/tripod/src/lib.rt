@@ -1,15 +1,19 @@
 // The tripod: three decision values, moved by sums and tested by sign. One leaf picks the next face, one the long step; lists and walks use these.
+// The order of the axes in a tie is in the values themselves: no test in a loop knows it.
 ghost use mathlib.Core.Path.{_≡_};
 ghost use Prim.Native.Nat.{_≤_};
 ghost use Rattle.cells.specs.Touching.{apart};
 ghost use Rattle.lines.specs.Steps.{at, total};
 ghost use Rattle.lines.specs.Lines.{differences, longest, in-limit, InLimit};
-ghost use Rattle.lines.specs.Decisions.{values, doubled, moved-values};
+ghost use Rattle.lines.specs.Preference.{below, comes-before, order-of};
+ghost use Rattle.lines.specs.Decisions.{values, doubled, moved-values, shift, lowered, raised};
 ghost use Rattle.tripod.specs.Tripod.{steps, Short, SmallTripod, SmallDoubled, NextFace, LongMoves};
 ghost use mathlib.Core.Bool.{true};
 use cells::Axis;
 use cells::Cell;
+use cells::Rule;
 use lines::Doubled;
+use lines::Order;
 use lines::Tripod;
 
 // The differences of a line's ends.
@@ -90,6 +94,74 @@ pub fn measured(p: Cell, q: Cell) -> Diffs
     let b = difference(p.y, q.y);
     let c = difference(p.z, q.z);
     Diffs { a: a, b: b, c: c }
+}
+
+// Whether p is below q; where they are equal, `after` decides.
+fn below(p: i32, q: i32, after: bool) -> bool
+    ensures { λ r. ⌜ r ≡ below p q after ⌝ }
+{
+    if p == q { after } else { p < q }
+}
+
+// Whether p comes before q in the order z, then y, then x.
+fn comes_before(p: Cell, q: Cell) -> bool
+    ensures { λ r. ⌜ r ≡ comes-before p q ⌝ }
+{
+    let by_x = below(p.x, q.x, false);
+    let by_y = below(p.y, q.y, by_x);
+    below(p.z, q.z, by_y)
+}
+
+// The order of the axes in the ties of the line from p to q.
+pub fn order_of(rule: Rule, p: Cell, q: Cell) -> Order
+    ensures { λ r. ⌜ r ≡ order-of rule p q ⌝ }
+{
+    match rule {
+        Rule::One => Order::Yzx,
+        Rule::Two => {
+            if comes_before(q, p) {
+                Order::Xzy
+            } else {
+                Order::Yzx
+            }
+        }
+    }
+}
+
+// What is taken off the values of figure 6 in an order.
+pub fn shift_of(o: Order) -> u32
+    ensures { λ r. ⌜ (r ≡ shift o) × (r ≤ 1) ⌝ }
+{
+    match o {
+        Order::Yzx => 0,
+        Order::Xzy => 1,
+    }
+}
+
+// The values of figure 6 as they are kept in an order.
+pub fn lowered(e: Tripod, o: Order) -> Tripod
+    requires { ⌜ SmallTripod e ⌝ }
+    ensures { λ r. ⌜ r ≡ lowered o e ⌝ }
+{
+    let shift = shift_of(o) as i32;
+    Tripod {
+        xy: e.xy - shift,
+        xz: e.xz - shift,
+        zy: e.zy - shift,
+    }
+}
+
+// The values of figure 6 again.
+pub fn raised(e: Tripod, o: Order) -> Tripod
+    requires { ⌜ SmallTripod e ⌝ }
+    ensures { λ r. ⌜ r ≡ raised o e ⌝ }
+{
+    let shift = shift_of(o) as i32;
+    Tripod {
+        xy: e.xy + shift,
+        xz: e.xz + shift,
+        zy: e.zy + shift,
+    }
 }
 
 // The decision values at P.

@@ -12,7 +12,7 @@ use Rattle.cells.specs.Touching.{on, apart}
 use Rattle.cells.proofs.Signed.{one-sided}
 use Rattle.lines.specs.Steps.{Steps, total}
 use Rattle.lines.specs.Towards.{towards}
-use Rattle.lines.specs.Preference.{rule-1}
+use Rattle.lines.specs.Preference.{Preference}
 use Rattle.lines.specs.Lines.{differences, cell-of, centres, six-cell}
 use Rattle.lines.specs.Crossings.{place}
 use Rattle.lines.proofs.Towards.{along}
@@ -38,7 +38,7 @@ pub cell-inside : (n : Counts) (p q : Cell) → InGrid n p → InGrid n q → (t
 cell-inside n p q hp hq t le =
     record { inside = λ a. rw (cell-on p q t a) (between (on p a) (on q a) (count-on n a) (t a) (hp .inside a) (hq .inside a) (le a)) }
 
-pub six-inside : (n : Counts) (p q : Cell) → InGrid n p → InGrid n q → (s : ℕ) → s ≤ total (differences p q) → InGrid n (six-cell rule-1 p q s)
-six-inside n p q hp hq s le =
-    rw (six-is rule-1 p q s) (cell-inside n p q hp hq (place (centres rule-1 (differences p q)) s)
-    (place-on (centres rule-1 (differences p q)) (centres-good rule-1 (differences p q)) s le .1))
+pub six-inside : (r : Preference) (n : Counts) (p q : Cell) → InGrid n p → InGrid n q → (s : ℕ) → s ≤ total (differences p q) → InGrid n (six-cell r p q s)
+six-inside r n p q hp hq s le =
+    rw (six-is r p q s) (cell-inside n p q hp hq (place (centres r (differences p q)) s)
+    (place-on (centres r (differences p q)) (centres-good r (differences p q)) s le .1))

@@ -11,7 +11,7 @@ use native.Mathlib.Nat.{eq-or-lt-of-le}
 use native.Mathlib.Numerals.{add-one}
 use Rattle.cells.specs.declared.Cell.{Cell}
 use Rattle.cells.specs.declared.Counts.{Counts}
-use Rattle.lines.specs.Preference.{rule-1}
+use Rattle.lines.specs.Preference.{Preference}
 use Rattle.lines.specs.Lines.{differences, longest, six-cell, cell-26, number-26}
 use Rattle.lines.proofs.Steps.{lt-or-ge}
 use Rattle.lines.proofs.Centres.{grows-26}
@@ -38,29 +38,29 @@ module _ (p q : Cell) where
       (lt-or-ge i j)
 
   -- a cell of the 26-line is found at its number
-  pub found-at : (m : ℕ) → m ≤ longest (differences p q) → number-of (cell-26 p q) (count-26 p q) (six-cell rule-1 p q (number-26 p q m)) ≡ some m
-  found-at m le =
-      found (cell-26 p q) (count-26 p q) m (six-cell rule-1 p q (number-26 p q m))
+  pub found-at : (r : Preference) (m : ℕ) → m ≤ longest (differences p q) → number-of (cell-26 p q) (count-26 p q) (six-cell r p q (number-26 p q m)) ≡ some m
+  found-at r m le =
+      found (cell-26 p q) (count-26 p q) m (six-cell r p q (number-26 p q m))
       (λ i j a b e. one-26 i j (omega arith) (omega arith)
-      (six-different rule-1 p q (number-26 p q i) (number-26 p q j)
-      (sym (six-at-26 rule-1 p q i (omega arith)) ∙ e ∙ six-at-26 rule-1 p q j (omega arith))))
-      (omega arith) (sym (six-at-26 rule-1 p q m le))
+      (six-different r p q (number-26 p q i) (number-26 p q j)
+      (sym (six-at-26 r p q i (omega arith)) ∙ e ∙ six-at-26 r p q j (omega arith))))
+      (omega arith) (sym (six-at-26 r p q m le))
 
-module _ (n : Counts) (l : List ℕ) (p q : Cell) where
+module _ (r : Preference) (n : Counts) (l : List ℕ) (p q : Cell) where
   -- from a clear cell of the 26-line, which is not the last, a long step
-  pub go-long : (m : ℕ) → m < longest (differences p q) → clear (byte-of n l (six-cell rule-1 p q (number-26 p q m))) ≡ true →
-      go n l p q (number-26 p q m) ≡ number-26 p q (m + 1)
-  go-long m lt h = ap₂ (λ b o. cond b (go-by n l p q (number-26 p q m) o) (suc (number-26 p q m))) h (found-at p q m (omega arith))
+  pub go-long : (m : ℕ) → m < longest (differences p q) → clear (byte-of n l (six-cell r p q (number-26 p q m))) ≡ true →
+      go r n l p q (number-26 p q m) ≡ number-26 p q (m + 1)
+  go-long m lt h = ap₂ (λ b o. cond b (go-by r n l p q (number-26 p q m) o) (suc (number-26 p q m))) h (found-at p q r m (omega arith))
 
   -- from a cell that is not clear, one face
-  pub go-face : (s : ℕ) → clear (byte-of n l (six-cell rule-1 p q s)) ≡ false → go n l p q s ≡ suc s
-  go-face s h = ap (λ b. cond b (go-by n l p q s (number-of (cell-26 p q) (count-26 p q) (six-cell rule-1 p q s))) (suc s)) h
+  pub go-face : (s : ℕ) → clear (byte-of n l (six-cell r p q s)) ≡ false → go r n l p q s ≡ suc s
+  go-face s h = ap (λ b. cond b (go-by r n l p q s (number-of (cell-26 p q) (count-26 p q) (six-cell r p q s))) (suc s)) h
 
   -- and from a number between two cells of the 26-line
-  pub go-between : (m s : ℕ) → m < longest (differences p q) → number-26 p q m < s → s < number-26 p q (m + 1) → s < last-number p q → go n l p q s ≡ suc s
-  go-between m s lt lo hi most = by (way n l p q s most)
+  pub go-between : (m s : ℕ) → m < longest (differences p q) → number-26 p q m < s → s < number-26 p q (m + 1) → s < last-number p q → go r n l p q s ≡ suc s
+  go-between m s lt lo hi most = by (way r n l p q s most)
     where
-      by : {t : ℕ} → Way n l p q s t → t ≡ suc s
+      by : {t : ℕ} → Way r n l p q s t → t ≡ suc s
       by face = refl
       by (long k e h) =
           ⊎-elim

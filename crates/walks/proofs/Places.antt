@@ -13,10 +13,10 @@ use Rattle.cells.specs.Faces.{back-across}
 use Rattle.cells.specs.Touching.{on}
 use Rattle.lines.specs.Steps.{Axis, Steps, total}
 use Rattle.lines.specs.Crossings.{Course, next, place}
-use Rattle.lines.specs.Preference.{rule-1}
+use Rattle.lines.specs.Preference.{Preference}
 use Rattle.lines.specs.Lines.{differences, centres, six-cell}
 use Rattle.lines.proofs.Steps.{same-self}
-use Rattle.lines.proofs.Merge.{OnLine, Next, Rule, fewer-is-below}
+use Rattle.lines.proofs.Merge.{OnLine, Next, Choice, fewer-is-below}
 use Rattle.lines.proofs.Fractions.{Before, laws, place-on, place-suc, place-total, next-rule}
 use Rattle.lines.proofs.Centres.{centres-good}
 use Rattle.lines.proofs.Cells.{six-is, six-back, steps-made}
@@ -28,12 +28,12 @@ faces Face.None = 0
 faces (Face.Plus a) = 1
 faces (Face.Minus a) = 1
 
-module _ (p q : Cell) where
+module _ (r : Preference) (p q : Cell) where
   abbrev D : Steps
   D = differences p q
 
   abbrev C : Course
-  C = centres rule-1 D
+  C = centres r D
 
   -- the axis along which cell suc s is entered
   abbrev pub enters : ℕ → Axis
@@ -43,33 +43,33 @@ module _ (p q : Cell) where
   one-more s = ap (λ t. t (enters s)) (place-suc C s) ∙ ap (λ k. place C s (enters s) + k) (same-self (enters s))
 
   -- the two numbers are those of the crossing
-  pub num-is : (s : ℕ) → entered-at p q (suc s) .num ≡ 1 + 2 * place C s (enters s)
+  pub num-is : (s : ℕ) → entered-at r p q (suc s) .num ≡ 1 + 2 * place C s (enters s)
   num-is s = omega (arith, one-more s)
 
   -- a crossing made before another lies at no greater fraction
   earlier : (s t : ℕ) → s < t → t < total D → (1 + 2 * place C s (enters s)) * (2 * D (enters t)) ≤ (1 + 2 * place C t (enters t)) * (2 * D (enters s))
-  unfolding OnLine Before Rule Next
+  unfolding OnLine Before Choice Next
   earlier s t lt most =
-      let (on-s, in-s) = place-on C (centres-good rule-1 D) (suc s) (omega arith) in
-      let (on-t, in-t) = place-on C (centres-good rule-1 D) t (omega arith) in
-      let below = fewer-is-below D (Before C) (laws C (centres-good rule-1 D)) (place C (suc s)) (place C t) in-s in-t on-s on-t
+      let (on-s, in-s) = place-on C (centres-good r D) (suc s) (omega arith) in
+      let (on-t, in-t) = place-on C (centres-good r D) t (omega arith) in
+      let below = fewer-is-below D (Before C) (laws C (centres-good r D)) (place C (suc s)) (place C t) in-s in-t on-s on-t
       (omega (arith, place-total C (suc s), place-total C t)) (enters s) in
-      let real = next-rule C (centres-good rule-1 D) (place C t) in-t (omega (arith, place-total C t)) .0 in
+      let real = next-rule C (centres-good r D) (place C t) in-t (omega (arith, place-total C t)) .0 in
       omega (arith, on-t (enters s) (enters t) (place C s (enters s)) (place C t (enters t)) (omega (arith, one-more s)) (omega arith) real)
 
-  pub never-falls : (s t : ℕ) → s ≤ t → t ≤ total D → entered-at p q s .num * entered-at p q t .den ≤ entered-at p q t .num * entered-at p q s .den
+  pub never-falls : (s t : ℕ) → s ≤ t → t ≤ total D → entered-at r p q s .num * entered-at r p q t .den ≤ entered-at r p q t .num * entered-at r p q s .den
   never-falls zero t le most = omega arith
   never-falls (suc s) zero le most = absurd (omega arith)
   never-falls (suc s) (suc t) le most =
       ⊎-elim
-      (λ e. subst (λ k. entered-at p q (suc s) .num * entered-at p q (suc k) .den ≤ entered-at p q (suc k) .num * entered-at p q (suc s) .den) e (omega arith))
+      (λ e. subst (λ k. entered-at r p q (suc s) .num * entered-at r p q (suc k) .den ≤ entered-at r p q (suc k) .num * entered-at r p q (suc s) .den) e (omega arith))
       (λ lt. rw (num-is s, num-is t) (earlier s t lt (omega arith)))
       (eq-or-lt-of-le {n = s} {m = t} (omega arith))
 
   -- ---- the face
 
   -- it is that of the axis along which the cell is entered
-  pub face-is : (s : ℕ) → (entered-at p q (suc s) .face ≡ Face.Plus (enters s)) ⊎ (entered-at p q (suc s) .face ≡ Face.Minus (enters s))
+  pub face-is : (s : ℕ) → (entered-at r p q (suc s) .face ≡ Face.Plus (enters s)) ⊎ (entered-at r p q (suc s) .face ≡ Face.Minus (enters s))
   face-is s = by (leZ (on p (enters s)) (on q (enters s)))
     where
       by : (b : Bool) → (cond b (Face.Plus (enters s)) (Face.Minus (enters s)) ≡ Face.Plus (enters s))
@@ -78,16 +78,16 @@ module _ (p q : Cell) where
       by false = inr refl
 
   -- so there is one
-  pub some-face : (s : ℕ) → entered-at p q (suc s) .face ≡ Face.None → ⊥
+  pub some-face : (s : ℕ) → entered-at r p q (suc s) .face ≡ Face.None → ⊥
   unfolding faces
   some-face s e =
       ⊎-elim (λ f. let z : _≡_ {A = ℕ} 1 0 = ap faces (sym f ∙ e) in omega arith) (λ f. let z : _≡_ {A = ℕ} 1 0 = ap faces (sym f ∙ e) in omega arith)
       (face-is s)
 
   -- one step back across it stands the cell before
-  pub face-leads-back : (s : ℕ) → back-across (entered-at p q (suc s) .face) (six-cell rule-1 p q (suc s)) ≡ six-cell rule-1 p q s
-  face-leads-back = six-back rule-1 p q
+  pub face-leads-back : (s : ℕ) → back-across (entered-at r p q (suc s) .face) (six-cell r p q (suc s)) ≡ six-cell r p q s
+  face-leads-back = six-back r p q
 
   -- the place's upper number, by the cell's steps from P
-  pub num-made : (s : ℕ) → entered-at p q (suc s) .num ≡ 2 * differences p (six-cell rule-1 p q (suc s)) (enters s) - 1
-  num-made s = ap (λ t. 2 * t (enters s) - 1) (sym (ap (differences p) (six-is rule-1 p q (suc s)) ∙ steps-made p q (place C (suc s))))
+  pub num-made : (s : ℕ) → entered-at r p q (suc s) .num ≡ 2 * differences p (six-cell r p q (suc s)) (enters s) - 1
+  num-made s = ap (λ t. 2 * t (enters s) - 1) (sym (ap (differences p) (six-is r p q (suc s)) ∙ steps-made p q (place C (suc s))))

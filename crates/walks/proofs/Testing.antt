@@ -8,15 +8,13 @@ use lib.Dec.{eqb}
 use borrow.Author.Tests.{eq-eqb}
 use Rattle.cells.specs.declared.Cell.{Cell}
 use Rattle.cells.specs.declared.Counts.{Counts}
-use Rattle.cells.specs.declared.Manner.{Manner}
 use Rattle.cells.specs.Manners.{is-tested}
 use Rattle.cells.proofs.Touching.{and-both}
-use Rattle.lines.specs.Preference.{rule-1}
 use Rattle.lines.specs.Lines.{six-cell}
 use Rattle.lines.proofs.Cells.{six-start, six-different}
 use Rattle.grids.specs.Grid.{byte-of, solid}
 use Rattle.grids.proofs.Any.{or-true}
-use Rattle.walks.specs.Walks.{is-cell, hit-at}
+use Rattle.walks.specs.Walks.{Conduct, is-cell, hit-at}
 use Rattle.walks.specs.Numbers.{hits-at}
 use Rattle.walks.proofs.Find.{is-cell-self, other-is-not}
 use Rattle.walks.proofs.Numbers.{is-p}
@@ -27,7 +25,7 @@ counts : (b t : Bool) → t ≡ true → (b && t) ≡ b
 counts true t h = h
 counts false t h = refl
 
-module _ (how : Manner) (n : Counts) (l : List ℕ) (p : Cell) where
+module _ (how : Conduct) (n : Counts) (l : List ℕ) (p : Cell) where
   -- where the start is tested, the test is that of the byte
   pub tested-test : (w : Cell) → is-tested (how .start) ≡ true → hit-at how n l p w ≡ solid (byte-of n l w)
   tested-test w h = counts (solid (byte-of n l w)) _ (ap (λ t. t || not (is-cell w p)) h)
@@ -46,13 +44,13 @@ module _ (how : Manner) (n : Counts) (l : List ℕ) (p : Cell) where
 
 -- ---- by numbers
 
-module _ (how : Manner) (n : Counts) (l : List ℕ) (p q : Cell) where
+module _ (how : Conduct) (n : Counts) (l : List ℕ) (p q : Cell) where
   -- whether the byte of a number is solid
   abbrev pub solid-at : ℕ → Bool
-  solid-at s = solid (byte-of n l (six-cell rule-1 p q s))
+  solid-at s = solid (byte-of n l (six-cell (how .preference) p q s))
 
   pub hits-is : (s : ℕ) → hits-at how n l p q s ≡ (solid-at s && (is-tested (how .start) || not (eqb s 0)))
-  hits-is s = ap (λ b. solid-at s && (is-tested (how .start) || not b)) (is-p p q s)
+  hits-is s = ap (λ b. solid-at s && (is-tested (how .start) || not b)) (is-p (how .preference) p q s)
 
   -- a hit is solid
   pub hit-solid : (s : ℕ) → hits-at how n l p q s ≡ true → solid-at s ≡ true
@@ -60,7 +58,7 @@ module _ (how : Manner) (n : Counts) (l : List ℕ) (p q : Cell) where
 
   -- what is not solid is no hit
   pub no-hit : (s : ℕ) → solid-at s ≡ false → hits-at how n l p q s ≡ false
-  no-hit s h = ap (λ b. b && (is-tested (how .start) || not (is-cell (six-cell rule-1 p q s) p))) h
+  no-hit s h = ap (λ b. b && (is-tested (how .start) || not (is-cell (six-cell (how .preference) p q s) p))) h
 
   -- at P
   pub start-test : hits-at how n l p q 0 ≡ (is-tested (how .start) && solid-at 0)
@@ -74,13 +72,13 @@ module _ (how : Manner) (n : Counts) (l : List ℕ) (p q : Cell) where
 
   -- and after it
   pub later-test : (s : ℕ) → 0 < s → hits-at how n l p q s ≡ solid-at s
-  later-test s lt = other-test how n l p (six-cell rule-1 p q s) (λ e. omega (arith, six-different rule-1 p q s 0 (e ∙ sym (six-start rule-1 p q))))
+  later-test s lt = other-test how n l p (six-cell (how .preference) p q s) (λ e. omega (arith, six-different (how .preference) p q s 0 (e ∙ sym (six-start (how .preference) p q))))
 
   -- what is no hit is not solid, but for a P that is not tested
-  pub not-solid : (s : ℕ) → hits-at how n l p q s ≡ false → (six-cell rule-1 p q s ≡ p → is-tested (how .start) ≡ true) → solid-at s ≡ false
-  not-solid zero free tested = sym (tested-test how n l p (six-cell rule-1 p q 0) (tested (six-start rule-1 p q))) ∙ free
+  pub not-solid : (s : ℕ) → hits-at how n l p q s ≡ false → (six-cell (how .preference) p q s ≡ p → is-tested (how .start) ≡ true) → solid-at s ≡ false
+  not-solid zero free tested = sym (tested-test how n l p (six-cell (how .preference) p q 0) (tested (six-start (how .preference) p q))) ∙ free
   not-solid (suc s) free tested = sym (later-test (suc s) (omega arith)) ∙ free
 
   -- P's byte is that of number 0
   pub start-byte : solid-at 0 ≡ solid (byte-of n l p)
-  start-byte = ap (λ w. solid (byte-of n l w)) (six-start rule-1 p q)
+  start-byte = ap (λ w. solid (byte-of n l w)) (six-start (how .preference) p q)

@@ -8,16 +8,15 @@ use mathlib.Core.Option.{Option, none, some}
 use lib.Dec.{eqb}
 use Rattle.cells.specs.declared.Cell.{Cell}
 use Rattle.cells.specs.declared.Counts.{Counts}
-use Rattle.cells.specs.declared.Manner.{Manner}
 use Rattle.lines.specs.Steps.{total}
-use Rattle.lines.specs.Preference.{rule-1}
+use Rattle.lines.specs.Preference.{Preference}
 use Rattle.lines.specs.Lines.{differences, six-cell, cell-26, number-26}
 use Rattle.grids.specs.Grid.{byte-of, clear}
 use Rattle.walks.specs.declared.Walker.{Walker}
 use Rattle.walks.specs.declared.Walker.the-variants.{Plain, Adaptive}
 use Rattle.walks.specs.declared.FirstHit.{FirstHit}
 use Rattle.walks.specs.declared.FirstHit.the-variants as FirstHit
-use Rattle.walks.specs.Walks.{number-of, six-count, count-26, hit-at}
+use Rattle.walks.specs.Walks.{Conduct, number-of, six-count, count-26, hit-at}
 use Rattle.walks.specs.Answers.{entered-at}
 
 -- ---- any walk over numbers 0 to N: from a number that is neither a hit nor the last it goes on by `go`
@@ -56,35 +55,36 @@ pub record OnWay (hits : ℕ → Bool) (N : ℕ) (go : ℕ → ℕ) (s r : ℕ) 
 abbrev pub last-number : Cell → Cell → ℕ
 last-number p q = total (differences p q)
 
-module _ (n : Counts) (l : List ℕ) (p q : Cell) where
+module _ (r : Preference) (n : Counts) (l : List ℕ) (p q : Cell) where
   -- the number after s: by a long step where the byte is 0 and the cell is of the 26-line
   abbrev pub go-by : ℕ → Option ℕ → ℕ
   go-by s none = suc s
   go-by s (some m) = number-26 p q (m + 1)
 
   abbrev pub go : ℕ → ℕ
-  go s = cond (clear (byte-of n l (six-cell rule-1 p q s))) (go-by s (number-of (cell-26 p q) (count-26 p q) (six-cell rule-1 p q s))) (suc s)
+  go s = cond (clear (byte-of n l (six-cell r p q s))) (go-by s (number-of (cell-26 p q) (count-26 p q) (six-cell r p q s))) (suc s)
 
   -- each walk goes by its own step
   abbrev pub step : Walker → ℕ → ℕ
   step Plain = suc
   step Adaptive = go
 
-module _ (how : Manner) (n : Counts) (l : List ℕ) (p q : Cell) where
+module _ (how : Conduct) (n : Counts) (l : List ℕ) (p q : Cell) where
   -- which numbers are hits
   abbrev pub hits-at : ℕ → Bool
-  hits-at s = hit-at how n l p (six-cell rule-1 p q s)
+  hits-at s = hit-at how n l p (six-cell (how .preference) p q s)
 
   -- where it ends, and its reads
   abbrev pub end-of : Walker → ℕ
-  end-of k = ends hits-at (last-number p q) (step n l p q k) (six-count p q) 0
+  end-of k = ends hits-at (last-number p q) (step (how .preference) n l p q k) (six-count p q) 0
 
   abbrev pub reads-of : Walker → ℕ
-  reads-of k = visits hits-at (last-number p q) (step n l p q k) (six-count p q) 0
+  reads-of k = visits hits-at (last-number p q) (step (how .preference) n l p q k) (six-count p q) 0
 
   -- the answer of a walk that ends at number e after r reads
   abbrev pub answer-at : ℕ → ℕ → FirstHit
   answer-at e r =
+      let c : Cell = six-cell (how .preference) p q e in
       cond (hits-at e)
-      (FirstHit.Hit (record { cell = six-cell rule-1 p q e; code = byte-of n l (six-cell rule-1 p q e); place = entered-at p q e; reads = r }))
+      (FirstHit.Hit (record { cell = c; code = byte-of n l c; place = entered-at (how .preference) p q e; reads = r }))
       (FirstHit.Clear r)

@@ -9,13 +9,23 @@ use lib.Signed.{leZ}
 use Rattle.cells.specs.declared.Cell.{Cell}
 use Rattle.cells.specs.declared.Counts.{Counts}
 use Rattle.cells.specs.declared.Manner.{Manner}
+use Rattle.cells.specs.declared.Start.{Start}
 use Rattle.cells.specs.Manners.{is-tested}
 use Rattle.lines.specs.Steps.{total}
-use Rattle.lines.specs.Preference.{rule-1}
+use Rattle.lines.specs.Preference.{Preference, by-rule}
 use Rattle.lines.specs.Lines.{differences, six-cell, longest, cell-26}
 use Rattle.grids.specs.Grid.{byte-of, clear, solid}
 use Rattle.walks.specs.declared.Walker.{Walker}
 use Rattle.walks.specs.declared.Walker.the-variants.{Plain, Adaptive}
+
+-- how a walk between two ends goes: whether P is tested, and which axis goes first in a tie
+pub record Conduct : Type 0 where
+  pub start : Start
+  pub preference : Preference
+
+-- SCOPE W9, L17: as its caller names it
+abbrev pub conduct : Manner → (p q : Cell) → Conduct
+conduct how p q = record { start = how .start; preference = by-rule (how .rule) p q }
 
 -- two cells are one
 abbrev pub is-same : ℤ → ℤ → Bool
@@ -42,22 +52,23 @@ after f w none = w
 after f w (some s) = f (s + 1)
 
 -- SCOPE W3: one cell on along the 6-line
-unfoldable pub next-plain : (p q w : Cell) → Cell
+unfoldable pub next-plain : Preference → (p q w : Cell) → Cell
 unfolding number-of six-cell
-next-plain p q w = after (six-cell rule-1 p q) w (number-of (six-cell rule-1 p q) (six-count p q) w)
+next-plain r p q w = after (six-cell r p q) w (number-of (six-cell r p q) (six-count p q) w)
 
 -- SCOPE W3: from cell m of the 26-line a long step, from any other cell one on along the 6-line
-abbrev pub long-or-plain : (p q w : Cell) → Option ℕ → Cell
-long-or-plain p q w none = next-plain p q w
-long-or-plain p q w (some m) = cell-26 p q (m + 1)
+abbrev pub long-or-plain : Preference → (p q w : Cell) → Option ℕ → Cell
+long-or-plain r p q w none = next-plain r p q w
+long-or-plain r p q w (some m) = cell-26 p q (m + 1)
 
 -- SCOPE W3: the adaptive walk's next cell, by a long step only where the byte is clear
-unfoldable pub next-adaptive : Counts → List ℕ → (p q w : Cell) → Cell
+unfoldable pub next-adaptive : Preference → Counts → List ℕ → (p q w : Cell) → Cell
 unfolding number-of cell-26 next-plain
-next-adaptive n l p q w = cond (clear (byte-of n l w)) (long-or-plain p q w (number-of (cell-26 p q) (count-26 p q) w)) (next-plain p q w)
+next-adaptive r n l p q w =
+    cond (clear (byte-of n l w)) (long-or-plain r p q w (number-of (cell-26 p q) (count-26 p q) w)) (next-plain r p q w)
 
 -- SCOPE W3, W9: the one test of a cell w: a hit where its byte is solid, unless it is P and the start is not tested
-abbrev pub hit-at : Manner → Counts → List ℕ → (p w : Cell) → Bool
+abbrev pub hit-at : Conduct → Counts → List ℕ → (p w : Cell) → Bool
 hit-at how n l p w = solid (byte-of n l w) && (is-tested (how .start) || not (is-cell w p))
 
 -- SCOPE W3: from w on, to the first hit or to Q, by what comes next. The number of cells is bounded by that of the 6-line.
@@ -66,11 +77,11 @@ walk hit next q zero w = []
 walk hit next q (suc fuel) w = w ∷ cond (hit w || is-cell w q) [] (walk hit next q fuel (next w))
 
 -- what comes next: SCOPE W2 for the plain walk, W3 for the adaptive one
-abbrev pub next-cell : Walker → Counts → List ℕ → (p q w : Cell) → Cell
-next-cell Plain n l p q w = next-plain p q w
-next-cell Adaptive n l p q w = next-adaptive n l p q w
+abbrev pub next-cell : Walker → Preference → Counts → List ℕ → (p q w : Cell) → Cell
+next-cell Plain r n l p q w = next-plain r p q w
+next-cell Adaptive r n l p q w = next-adaptive r n l p q w
 
 -- the cells of a walk
-unfoldable pub walk-of : Walker → Manner → Counts → List ℕ → Cell → Cell → List Cell
+unfoldable pub walk-of : Walker → Conduct → Counts → List ℕ → Cell → Cell → List Cell
 unfolding walk next-plain next-adaptive
-walk-of k how n l p q = walk (hit-at how n l p) (next-cell k n l p q) q (six-count p q) p
+walk-of k how n l p q = walk (hit-at how n l p) (next-cell k (how .preference) n l p q) q (six-count p q) p

@@ -4,7 +4,7 @@ use mathlib.Core.Path.{_≡_, sym, ap, _∙_}
 use mathlib.Core.Bool.{true, false}
 use native.Mathlib.Omega.{arith}
 use borrow.Author.Needs.{needs}
-use Rattle.cells.specs.declared.Manner.{Manner}
+use Rattle.cells.specs.declared.Start.{Start}
 use Rattle.lines.specs.Steps.{X, Y, Z}
 use Rattle.lines.specs.Lines.{differences, longest, number-26}
 use Rattle.walks.specs.declared.Walker.the-variants.{Adaptive}
@@ -19,7 +19,7 @@ use Rattle.hits.proofs.walk_adaptive.Statement.{statement}
 use Rattle.hits.proofs.walk_adaptive.Tie as tie
 
 abbrev Inv-loop : tie.InvT-loop
-Inv-loop cells k long h t₀ t = (t .hit ≡ false) × ((how : Manner) → Came how cells k t₀ → Came how cells k t)
+Inv-loop cells k long h t₀ t = (t .hit ≡ false) × ((from : Start) → Came from cells k t₀ → Came from cells k t)
 
 abbrev μ-loop : tie.MeasureT-loop
 μ-loop cells k long h t₀ t = t .left
@@ -43,29 +43,29 @@ returns : tie.Need-returns Inv-loop μ-loop
 returns c =
     let a = c .before .before in
     let s = a .before .before .before .before .before .before in
-    turn-stopped (s .args .how) (s .args .cells .now) (s .args .k) (a .set-out .result) (a .set-out .ensures .outcome) (c .before .if1 .taken)
+    turn-stopped (s .args .how .start) (s .args .cells .now) (s .args .k) (a .set-out .result) (a .set-out .ensures .outcome) (c .before .if1 .taken)
 
 loop-holds : tie.Need-loop-holds Inv-loop μ-loop
-loop-holds c = (c .if1 .left, λ how came. came)
+loop-holds c = (c .if1 .left, λ from came. came)
 
 -- where the call's own walk is
 came : (c : tie.At-loop Inv-loop μ-loop) →
     let a = c .before .before .before .before .before .before .before .before .args in
-    Came (a .how) (a .cells .now) (a .k) (c .loop .t)
+    Came (a .how .start) (a .cells .now) (a .k) (c .loop .t)
 came c =
     let a = c .before .before .before .before .before .before .before .before .args in
-    c .loop .inv .1 (a .how) (c .before .before .set-out .ensures)
+    c .loop .inv .1 (a .how .start) (c .before .before .set-out .ensures)
 
 -- at a cell of the 26-line that is not the last, whichever walk came there
 here : (c : tie.Then2 Inv-loop μ-loop) →
     let a = c .before .before in
     let g = a .before .before .before .before .before .before .before .before .args in
-    (how : Manner) → Came how (g .cells .now) (g .k) (a .loop .t) →
-    At26 how (g .cells .now) (g .k) true (a .loop .t .spot) (a .loop .t .reads) (a .loop .t .left)
-here c how came =
+    (from : Start) → Came from (g .cells .now) (g .k) (a .loop .t) →
+    At26 from (g .cells .now) (g .k) true (a .loop .t .spot) (a .loop .t .reads) (a .loop .t .left)
+here c from came =
     let a = c .before .before in
     let g = a .before .before .before .before .before .before .before .before .args in
-    turn-begins how (g .cells .now) (g .k) (a .loop .t) came (a .loop .inv .0) (omega (arith, c .if2 .taken))
+    turn-begins from (g .cells .now) (g .k) (a .loop .t) came (a .loop .inv .0) (omega (arith, c .if2 .taken))
 
 next-26-requires : tie.Need-next-26-requires Inv-loop μ-loop
 next-26-requires c κs =
@@ -74,8 +74,8 @@ next-26-requires c κs =
       record {
         plan = s .pre .0;
         long = a .before .before .before .before .before .longest-axis .ensures;
-        how = s .args .how;
-        at = here c (s .args .how) (came a);
+        from = s .args .how .start;
+        at = here c (s .args .how .start) (came a);
       },
       a .before .before .before .before .run-route-of .ensures,
     )
@@ -85,7 +85,7 @@ returns-2 c =
     let r = c .before .before in
     let a = r .before .before .before in
     let g = a .before .before .before .before .before .before .before .before .args in
-    turn-stopped (g .how) (g .cells .now) (g .k) (r .next-26 .result) (r .next-26 .ensures .outcome (g .how) (here (r .before) (g .how) (came a)))
+    turn-stopped (g .how .start) (g .cells .now) (g .k) (r .next-26 .result) (r .next-26 .ensures .outcome (g .how .start) (here (r .before) (g .how .start) (came a)))
     (c .before .if3 .taken)
 
 loop-less : tie.Need-loop-less Inv-loop μ-loop
@@ -96,19 +96,19 @@ loop-again c =
     let r = c .before in
     let s = r .before .before .before .before .before .before .before .before .before .before .before in (
       c .if3 .left,
-      λ how set-out.
-          turn-came how (s .args .cells .now) (s .args .k) (s .pre .0) true _ _ _ (r .next-26 .result) (r .next-26 .ensures)
-          (here (r .before) how (r .before .before .before .loop .inv .1 how set-out)),
+      λ from set-out.
+          turn-came from (s .args .cells .now) (s .args .k) (s .pre .0) true _ _ _ (r .next-26 .result) (r .next-26 .ensures)
+          (here (r .before) from (r .before .before .before .loop .inv .1 from set-out)),
     )
 
 -- it goes on to the loop's end
 walking : (c : tie.At-loop Inv-loop μ-loop) →
     let a = c .before .before .before .before .before .before .before .before .args in
-    Walking (a .how) (a .cells .now) (a .k) (going (a .cells .now) (a .k) Adaptive) (number-26 (a .k .p) (a .k .q) (cell-left (a .k) (c .loop .t .left)))
+    Walking (a .how .start) (a .cells .now) (a .k) (going (a .cells .now) (a .k) Adaptive) (number-26 (a .k .p) (a .k .q) (cell-left (a .k) (c .loop .t .left)))
     (c .loop .t .reads) (c .loop .t .spot)
 walking c =
     let a = c .before .before .before .before .before .before .before .before .args in
-    turn-walking (a .how) (a .cells .now) (a .k) (c .loop .t) (came c .outcome) (c .loop .inv .0)
+    turn-walking (a .how .start) (a .cells .now) (a .k) (c .loop .t) (came c .outcome) (c .loop .inv .0)
 
 add-t12 : tie.Need-add-t12 Inv-loop μ-loop
 add-t12 c =
@@ -132,8 +132,8 @@ returns-3 c =
     let s = a .before .before .before .before .before .before .before .before in
     let k = s .args .k in
     let all-made : cell-left k (a .loop .t .left) ≡ longest (differences (k .p) (k .q)) = omega (arith, c .before .before .if2 .left) in
-    at-end (s .args .how) _ k (s .pre .0) (s .args .cells .now) _ _ _ _ (walking a)
-    (ap (number-26 (k .p) (k .q)) all-made ∙ last-26 (s .args .how) _ k (s .pre .0) (s .args .cells .now))
+    at-end (s .args .how .start) _ k (s .pre .0) (s .args .cells .now) _ _ _ _ (walking a)
+    (ap (number-26 (k .p) (k .q)) all-made ∙ last-26 (s .args .how .start) _ k (s .pre .0) (s .args .cells .now))
 
 pub walk-adaptive-spec : {M : Type 1} → statement M
 walk-adaptive-spec =

@@ -22,8 +22,8 @@ abbrev μ-loop : tie.MeasureT-loop
 -- a walk of which these are faces
 followed : (c : tie.At-loop Inv-loop μ-loop) →
     let s = c .before .before in
-    Walking (s .pre .2 .how) (s .args .cells .now) (s .args .k) (s .pre .2 .next) (s .pre .2 .from + (c .loop .j - s .args .past)) (s .args .reads + c .loop .j) (c .loop .s)
-followed c = let w = c .before .before .pre .2 in c .loop .inv .follows (w .how) (w .next) (w .from) (w .crossing)
+    Walking (s .pre .2 .from) (s .args .cells .now) (s .args .k) (s .pre .2 .next) (s .pre .2 .number + (c .loop .j - s .args .past)) (s .args .reads + c .loop .j) (c .loop .s)
+followed c = let w = c .before .before .pre .2 in c .loop .inv .follows (w .from) (w .next) (w .number) (w .crossing)
 
 -- how many cells were read, at most
 few : (c : tie.At-loop Inv-loop μ-loop) → c .before .before .args .reads + c .loop .j ≤ 49149

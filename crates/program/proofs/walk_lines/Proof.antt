@@ -25,7 +25,7 @@ returns : tie.Need-returns
 returns c =
     let adaptive = c .before .before in
     let plain = adaptive .before .before .before .before .before in
-    let start = plain .before .before .before .before .before in
+    let start = plain .before .before .before .before .before .before .before in
     let k = start .args .k in
     let room = start .pre in
     let after-plain = plain .walk-line .ensures .1 in

@@ -6,8 +6,10 @@ use lib.IntN.{pos}
 use borrow.Author.Needs.{needs}
 use Rattle.cells.proofs.Machine.{nat-fits, nat-held}
 use Rattle.lines.specs.Steps.{Axis, X, Y, Z, at}
-use Rattle.lines.specs.Decisions.{values}
+use Rattle.lines.specs.Decisions.{values, lowered}
 use Rattle.lines.proofs.Cells.{cell-start}
+use Rattle.tripod.specs.Tripod.{steps}
+use Rattle.tripod.proofs.Laws.{place-small, short-at}
 use Rattle.grids.specs.Grid.{byte-index}
 use Rattle.grids.proofs.Inside.{byte-below}
 use Rattle.routes.proofs.first_spot.Statement.{statement}
@@ -20,7 +22,7 @@ no-steps Z = refl
 
 below : (c : tie.After-index-of) → c .index-of .result < 2 ^ 31
 below c =
-    let s = c .before .before in
+    let s = c .before .before .before in
     let h = s .pre .0 in
     omega (
       arith,
@@ -33,6 +35,11 @@ below c =
 first-values-requires : tie.Need-first-values-requires
 first-values-requires c κs = search needs
 
+lowered-requires : tie.Need-lowered-requires
+lowered-requires c κs =
+    let s = c .before in
+    rw (c .first-values .ensures) (place-small (steps (s .args .k .d)) (at 0 0 0) (short-at (s .args .k .d) (s .pre .1)) (λ a. rw (no-steps a) (omega arith)))
+
 index-of-requires : tie.Need-index-of-requires
 index-of-requires c κs = search needs
 
@@ -41,11 +48,12 @@ cast-index c = nat-fits _ (below c)
 
 returns : tie.Need-returns
 returns c =
-    let k = c .before .before .args .k in
+    let k = c .before .before .before .args .k in
     record {
       index = nat-held _ (below c) ∙ ap pos (c .index-of .ensures) ∙ ap (λ d. pos (byte-index (k .n) d)) (sym (cell-start (k .p) (k .q) (at 0 0 0) no-steps));
-      value = c .before .first-values .ensures ∙ ap (λ D. values D (at 0 0 0)) (c .before .before .pre .2);
+      value = c .before .lowered .ensures ∙ ap (lowered (k .order))
+          (c .before .before .first-values .ensures ∙ ap (λ D. values D (at 0 0 0)) (c .before .before .before .pre .2));
     }
 
 pub first-spot-spec : {M : Type 1} → statement M
-first-spot-spec = tie.close (tie.spec first-values-requires index-of-requires cast-index returns)
+first-spot-spec = tie.close (tie.spec first-values-requires lowered-requires index-of-requires cast-index returns)

@@ -17,19 +17,22 @@ strides-of-requires c κs = search needs
 twice-requires : tie.Need-twice-requires
 twice-requires c κs = search needs
 
+order-of-requires : tie.Need-order-of-requires
+order-of-requires c κs = search needs
+
 returns : tie.Need-returns
 returns c =
-    let m = c .before .before .measured .ensures in
+    let m = c .before .before .before .measured .ensures in
     record {
       grid = refl;
       start = refl;
       end = refl;
+      order = c .order-of .ensures;
       is = m .0;
       short = m .1;
-      moves = c .before .strides-of .ensures;
-      twice = c .twice .ensures
-          ∙ ap doubled (m .0);
+      moves = c .before .before .strides-of .ensures;
+      twice = c .before .twice .ensures ∙ ap doubled (m .0);
     }
 
 pub route-of-spec : {M : Type 1} → statement M
-route-of-spec = tie.close (tie.spec measured-requires strides-of-requires twice-requires returns)
+route-of-spec = tie.close (tie.spec measured-requires strides-of-requires twice-requires order-of-requires returns)

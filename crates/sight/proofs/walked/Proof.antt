@@ -11,7 +11,7 @@ route-of-requires : tie.Need-route-of-requires
 route-of-requires c κs = ends-enclosed _ _ _ _ (c .before .pre)
 
 planned : (c : tie.After-route-of) → Planned (length (c .before .before .args .cells .now)) (c .route-of .result)
-planned c = route-planned _ _ _ _ (c .before .before .pre) _ (c .route-of .ensures)
+planned c = route-planned _ _ _ _ (c .before .before .pre) _ _ (c .route-of .ensures)
 
 first-spot-requires : tie.Need-first-spot-requires
 first-spot-requires c κs = p-enclosed (planned c)
@@ -23,7 +23,7 @@ answer-of-requires : tie.Need-answer-of-requires
 answer-of-requires c κs =
     let plan = planned (c .before .before) in
     let a = c .before .before .before .before .args in
-    (plan, stop-byte Adaptive (a .how) (a .cells .now) _ plan _ (c .walk-adaptive .ensures))
+    (plan, stop-byte Adaptive (a .how .start) (a .cells .now) _ plan _ (c .walk-adaptive .ensures))
 
 returns : tie.Need-returns
 returns c =
@@ -31,7 +31,7 @@ returns c =
     let s = r .before .before in
     let a = s .args in
     found-finds Adaptive (a .how) (a .n) (a .cells .now) (a .p) (a .q) (r .route-of .result) (s .pre) (r .route-of .ensures)
-    (stop-found Adaptive (a .how) (a .cells .now) (r .route-of .result) (planned r) _ (c .before .walk-adaptive .ensures) (c .answer-of .ensures))
+    (stop-found Adaptive (a .how .start) (a .cells .now) (r .route-of .result) (planned r) _ (c .before .walk-adaptive .ensures) (c .answer-of .ensures))
 
 pub walked-spec : {M : Type 1} → statement M
 walked-spec =

@@ -4,7 +4,7 @@ use Prim.Native.Nat.{_+_}
 use native.Mathlib.Omega.{arith}
 use Rattle.cells.specs.declared.Verdict.the-variants.{Fine}
 use Rattle.lines.specs.Steps.{total}
-use Rattle.lines.specs.Preference.{rule-1}
+use Rattle.lines.specs.Preference.{by-rule}
 use Rattle.lines.specs.Lines.{differences, six-line}
 use Rattle.lines.proofs.Cells.{six-length}
 use Rattle.lists.specs.declared.Listed.the-variants.{Cells}
@@ -57,7 +57,7 @@ fill6-requires c κs =
 returns : tie.Need-returns
 returns c =
     let s = c .before .before .before .before in
-    refused-ends (six-line rule-1 (s .args .p) (s .args .q)) (s .args .p) (s .args .q) (s .args .out .now) _
+    refused-ends (six-line (by-rule (s .args .rule) (s .args .p) (s .args .q)) (s .args .p) (s .args .q)) (s .args .p) (s .args .q) (s .args .out .now) _
     (sym (c .before .before .before .check-ends .ensures) ∙ c .before .r .given .1)
 
 returns-2 : tie.Need-returns-2
@@ -65,8 +65,8 @@ returns-2 c =
     let a = c .before in
     let m = a .before in
     let s = m .before .before .before .before in
-    refused-room (six-line rule-1 (s .args .p) (s .args .q)) (s .args .p) (s .args .q) (s .args .out .now) (fine (m .before))
-    (omega (arith, six-length rule-1 (s .args .p) (s .args .q), count a))
+    refused-room (six-line (by-rule (s .args .rule) (s .args .p) (s .args .q)) (s .args .p) (s .args .q)) (s .args .p) (s .args .q) (s .args .out .now) (fine (m .before))
+    (omega (arith, six-length (by-rule (s .args .rule) (s .args .p) (s .args .q)) (s .args .p) (s .args .q), count a))
 
 same-length : tie.Need-same-length
 same-length c = search needs
@@ -78,8 +78,9 @@ returns-3 c =
     let s = m .before .before .before .before in
     let p = s .args .p in
     let q = s .args .q in
-    subst (λ n. Line6 p q (s .args .out .now) (Cells n) (c .before .fill6 .last .0)) (six-length rule-1 p q ∙ ap (λ k. k + 1) (count a))
-    (listed-all (six-line rule-1 p q) p q (s .args .out .now) _ (fine (m .before)) (omega (arith, six-length rule-1 p q, count a)) (c .before .fill6 .ensures))
+    let r = by-rule (s .args .rule) p q in
+    subst (λ n. Line6 (s .args .rule) p q (s .args .out .now) (Cells n) (c .before .fill6 .last .0)) (six-length r p q ∙ ap (λ k. k + 1) (count a))
+    (listed-all (six-line r p q) p q (s .args .out .now) _ (fine (m .before)) (omega (arith, six-length r p q, count a)) (c .before .fill6 .ensures))
 
 pub line6-spec : {M : Type 1} → statement M
 line6-spec =
