@@ -85,8 +85,10 @@ values-small p q =
           let (lo, hi) = stays-small (differences p q) t a b (limited-difference p q hp hq a) (limited-difference p q hp hq b) (le a) (le b) in
           let l = ≤ℤ-is (negsuc 536821760) z .0 lo in
           let h = ≤ℤ-is z (pos 536821761) .0 hi in
-          let e = diff-is z (pos (shift o)) in
-          (≤ℤ-is (negsuc 536821761) (z -ℤ pos (shift o)) .1 (omega (arith, shift-most o)), ≤ℤ-is (z -ℤ pos (shift o)) (pos 536821761) .1 (omega (arith, shift-most o)));
+          let e = diff-is z (pos (shift o)) in (
+            ≤ℤ-is (negsuc 536821761) (z -ℤ pos (shift o)) .1 (omega (arith, shift-most o)),
+            ≤ℤ-is (z -ℤ pos (shift o)) (pos 536821761) .1 (omega (arith, shift-most o)),
+          );
     }
 
 pub entered : (r : Preference) (D : Steps) → Entered r D

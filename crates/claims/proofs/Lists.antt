@@ -143,7 +143,13 @@ longest-list =
       accepted = corners;
       six = λ rule. longest (λ p q. six-line (by-rule rule p q) p q) 49150
           (λ p q hp hq.
-          omega (arith, six-line-holds (by-rule rule p q) p q .many, limited-difference p q hp hq X, limited-difference p q hp hq Y, limited-difference p q hp hq Z))
+          omega (
+            arith,
+            six-line-holds (by-rule rule p q) p q .many,
+            limited-difference p q hp hq X,
+            limited-difference p q hp hq Y,
+            limited-difference p q hp hq Z,
+          ))
           (six-line-holds (by-rule rule lowest highest) lowest highest .many);
       twenty-six = longest line-26 16384
           (λ p q hp hq.

@@ -1,7 +1,7 @@
 -- The claims about the two rules for ties, from the laws of lines and from the calls' contracts. Assumes nothing.
 use Prim.Native.Nat.{ℕ, _+_, _-_, _*_, _≤_, _<_}
-use mathlib.Core.Path.{_≡_, refl, sym, ap, ap₂, _∙_, subst}
-use mathlib.Core.Bool.{Bool, true, false, cond}
+use mathlib.Core.Path.{_≡_, refl, sym, ap, _∙_, subst}
+use mathlib.Core.Bool.{true, false, cond}
 use mathlib.Core.Logic.{_⊎_, inl, inr, ⊎-elim, _↔_}
 use mathlib.Core.List.{List}
 use native.Mathlib.Omega.{arith}
@@ -17,30 +17,28 @@ use Rattle.cells.specs.declared.Rule.the-variants.{One, Two}
 use Rattle.cells.specs.declared.Start.{Start}
 use Rattle.cells.specs.declared.Start.the-variants.{Untested, Tested}
 use Rattle.cells.specs.declared.Verdict.the-variants as Verdict
-use Rattle.cells.specs.Checks.{by-verdict}
 use Rattle.cells.specs.Manners.{tested-by}
 use Rattle.cells.proofs.Checks.{fine-first}
 use Rattle.cells.proofs.Conditions.{ltZ-means}
 use Rattle.lines.specs.Steps.{total}
-use Rattle.lines.specs.Preference.{y-z-x, x-z-y, comes-before, order-of, by-rule}
+use Rattle.lines.specs.Preference.{y-z-x, comes-before, order-of, by-rule}
 use Rattle.lines.specs.Lines.{differences, six-cell, six-line}
 use Rattle.lines.proofs.Cells.{six-length}
 use Rattle.lines.proofs.Mirror.{Compared, less, more, equal, compared, Which, p-first, q-first, one, which}
-use Rattle.lines.proofs.Mirror.{rule-1-order, order-from, first-order, either-way-total, rule-2-mirror, line-mirror, six-same, line-same}
+use Rattle.lines.proofs.Mirror.{rule-1-order, order-from, either-way-total, rule-2-mirror, line-mirror, six-same, line-same}
 use Rattle.lists.specs.declared.Listed.{Listed}
 use Rattle.lists.specs.declared.Listed.the-variants.{Cells, Refused}
 use Rattle.lists.specs.Lists.{ends-check, Line6}
 use Rattle.lists.proofs.Front.{ends-fine, limits-pass}
 use Rattle.grids.specs.Grid.{byte-of, solid}
 use Rattle.grids.specs.Inside.{walk-check}
-use Rattle.grids.specs.Marks.{complete}
 use Rattle.grids.proofs.Inside.{accepted, walk-fine}
 use Rattle.walks.specs.declared.Walker.{Walker}
 use Rattle.walks.specs.declared.Walker.the-variants.{Plain, Adaptive}
 use Rattle.walks.specs.declared.Hit.{Hit}
 use Rattle.walks.specs.declared.FirstHit.{FirstHit}
 use Rattle.walks.specs.declared.FirstHit.the-variants as FirstHit
-use Rattle.walks.specs.Walks.{conduct, hit-at}
+use Rattle.walks.specs.Walks.{conduct}
 use Rattle.walks.specs.Answers.{first-hit, Finds}
 use Rattle.walks.proofs.Testing.{tested-test}
 use Rattle.oatmarten.specs.Faces.{face-number}
@@ -147,7 +145,8 @@ module _ (p q : Cell) where
       let back = six-line (by-rule Two q p) q p in
       let (fine, is) = fits line p q entry exit k h in
       let (hp, hq) = ends-fine p q (fine-first (ends-check p q) _ fine) in
-      let long : length back ≡ length line = six-length (by-rule Two q p) q p ∙ ap (λ m. m + 1) (either-way-total p q) ∙ sym (six-length (by-rule Two p q) p q) in
+      let long : length back ≡ length line = six-length (by-rule Two q p) q p
+      ∙ ap (λ m. m + 1) (either-way-total p q) ∙ sym (six-length (by-rule Two p q) p q) in
       let room : 3 * length back ≤ length other = omega (arith, roomy line p q entry exit k h) in
       g .says ∙ rw (limits-pass q p hq hp, le-ltb (length other) (3 * length back) room) (ap Cells long ∙ is)
 

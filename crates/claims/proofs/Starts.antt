@@ -50,7 +50,8 @@ two-starts n l p q =
           ∙ ap (λ rule. first-hit w (record { start = other .start; rule = rule }) n l p q) same ∙ sym (k .says);
       never-p = λ w how is h a.
           let (fine, hit, there) = hit-found how n l p q w h a in
-          beyond (by-rule (how .rule) p q) h (end-of (conduct how p q) n l p q w) (later-hit n l p q (conduct how p q) (ap is-tested is) _ hit) (ap (λ k. k .cell) there) (ap (λ k. k .place) there);
+          beyond (by-rule (how .rule) p q) h (end-of (conduct how p q) n l p q w)
+          (later-hit n l p q (conduct how p q) (ap is-tested is) _ hit) (ap (λ k. k .cell) there) (ap (λ k. k .place) there);
       equal-ends = λ w how is r a. one-read r (walk-check n (length l) p p) (a .says ∙ equal-ends n l p w how (ap is-tested is));
     }
   where
@@ -99,7 +100,8 @@ wrong-starts =
       steps-over = λ reads h. absurd (let z : _≡_ {A = ℕ} 1 0 = ap kind (h .says) in omega arith);
       default-tests = λ w h a. absurd (let z : _≡_ {A = ℕ} 0 1 = ap kind (a .says) ∙ start-clear w in omega arith);
       tested-passes = λ w how is reads h.
-          absurd (let z : _≡_ {A = ℕ} 1 0 = ap kind (h .says ∙ ap (λ s. first-hit w (record { start = s; rule = how .rule }) (counts 3 2 1) solid-start (at 0 0 0) (at 2 1 0)) is)
+          absurd (let z : _≡_ {A = ℕ} 1 0 = ap kind
+          (h .says ∙ ap (λ s. first-hit w (record { start = s; rule = how .rule }) (counts 3 2 1) solid-start (at 0 0 0) (at 2 1 0)) is)
           ∙ start-hit w (how .rule) in omega arith);
       next-exempt = λ reads h. absurd (let z : _≡_ {A = ℕ} 1 0 = ap kind (h .says) in omega arith);
     }

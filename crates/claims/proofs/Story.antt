@@ -359,9 +359,11 @@ module _ (how : Manner) (n : Counts) (l : List ℕ) (p q : Cell) where
   }
     where
       some : (w : Walker) → 0 < length (walk-of w (conduct how p q) n l p q)
-      some w = rw (add-one (total (differences p q))) (walk-some (hit-at (conduct how p q) n l p) (next-cell w (by-rule (how .rule) p q) n l p q) q p (total (differences p q)) p)
+      some w = rw (add-one (total (differences p q))) (walk-some (hit-at (conduct how p q) n l p)
+          (next-cell w (by-rule (how .rule) p q) n l p q) q p (total (differences p q)) p)
 
-      going : (w : Walker) (i : ℕ) → suc i < length (walk-of w (conduct how p q) n l p q) → Going (hit-at (conduct how p q) n l p) (next-cell w (by-rule (how .rule) p q) n l p q) q p (walk-of w (conduct how p q) n l p q) i
+      going : (w : Walker) (i : ℕ) → suc i < length (walk-of w (conduct how p q) n l p q) →
+          Going (hit-at (conduct how p q) n l p) (next-cell w (by-rule (how .rule) p q) n l p q) q p (walk-of w (conduct how p q) n l p q) i
       going w = walk-goes (hit-at (conduct how p q) n l p) (next-cell w (by-rule (how .rule) p q) n l p q) q p (six-count p q) p
 
 module _ (r : Preference) (n : Counts) (l : List ℕ) (p q : Cell) where

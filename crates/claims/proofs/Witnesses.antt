@@ -19,7 +19,7 @@ use Rattle.lines.specs.Preference.{y-z-x, order-of}
 use Rattle.lines.proofs.Cells.{centre-inside}
 use Rattle.grids.specs.Grid.{count-check, shape, layer-part, layer}
 use Rattle.grids.specs.Marks.{marked, complete, completeness}
-use Rattle.cells.specs.Manners.{usual, rule-of, rule-check}
+use Rattle.cells.specs.Manners.{rule-of, rule-check}
 use Rattle.walks.specs.declared.Walker.the-variants.{Plain, Adaptive}
 use Rattle.walks.specs.Answers.{first-hit}
 use Rattle.walks.proofs.Modes.{as-usual}

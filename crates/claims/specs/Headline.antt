@@ -68,11 +68,12 @@ pub record TakesAnything : Type 1 where
   pub for-c : ExportsAskNothing × ExportsPromised × ExportsAre × Flattenings × ExportsOnce × RefusedUntouched
   pub rules-for-c : RulesTold × ((number : ℕ) → NoSuchRule number)
 
--- 2. The lines are the paper's, made exact: at each place of the 6-line every crossing made comes before every one not made, ties by its rule, and no
--- other place has that; its cells go from P to Q, each touched by the segment, and no cell is missing whose inside the segment enters. The list
--- calls write just these cells; by rule 2 the line from Q to P is the mirror. Both walks start at P and go on by what comes next, to the first hit or to Q: for the plain walk that is the 6-line to
--- its first hit, for the adaptive one long steps at clear cells of the 26-line. A hit is a solid cell; P is none where the start is not tested. The
--- calls answer from where these walks end, with their cells as the reads. A venue written and read back is the same venue.
+-- 2. The lines are the paper's, made exact: at each place of the 6-line every crossing made comes before every one not made, ties by its rule, and
+-- no other place has that; its cells go from P to Q, each touched by the segment, and no cell is missing whose inside the segment enters. The list
+-- calls write just these cells; by rule 2 the line from Q to P is the mirror. Both walks start at P and go on by what comes next, to the first hit
+-- or to Q: for the plain walk that is the 6-line to its first hit, for the adaptive one long steps at clear cells of the 26-line. A hit is a solid
+-- cell; P is none where the start is not tested. The calls answer from where these walks end, with their cells as the reads. A venue written and
+-- read back is the same venue.
 pub record AreThePapers : Type 0 where
   pub rules : (p q : Cell) → TheRules p q
   pub order : (rule : Rule) (p q : Cell) → OnePlace (by-rule rule p q) (differences p q)
@@ -93,11 +94,11 @@ pub record AreThePapers : Type 0 where
       (rest : List ℕ) (bytes part : RefT (List ℕ)) (r : VenueRead) →
       bytes .now ≡ take k exit ++ rest → ReadsVenue (bytes .now) r → GivesCells bytes part → records.SameVenue n cells bytes part r
 
--- 3. Where the completeness call says yes, the adaptive and the plain walk find the same first hit, its cell, code, place and entry face, or both none,
--- and the adaptive one reads no more cells; and a clear sight has nothing solid in its way, but for the camera's own cell where it is not tested. In
--- any grid whatever, an adaptive hit is a plain hit, there or before; and a hit of either walk says the face by which the 6-line enters its cell, at
--- its place. All this in either start mode and under either rule; where P is not solid the two answer alike, and where it is not tested it is never the hit. By rule 2, with a tested start, the walks
--- from P to Q and from Q to P are both clear or both hit.
+-- 3. Where the completeness call says yes, the adaptive and the plain walk find the same first hit, its cell, code, place and entry face, or both
+-- none, and the adaptive one reads no more cells; and a clear sight has nothing solid in its way, but for the camera's own cell where it is not
+-- tested. In any grid whatever, an adaptive hit is a plain hit, there or before; and a hit of either walk says the face by which the 6-line enters
+-- its cell, at its place. All this in either start mode and under either rule; where P is not solid the two answer alike, and where it is not tested
+-- it is never the hit. By rule 2, with a tested start, the walks from P to Q and from Q to P are both clear or both hit.
 pub record TellOneStory : Type 0 where
   pub same : (how : Manner) (n : Counts) (l : List ℕ) (p q : Cell) → Completes n l Yes → (plain adaptive : FirstHit) →
       Finds Plain how n l p q plain → Finds Adaptive how n l p q adaptive → SameStory plain adaptive

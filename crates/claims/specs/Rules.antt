@@ -1,22 +1,20 @@
 -- The two rules for ties: which axis goes first, by the ends; that rule 2's line back is the mirror; and what both rules share. Claims about the definitions
 -- and, by their contracts, about the list and first-hit calls, for every two ends and every grid. Assumes nothing.
-use Prim.Native.Nat.{ℕ, _+_, _-_, _*_, _≤_, _<_}
+use Prim.Native.Nat.{ℕ, _-_, _*_, _≤_, _<_}
 use mathlib.Core.Path.{_≡_}
-use mathlib.Core.Bool.{true, false}
+use mathlib.Core.Bool.{true}
 use mathlib.Core.Logic.{_⊎_, _↔_}
 use mathlib.Core.List.{List, [], _∷_, reverse}
-use lib.IntN.{ℤ, pos, negsuc}
+use lib.IntN.{ℤ, pos}
 use lib.Signed.{_<ℤ_}
 use lib.ListN.{length, replicate}
 use Rattle.cells.specs.declared.Axis.the-variants.{X, Y, Z}
 use Rattle.cells.specs.declared.Cell.{Cell}
 use Rattle.cells.specs.declared.Counts.{Counts}
 use Rattle.cells.specs.declared.Face.the-variants as Face
-use Rattle.cells.specs.declared.Manner.{Manner}
 use Rattle.cells.specs.declared.Rule.{Rule}
 use Rattle.cells.specs.declared.Rule.the-variants.{One, Two}
 use Rattle.cells.specs.declared.Start.{Start}
-use Rattle.cells.specs.declared.Start.the-variants.{Tested}
 use Rattle.cells.specs.Manners.{tested-by}
 use Rattle.lines.specs.Steps.{total}
 use Rattle.lines.specs.Crossings.{TieFree}

@@ -64,11 +64,11 @@ clear reads = inr (said.clear reads)
 abbrev pub halves : ℕ → Float
 halves k = div binary64 (as-f64 k) (as-f64 2)
 
--- a row: the ends P and Q and the cells of the line between them, of the 6-line by a rule; two ends and the order of rule 2 between them; the ends, room for so many numbers, and what the 6-line's call answers; counts,
--- bytes, and the bytes marked; a walk, its manner, its grid and ends, and what it finds; a venue's record, its counts and its cells; a pair's record, P, Q
--- and the rule, or what is said of its refusal;
--- the program's whole input and output; or a manner, a grid, its placement, camera and ball, and the 64 bits of the share, the cell, code, reads and
--- entry face of what is in the way, or that nothing is
+-- a row: the ends P and Q and the cells of the line between them, of the 6-line by a rule; two ends and the order of rule 2 between them; the ends,
+-- room for so many numbers, and what the 6-line's call answers; counts, bytes, and the bytes marked; a walk, its manner, its grid and ends, and what
+-- it finds; a venue's record, its counts and its cells; a pair's record, P, Q and the rule, or what is said of its refusal; the program's whole
+-- input and output; or a manner, a grid, its placement, camera and ball, and the 64 bits of the share, the cell, code, reads and entry face of what
+-- is in the way, or that nothing is
 pub data Row : Type 0 where
   six : Rule → Cell → Cell → List Cell → Row
   orders : Cell → Cell → Order → Row

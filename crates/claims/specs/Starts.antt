@@ -28,7 +28,8 @@ pub record StartTest (n : Counts) (l : List ℕ) (p : Cell) : Type 0 where
   pub other : (how : Conduct) (w : Cell) → (w ≡ p → ⊥) → hit-at how n l p w ≡ solid (byte-of n l w)
   pub exempt : (how : Conduct) → how .start ≡ Untested → hit-at how n l p p ≡ false
 
--- 2. Where P is not solid the two modes answer alike, under the same rule. Where P is not tested a hit is never P, and equal ends are clear with one read, or refused.
+-- 2. Where P is not solid the two modes answer alike, under the same rule. Where P is not tested a hit is never P, and equal ends are clear with one
+-- read, or refused.
 pub record TwoStarts (n : Counts) (l : List ℕ) (p q : Cell) : Type 0 where
   pub alike : solid (byte-of n l p) ≡ false → (w : Walker) (how other : Manner) → how .rule ≡ other .rule → (r s : FirstHit) →
       Finds w how n l p q r → Finds w other n l p q s → r ≡ s

@@ -1,5 +1,6 @@
 -- Demand 3: the plain and the adaptive walk tell one story. Claims about the two first-hit calls, by their contracts: for every grid, every two
--- ends, either start mode, either rule, and all answers that meet the contracts on the same inputs. A hit is what the one test of a cell says (Starts). Assumes nothing.
+-- ends, either start mode, either rule, and all answers that meet the contracts on the same inputs. A hit is what the one test of a cell says
+-- (Starts). Assumes nothing.
 use Prim.Native.Nat.{ℕ, suc, _+_, _-_, _*_, _≤_, _<_}
 use mathlib.Core.Path.{_≡_}
 use mathlib.Core.Bool.{true, false}
@@ -57,7 +58,8 @@ pub record NoLater (r : Preference) (p q c d : Cell) : Type 0 where
 -- 2. Never invented, never earlier: in any grid whatever, an adaptive hit is a plain hit, there or before.
 pub record NeverInvented (how : Manner) (n : Counts) (l : List ℕ) (p q : Cell) : Type 0 where
   pub plain-too : (k : Hit) (rp : FirstHit) → Finds Adaptive how n l p q (FirstHit.Hit k) → Finds Plain how n l p q rp →
-      (h : Hit) × (rp ≡ FirstHit.Hit h) × (h .place .num * k .place .den ≤ k .place .num * h .place .den) × NoLater (by-rule (how .rule) p q) p q (h .cell) (k .cell)
+      (h : Hit) × (rp ≡ FirstHit.Hit h) × (h .place .num * k .place .den ≤ k .place .num * h .place .den)
+      × NoLater (by-rule (how .rule) p q) p q (h .cell) (k .cell)
 
 -- 3. Nothing in the way: marks complete and the adaptive answer clear, then no cell whose open inside the segment meets is solid, P excepted exactly
 -- where it is not tested.

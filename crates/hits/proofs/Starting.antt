@@ -74,7 +74,12 @@ module _ (l : List ℕ) (k : Route) (plan : Planned (length l) k) (tested : Bool
   module _ (b : Begun) (past : PastStart k s faces tested b) where
     pub can-walk-on : CanWalk l k tested s reads faces → CanWalk l k true (b .spot) (reads + b .past) (faces - b .past)
     can-walk-on c =
-        record { from = c .from; next = c .next; number = c .number + b .past; crossing = past .leads (c .from) l plan reads (c .next) (c .number) (c .crossing) }
+        record {
+          from = c .from;
+          next = c .next;
+          number = c .number + b .past;
+          crossing = past .leads (c .from) l plan reads (c .next) (c .number) (c .crossing);
+        }
 
     pub walked-on : (r : Turn) → Walked l k true (b .spot) (reads + b .past) (faces - b .past) r → Walked l k tested s reads faces r
     walked-on r w =

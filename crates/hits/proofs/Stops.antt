@@ -35,16 +35,23 @@ module _ (from : Start) (bytes : ℕ) (k : Route) (plan : Planned bytes k) (l : 
   D = differences (k .p) (k .q)
 
   -- a walk that stopped at number e with so many reads answers as the definition does
-  pub stop-answers : (e many : ℕ) (r : Stop) → e ≤ total D → Stopped k e many r → answer-from from l k r ≡ answer-at (conduct-of from k) (k .n) l (k .p) (k .q) e many
+  pub stop-answers : (e many : ℕ) (r : Stop) → e ≤ total D → Stopped k e many r →
+      answer-from from l k r ≡ answer-at (conduct-of from k) (k .n) l (k .p) (k .q) e many
   unfolding answer-from
   stop-answers e many r le h =
       ap₂ (λ c b. cond (solid b && (is-tested from || not (eqb (total (differences (k .p) c)) 0)))
       (FirstHit.Hit (record { cell = c; code = b; place = entered (k .p) (k .q) (k .order) (steps (k .d)) (differences (k .p) c); reads = r .reads }))
       (FirstHit.Clear (r .reads))) cell byte
       ∙ ap (λ t. cond t
-      (FirstHit.Hit (record { cell = f; code = byte-of (k .n) l f; place = entered (k .p) (k .q) (k .order) (steps (k .d)) (differences (k .p) f); reads = r .reads }))
+      (FirstHit.Hit (record {
+        cell = f;
+        code = byte-of (k .n) l f;
+        place = entered (k .p) (k .q) (k .order) (steps (k .d)) (differences (k .p) f);
+        reads = r .reads;
+      }))
       (FirstHit.Clear (r .reads))) test
-      ∙ ap₂ (λ a m. cond (hits-at (conduct-of from k) (k .n) l (k .p) (k .q) e) (FirstHit.Hit (record { cell = f; code = byte-of (k .n) l f; place = a; reads = m }))
+      ∙ ap₂ (λ a m. cond (hits-at (conduct-of from k) (k .n) l (k .p) (k .q) e)
+      (FirstHit.Hit (record { cell = f; code = byte-of (k .n) l f; place = a; reads = m }))
       (FirstHit.Clear m)) entering (h .reads)
     where
       f : Cell
@@ -66,7 +73,8 @@ module _ (from : Start) (bytes : ℕ) (k : Route) (plan : Planned bytes k) (l : 
       made = ap (differences (k .p)) f-is ∙ steps-made (k .p) (k .q) (place (course k) e)
 
       -- so many that it is P just where there are none
-      test : (solid (byte-of (k .n) l f) && (is-tested from || not (eqb (total (differences (k .p) f)) 0))) ≡ hits-at (conduct-of from k) (k .n) l (k .p) (k .q) e
+      test : (solid (byte-of (k .n) l f) && (is-tested from || not (eqb (total (differences (k .p) f)) 0))) ≡
+          hits-at (conduct-of from k) (k .n) l (k .p) (k .q) e
       test =
           ap (λ t. solid (byte-of (k .n) l f) && (is-tested from || not (eqb t 0))) (ap total made ∙ place-total (course k) e)
           ∙ sym (hits-is (conduct-of from k) (k .n) l (k .p) (k .q) e)

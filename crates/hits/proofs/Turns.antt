@@ -119,7 +119,8 @@ module _ (from : Start) (bytes : ℕ) (k : Route) (plan : Planned bytes k) (l : 
     clear-turn u e fewer cl =
         let is : m + (left - e) ≡ cell-left k e = omega (arith, here .most) in
         record {
-          spot = from-26 k (cell-left k e) (lowered-spot (k .order) (spot-back u D (run-cell k u (cell-left k e)))) (omega arith) (run-ends bytes k plan u (cell-left k e));
+          spot = from-26 k (cell-left k e) (lowered-spot (k .order) (spot-back u D (run-cell k u (cell-left k e))))
+              (omega arith) (run-ends bytes k plan u (cell-left k e));
           on =
               subst (λ j. OnWay (hits from l k) (last l k) go (at-number j) (reads + (left - e))) is
               (runs-on (left - e) (omega arith) (subst (ClearTo l k m) (sym is) cl));

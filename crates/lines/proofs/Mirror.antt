@@ -1,12 +1,12 @@
 -- The line from the other end, with the order of preference reversed, is the line reversed; rule 2 takes reversed orders from the two ends; and where
 -- there is no tie every order gives the same line. Assumes nothing.
-use mathlib.Core.Path.{_≡_, refl, sym, ap, ap₂, _∙_, fun-ext}
+use mathlib.Core.Path.{_≡_, refl, sym, ap, _∙_, fun-ext}
 use mathlib.Core.Logic.{⊎-elim}
 use mathlib.Core.Bool.{Bool, true, false, cond}
 use mathlib.Core.List.{reverse}
 use Prim.Native.Nat.{ℕ, suc, _+_, _-_, _*_, _≤_, _<_}
 use native.Mathlib.Omega.{arith}
-use lib.IntN.{ℤ, pos, natAbs, _-ℤ_}
+use lib.IntN.{ℤ, _-ℤ_}
 use lib.Signed.{ltZ}
 use Rattle.cells.specs.declared.Cell.{Cell}
 use Rattle.cells.specs.declared.Rule.{Rule}
@@ -14,9 +14,9 @@ use Rattle.cells.specs.declared.Rule.the-variants.{One, Two}
 use Rattle.cells.specs.Tabulate.{tabulate}
 use Rattle.cells.specs.Touching.{on, apart}
 use Rattle.cells.proofs.Tabulate.{tabulate-same, tabulate-reverse}
-use Rattle.cells.proofs.Signed.{up, dn, same-number, one-sided, diff-is, abs-is, ltZ-true, ltZ-false}
+use Rattle.cells.proofs.Signed.{same-number, one-sided, diff-is, abs-is, ltZ-true, ltZ-false}
 use Rattle.lines.specs.Steps.{Axis, X, Y, Z, Steps, total, same, after-steps}
-use Rattle.lines.specs.Crossings.{Course, next, place, TieFree}
+use Rattle.lines.specs.Crossings.{next, place, TieFree}
 use Rattle.lines.specs.declared.Order.the-variants.{Yzx, Xzy}
 use Rattle.lines.specs.Preference.{Preference, y-z-x, y-z-x-rank, x-z-y, x-z-y-rank, prefers, comes-before, order-of, by-rule}
 use Rattle.lines.specs.Towards.{towards}
@@ -25,7 +25,7 @@ use Rattle.lines.proofs.Steps.{Cmp, here, other, cmp, lt-or-ge, walk-to
 use Rattle.lines.proofs.Merge.{OnLine, walk-on, reached}
 use Rattle.lines.proofs.Fractions.{Before, ahead, laws, next-rule, place-on}
 use Rattle.lines.proofs.Centres.{centres-good}
-use Rattle.lines.proofs.Towards.{Along, along}
+use Rattle.lines.proofs.Towards.{along}
 use Rattle.lines.proofs.Cells.{same-cell, cell-on, six-is, six-start, six-line-is}
 
 -- what was taken from one end is what is left from the other
@@ -42,7 +42,8 @@ module _ (r s : Preference) (rev : Reversed r s) (D : Steps) where
   turned : (a b : Axis) (i j : ℕ) → i < D a → j < D b → Before (centres r D) b (D b - suc j) a (D a - suc i) → Before (centres s D) a i b j
   unfolding Before
   turned a b i j p q h =
-      from (1 + 2 * (D b - suc j)) (1 + 2 * j) (1 + 2 * (D a - suc i)) (1 + 2 * i) (2 * D a) (2 * D b) (r .rank a) (r .rank b) (s .rank a) (s .rank b) (omega arith) (omega arith) (rev .ranks a) (rev .ranks b) h
+      from (1 + 2 * (D b - suc j)) (1 + 2 * j) (1 + 2 * (D a - suc i)) (1 + 2 * i) (2 * D a) (2 * D b)
+      (r .rank a) (r .rank b) (s .rank a) (s .rank b) (omega arith) (omega arith) (rev .ranks a) (rev .ranks b) h
     where
       from : (y y′ x x′ A B ra rb sa sb : ℕ) → y + y′ ≡ B → x + x′ ≡ A → ra + sa ≡ rev .most → rb + sb ≡ rev .most →
           y * A < x * B + ahead rb ra → x′ * B < y′ * A + ahead sa sb
@@ -59,7 +60,8 @@ module _ (r s : Preference) (rev : Reversed r s) (D : Steps) where
       let w = walk-on D (Before (centres r D)) (laws (centres r D) (centres-good r D)) (next (centres r D)) (next-rule (centres r D) (centres-good r D)) n le in
       let e : total (left-of D t) ≡ total D - n = omega (arith, walk-total (next (centres r D)) n, w .1 X, w .1 Y, w .1 Z) in
       let h : D a - t a ≡ after-steps (next (centres s D)) (total (left-of D t)) a =
-      reached D (Before (centres s D)) (laws (centres s D) (centres-good s D)) (next (centres s D)) (next-rule (centres s D) (centres-good s D)) (left-of D t) (λ b. omega arith) (left-on t (w .0)) a in
+      reached D (Before (centres s D)) (laws (centres s D) (centres-good s D)) (next (centres s D)) (next-rule (centres s D) (centres-good s D))
+      (left-of D t) (λ b. omega arith) (left-on t (w .0)) a in
       sym (rw e at h)
 
 -- ---- one axis, from either end
@@ -74,8 +76,10 @@ here-and-here p = omega (arith, abs-is (p -ℤ p), diff-is p p, one-sided (p -�
 pub towards-either : (p q : ℤ) (i j : ℕ) → i + j ≡ apart p q → towards p q i ≡ towards q p j
 towards-either p q i j e =
     ⊎-elim
-    (λ w. ⊎-elim (λ v. w .tells _ _ (omega (arith, w .steps i, w .end, v .steps j, v .end, apart-either p q))) (λ v. w .tells _ _ (omega (arith, w .steps i, w .end, v .steps j))) (along q p))
-    (λ w. ⊎-elim (λ v. w .tells _ _ (omega (arith, w .steps i, w .end, v .steps j))) (λ v. w .tells _ _ (omega (arith, w .steps i, w .end, v .steps j, v .end, apart-either p q))) (along q p))
+    (λ w. ⊎-elim (λ v. w .tells _ _ (omega (arith, w .steps i, w .end, v .steps j, v .end, apart-either p q)))
+    (λ v. w .tells _ _ (omega (arith, w .steps i, w .end, v .steps j))) (along q p))
+    (λ w. ⊎-elim (λ v. w .tells _ _ (omega (arith, w .steps i, w .end, v .steps j)))
+    (λ v. w .tells _ _ (omega (arith, w .steps i, w .end, v .steps j, v .end, apart-either p q))) (along q p))
     (along p q)
 
 -- ---- cells
@@ -91,7 +95,9 @@ module _ (r s : Preference) (rev : Reversed r s) (p q : Cell) where
   pub six-mirror : (n : ℕ) → n ≤ total D → six-cell s q p (total D - n) ≡ six-cell r p q n
   six-mirror n le =
       six-is s q p (total D - n) ∙ ap (λ E. cell-of q p (place (centres s E) (total D - n))) same-differences
-      ∙ same-cell _ _ (λ a. cell-on q p (place (centres s D) (total D - n)) a ∙ sym (towards-either (on p a) (on q a) (place (centres r D) n a) (place (centres s D) (total D - n) a) (whole a)) ∙ sym (cell-on p q (place (centres r D) n) a))
+      ∙ same-cell _ _ (λ a. cell-on q p (place (centres s D) (total D - n)) a
+      ∙ sym (towards-either (on p a) (on q a) (place (centres r D) n a) (place (centres s D) (total D - n) a) (whole a))
+      ∙ sym (cell-on p q (place (centres r D) n) a))
       ∙ sym (six-is r p q n)
     where
       whole : (a : Axis) → place (centres r D) n a + place (centres s D) (total D - n) a ≡ D a
@@ -194,7 +200,8 @@ module _ (r s : Preference) (D : Steps) (free : TieFree (centres r D)) where
           (1 + 2 * i) * (2 * D b) < (1 + 2 * j) * (2 * D a) + ahead (r .rank a) (r .rank b) →
           (1 + 2 * i) * (2 * D b) < (1 + 2 * j) * (2 * D a) + ahead (s .rank a) (s .rank b)
       by here p q h = omega arith
-      by {b} (other e f) p q h = ⊎-elim (λ l. omega arith) (λ g. absurd (free .none a b i j e p q (omega arith))) (lt-or-ge ((1 + 2 * i) * (2 * D b)) ((1 + 2 * j) * (2 * D a)))
+      by {b} (other e f) p q h = ⊎-elim (λ l. omega arith) (λ g. absurd (free .none a b i j e p q (omega arith)))
+          (lt-or-ge ((1 + 2 * i) * (2 * D b)) ((1 + 2 * j) * (2 * D a)))
 
   pub same-place : (n : ℕ) → n ≤ total D → (a : Axis) → place (centres s D) n a ≡ place (centres r D) n a
   unfolding place OnLine

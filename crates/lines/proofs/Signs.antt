@@ -186,7 +186,13 @@ lowered-moves o D t n = ap (lowered o) (step-moves D t n) ∙ past n (values D t
 
     down-past : (z : ℤ) (m : ℕ) → (z -ℤ pos m) -ℤ pos (shift o) ≡ (z -ℤ pos (shift o)) -ℤ pos m
     down-past z m =
-        same-number _ _ (omega (arith, diff-is z (pos m), diff-is (z -ℤ pos m) (pos (shift o)), diff-is z (pos (shift o)), diff-is (z -ℤ pos (shift o)) (pos m)))
+        same-number _ _ (omega (
+          arith,
+          diff-is z (pos m),
+          diff-is (z -ℤ pos m) (pos (shift o)),
+          diff-is z (pos (shift o)),
+          diff-is (z -ℤ pos (shift o)) (pos m),
+        ))
 
     past : (n : Axis) (v : Tripod) → lowered o (moved-values (doubled D) n v) ≡ moved-values (doubled D) n (lowered o v)
     past X v = same-values (up-past (v .xy) (2 * D Y)) (up-past (v .xz) (2 * D Z)) refl

@@ -7,7 +7,7 @@ use native.Mathlib.Numerals.{add-one}
 use lib.IntN.{ℤ}
 use lib.ListN.{length, length-set}
 use Rattle.cells.specs.declared.Cell.{Cell}
-use Rattle.lines.specs.Steps.{Axis, X, Y, Z, Steps, at, total}
+use Rattle.lines.specs.Steps.{Axis, X, Y, Z, at, total}
 use Rattle.lines.specs.Crossings.{Course, next, place}
 use Rattle.lines.specs.declared.Order.{Order}
 use Rattle.lines.specs.Preference.{prefers}

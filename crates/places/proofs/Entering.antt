@@ -45,7 +45,8 @@ module _ (o : Order) (D t : Steps) where
   unfolding Before
   first-is-last a b pair h e =
       elim (decLt 0 (t b)) [
-        | yes some ↦ by (t b) (t a) (D a) (D b) (shift o) (ahead (prefers o .rank b) (prefers o .rank a)) some (h .some) (before-true C b a (t b - 1) (t a - 1) (h .last b e some)) (pair .second)
+        | yes some ↦ by (t b) (t a) (D a) (D b) (shift o) (ahead (prefers o .rank b) (prefers o .rank a)) some (h .some)
+            (before-true C b a (t b - 1) (t a - 1) (h .last b e some)) (pair .second)
         | no none ↦ unmade (t b) (t a) (omega arith) (h .some)
       ]
     where
@@ -68,7 +69,8 @@ module _ (o : Order) (D t : Steps) where
   unfolding Before
   second-is-last a b pair h e =
       elim (decLt 0 (t a)) [
-        | yes some ↦ by (t a) (t b) (D b) (D a) (shift o) (ahead (prefers o .rank a) (prefers o .rank b)) some (h .some) (before-true C a b (t a - 1) (t b - 1) (h .last a e some)) (pair .first)
+        | yes some ↦ by (t a) (t b) (D b) (D a) (shift o) (ahead (prefers o .rank a) (prefers o .rank b)) some (h .some)
+            (before-true C a b (t a - 1) (t b - 1) (h .last a e some)) (pair .first)
             (omega (arith, pair .second))
         | no none ↦ unmade (t a) (omega arith)
       ]
@@ -81,7 +83,8 @@ module _ (o : Order) (D t : Steps) where
       by (suc i) (suc j) d f h x si sj lt is most =
           let k = simp less-one at lt in
           let gt : numerator (suc i) * d < numerator (suc j) * f + h = rw (numerator-suc i, numerator-suc j) (omega arith) in
-          simp (ne-eqb (numerator (suc j)) 0 (λ z. omega arith), lt-leb (numerator (suc j) * f + h) (numerator (suc i) * d) gt) (and-no (ltb 0 (numerator (suc i))))
+          simp (ne-eqb (numerator (suc j)) 0 (λ z. omega arith), lt-leb (numerator (suc j) * f + h) (numerator (suc i) * d) gt)
+          (and-no (ltb 0 (numerator (suc i))))
 
   -- the axis that the tests find has the last crossing
   pub last-axis-is : (n : Axis) → LastMade C t n → last-axis o D t ≡ n

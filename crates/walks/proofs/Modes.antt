@@ -86,7 +86,8 @@ module _ (n : Counts) (l : List ℕ) (p : Cell) where
   -- P is read, and nothing else
   pub one-read : (k : Walker) (how : Conduct) → reads-of how n l p p k ≡ 1
   unfolding visits
-  one-read k how = ap (λ m. visits (hits-at how n l p p) m (step (how .preference) n l p p k) (m + 1) 0) no-steps ∙ ap suc (either (stop (hits-at how n l p p) 0 0) 0)
+  one-read k how = ap (λ m. visits (hits-at how n l p p) m (step (how .preference) n l p p k) (m + 1) 0) no-steps
+      ∙ ap suc (either (stop (hits-at how n l p p) 0 0) 0)
     where
       either : (b : Bool) (r : ℕ) → cond b r r ≡ r
       either true r = refl

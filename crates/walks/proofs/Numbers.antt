@@ -22,7 +22,8 @@ use Rattle.lines.proofs.Cells.{six-start, six-end, six-different, six-at-26, en
 use Rattle.grids.specs.Grid.{byte-of, clear}
 use Rattle.walks.specs.declared.Walker.{Walker}
 use Rattle.walks.specs.declared.Walker.the-variants.{Plain, Adaptive}
-use Rattle.walks.specs.Walks.{Conduct, is-cell, number-of, six-count, count-26, after, long-or-plain, next-plain, next-adaptive, hit-at, walk, next-cell, walk-of}
+use Rattle.walks.specs.Walks.{Conduct, is-cell, number-of, six-count, count-26, after, long-or-plain, next-plain, next-adaptive, hit-at}
+use Rattle.walks.specs.Walks.{walk, next-cell, walk-of}
 use Rattle.walks.specs.Answers.{last-of}
 use Rattle.walks.proofs.Find.{found, found-is, same-is-cell, other-is-not}
 use Rattle.walks.specs.Numbers.{stop, ends, visits, Rises, last-number, go-by, go, hits-at, step, end-of, reads-of}
@@ -196,8 +197,10 @@ module _ (r : Preference) (n : Counts) (l : List ℕ) (p q : Cell) where
 module _ (how : Conduct) (n : Counts) (l : List ℕ) (p q : Cell) where
   pub walk-length : (k : Walker) → length (walk-of k how n l p q) ≡ reads-of how n l p q k
   unfolding walk-of
-  walk-length k = whole-long how n l p q (next-cell k (how .preference) n l p q) (step (how .preference) n l p q k) (step-rises (how .preference) n l p q k) (step-next (how .preference) n l p q k)
+  walk-length k = whole-long how n l p q (next-cell k (how .preference) n l p q) (step (how .preference) n l p q k)
+      (step-rises (how .preference) n l p q k) (step-next (how .preference) n l p q k)
 
   pub walk-last : (k : Walker) (c : Cell) → last-of c (walk-of k how n l p q) ≡ six-cell (how .preference) p q (end-of how n l p q k)
   unfolding walk-of
-  walk-last k = whole-last how n l p q (next-cell k (how .preference) n l p q) (step (how .preference) n l p q k) (step-rises (how .preference) n l p q k) (step-next (how .preference) n l p q k)
+  walk-last k = whole-last how n l p q (next-cell k (how .preference) n l p q) (step (how .preference) n l p q k)
+      (step-rises (how .preference) n l p q k) (step-next (how .preference) n l p q k)

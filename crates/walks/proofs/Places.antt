@@ -62,7 +62,8 @@ module _ (r : Preference) (p q : Cell) where
   never-falls (suc s) zero le most = absurd (omega arith)
   never-falls (suc s) (suc t) le most =
       ⊎-elim
-      (λ e. subst (λ k. entered-at r p q (suc s) .num * entered-at r p q (suc k) .den ≤ entered-at r p q (suc k) .num * entered-at r p q (suc s) .den) e (omega arith))
+      (λ e. subst (λ k. entered-at r p q (suc s) .num * entered-at r p q (suc k) .den
+      ≤ entered-at r p q (suc k) .num * entered-at r p q (suc s) .den) e (omega arith))
       (λ lt. rw (num-is s, num-is t) (earlier s t lt (omega arith)))
       (eq-or-lt-of-le {n = s} {m = t} (omega arith))
 

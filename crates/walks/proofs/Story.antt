@@ -48,8 +48,10 @@ module _ (how : Conduct) (n : Counts) (l : List ℕ) (p q : Cell) where
       ∙ ap (λ a. cond (hit-at how n l p (f e)) (FirstHit.Hit (record { cell = f e; code = byte-of n l (f e); place = a; reads = r })) (FirstHit.Clear r))
       (ap (place-by (how .preference) p q) (six-found (how .preference) p q e le))
 
-  walk-ended : (k : Walker) → Ended (hits-at how n l p q) N (step (how .preference) n l p q k) (step-rises (how .preference) n l p q k) 0 (end-of how n l p q k) (reads-of how n l p q k)
-  walk-ended k = ended (hits-at how n l p q) N (step (how .preference) n l p q k) (step-rises (how .preference) n l p q k) (six-count p q) 0 (omega arith) (omega arith)
+  walk-ended : (k : Walker) → Ended (hits-at how n l p q) N (step (how .preference) n l p q k)
+      (step-rises (how .preference) n l p q k) 0 (end-of how n l p q k) (reads-of how n l p q k)
+  walk-ended k = ended (hits-at how n l p q) N (step (how .preference) n l p q k) (step-rises (how .preference) n l p q k)
+      (six-count p q) 0 (omega arith) (omega arith)
 
   pub end-below : (k : Walker) → end-of how n l p q k ≤ N
   end-below k = walk-ended k .most
@@ -90,7 +92,8 @@ module _ (how : Conduct) (n : Counts) (l : List ℕ) (p q : Cell) where
           by true e =
               let (clear, touch) = skipped (how .preference) n l p q s t lt lo hi in
               let most : go (how .preference) n l p q s ≤ N = go-rises (how .preference) n l p q .most s lt in
-              absurd (safe .none (f s) (f t) (six-inside (how .preference) n p q hp hq s (omega arith)) (six-inside (how .preference) n p q hp hq t (omega arith)) clear
+              absurd (safe .none (f s) (f t) (six-inside (how .preference) n p q hp hq s (omega arith))
+              (six-inside (how .preference) n p q hp hq t (omega arith)) clear
               (hit-solid how n l p q t e) (wider touch))
 
   pub reads-no-more : end-of how n l p q Adaptive ≡ end-of how n l p q Plain → reads-of how n l p q Adaptive ≤ reads-of how n l p q Plain
@@ -128,7 +131,8 @@ module _ (how : Conduct) (n : Counts) (l : List ℕ) (p q : Cell) where
   pub adaptive-clear-least : hits-at how n l p q (end-of how n l p q Adaptive) ≡ false → longest (differences p q) + 1 ≤ reads-of how n l p q Adaptive
   adaptive-clear-least h =
       let e = ends-at-q (end-of how n l p q Adaptive) (walk-ended Adaptive .stops) h in
-      let w : μ (end-of how n l p q Adaptive) + 1 ≤ μ 0 + reads-of how n l p q Adaptive = at-least (hits-at how n l p q) N (go (how .preference) n l p q) (go-rises (how .preference) n l p q) μ
+      let w : μ (end-of how n l p q Adaptive) + 1 ≤ μ 0 + reads-of how n l p q Adaptive =
+      at-least (hits-at how n l p q) N (go (how .preference) n l p q) (go-rises (how .preference) n l p q) μ
       (λ s lt. grows s lt (way (how .preference) n l p q s lt)) (six-count p q) 0 (omega arith) (omega arith) in
       let z : μ 0 ≡ 0 = place-start (centres (how .preference) (differences p q)) a in
       let y : μ (end-of how n l p q Adaptive) ≡ longest (differences p q) = ap μ e

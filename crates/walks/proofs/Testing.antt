@@ -72,7 +72,8 @@ module _ (how : Conduct) (n : Counts) (l : List ℕ) (p q : Cell) where
 
   -- and after it
   pub later-test : (s : ℕ) → 0 < s → hits-at how n l p q s ≡ solid-at s
-  later-test s lt = other-test how n l p (six-cell (how .preference) p q s) (λ e. omega (arith, six-different (how .preference) p q s 0 (e ∙ sym (six-start (how .preference) p q))))
+  later-test s lt = other-test how n l p (six-cell (how .preference) p q s)
+      (λ e. omega (arith, six-different (how .preference) p q s 0 (e ∙ sym (six-start (how .preference) p q))))
 
   -- what is no hit is not solid, but for a P that is not tested
   pub not-solid : (s : ℕ) → hits-at how n l p q s ≡ false → (six-cell (how .preference) p q s ≡ p → is-tested (how .start) ≡ true) → solid-at s ≡ false

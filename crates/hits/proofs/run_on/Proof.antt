@@ -68,7 +68,16 @@ add-t15 c =
     let s = c .before .before .before .before .before .before .before .before .before in
     let g = s .pre .0 in
     let w = led (c .before) .outcome (g .from) (g .at) in
-    record { fits = omega (arith, w .on .few, w .on .most, short-at _ (s .args .k) (g .plan) X, short-at _ (s .args .k) (g .plan) Y, short-at _ (s .args .k) (g .plan) Z) }
+    record {
+      fits = omega (
+        arith,
+        w .on .few,
+        w .on .most,
+        short-at _ (s .args .k) (g .plan) X,
+        short-at _ (s .args .k) (g .plan) Y,
+        short-at _ (s .args .k) (g .plan) Z,
+      );
+    }
 
 returns : tie.Need-returns
 returns c = led (c .before)

@@ -85,7 +85,8 @@ returns-2 c =
     let r = c .before .before in
     let a = r .before .before .before in
     let g = a .before .before .before .before .before .before .before .before .args in
-    turn-stopped (g .how .start) (g .cells .now) (g .k) (r .next-26 .result) (r .next-26 .ensures .outcome (g .how .start) (here (r .before) (g .how .start) (came a)))
+    turn-stopped (g .how .start) (g .cells .now) (g .k) (r .next-26 .result)
+    (r .next-26 .ensures .outcome (g .how .start) (here (r .before) (g .how .start) (came a)))
     (c .before .if3 .taken)
 
 loop-less : tie.Need-loop-less Inv-loop μ-loop

@@ -27,7 +27,8 @@ of-other p q after ne = by (compared p q)
 returns : tie.Need-returns
 returns c =
     let s = c .before in
-    of-equal (s .args .p) (s .args .q) (s .args .after) (sym (held-is (s .args .p) (s .fits .p)) ∙ ap (toZ w32) (c .if1 .taken) ∙ held-is (s .args .q) (s .fits .q))
+    of-equal (s .args .p) (s .args .q) (s .args .after) (sym (held-is (s .args .p) (s .fits .p)) ∙ ap (toZ w32) (c .if1 .taken)
+    ∙ held-is (s .args .q) (s .fits .q))
 
 returns-2 : tie.Need-returns-2
 returns-2 c =

@@ -11,7 +11,7 @@ use Rattle.cells.specs.declared.Cell.{Cell}
 use Rattle.lines.specs.declared.Order.{Order}
 use Rattle.lines.specs.Steps.{total}
 use Rattle.lines.specs.Preference.{prefers, order-of}
-use Rattle.lines.specs.Lines.{differences, six-cell}
+use Rattle.lines.specs.Lines.{six-cell}
 use Rattle.lines.specs.Crossings.{place}
 use Rattle.lines.proofs.Cells.{six-is, six-line-is, six-end}
 use Rattle.lines.proofs.Fractions.{place-on}
@@ -75,7 +75,9 @@ crossed-requires c κs =
     (place-on (C o _ _) (centres-good (prefers o) _) (l .loop .m) (omega (arith, b .count)) .1) (l .loop .inv o _ b .1)
 
 add-at : tie.Need-add-at Inv-loop μ-loop
-add-at c = let l = c .before .before .before .before .before .before in record { fits = omega (arith, l .loop .inv _ _ (start (l .before)) .0, room (l .before)) }
+add-at c =
+    let l = c .before .before .before .before .before .before in
+    record { fits = omega (arith, l .loop .inv _ _ (start (l .before)) .0, room (l .before)) }
 
 add-m : tie.Need-add-m Inv-loop μ-loop
 add-m c = record { fits = omega arith }

@@ -65,7 +65,8 @@ returns-2 c =
     let a = c .before in
     let m = a .before in
     let s = m .before .before .before .before in
-    refused-room (six-line (by-rule (s .args .rule) (s .args .p) (s .args .q)) (s .args .p) (s .args .q)) (s .args .p) (s .args .q) (s .args .out .now) (fine (m .before))
+    refused-room (six-line (by-rule (s .args .rule) (s .args .p) (s .args .q)) (s .args .p) (s .args .q)) (s .args .p) (s .args .q)
+    (s .args .out .now) (fine (m .before))
     (omega (arith, six-length (by-rule (s .args .rule) (s .args .p) (s .args .q)) (s .args .p) (s .args .q), count a))
 
 same-length : tie.Need-same-length

@@ -55,7 +55,8 @@ returns-2 c =
     record {
       answer = l .line6 .result;
       meets = after-all _ _ _ (sym (told .before .before .check-rule .ensures) ∙ told .enum-told .given .1)
-          (subst (λ u. Line6 u (as-cell (s .args .p)) (as-cell (s .args .q)) (s .args .out .now) (l .line6 .result) (l .line6 .last .1 .1 .1 .0)) (rule .rule-of .ensures)
+          (subst (λ u. Line6 u (as-cell (s .args .p)) (as-cell (s .args .q)) (s .args .out .now) (l .line6 .result) (l .line6 .last .1 .1 .1 .0))
+          (rule .rule-of .ensures)
           (subst₂ (λ a b. Line6 (rule .rule-of .result) a b (s .args .out .now) (l .line6 .result) (l .line6 .last .1 .1 .1 .0))
           (rule .before .before .cell .ensures) (rule .before .cell2 .ensures) (l .line6 .ensures)));
       flat = c .flat-listed2 .ensures;
