@@ -71,7 +71,7 @@ pub record SameLine (p q : Cell) : Type 0 where
   pub line : TieFree (centres y-z-x (differences p q)) → six-line (by-rule Two p q) p q ≡ six-line (by-rule One p q) p q
 
 -- 4. There and back by rule 2, with a tested start: both plain walks are clear, with the same reads, or both hit. Where the marks are complete, so it is
--- of the adaptive walks, and so of sights.
+-- of the adaptive walks. Nothing is claimed of two sights.
 pub record BothWays (n : Counts) (l : List ℕ) (p q : Cell) : Type 0 where
   pub clear : (reads : ℕ) (s : FirstHit) → Finds Plain (tested-by Two) n l p q (FirstHit.Clear reads) → Finds Plain (tested-by Two) n l q p s →
       s ≡ FirstHit.Clear reads
