@@ -8,6 +8,7 @@ pub mod Story
 pub mod Starts
 pub mod Rules
 pub mod Points
+pub mod FarWall
 pub mod Sights
 pub mod Records
 pub mod Judged

@@ -1,11 +1,11 @@
 -- The claims about a surveyed point's cell, each from its law; the table's rows by computation. Assumes nothing.
-use Prim.Native.Nat.{ℕ, _≤_}
+use Prim.Native.Nat.{ℕ, _-_, _≤_}
 use mathlib.Core.Path.{_≡_, refl, sym, ap, subst, _∙_}
-use mathlib.Core.Bool.{false}
+use mathlib.Core.Bool.{true, false}
 use mathlib.Core.Logic.{_⊎_, inl, inr}
 use native.Mathlib.Omega.{arith}
 use lib.IntN.{ℤ, pos, natAbs}
-use lib.Ieee.{Float, le, lt, ofInt, div, sub, neg, toBits}
+use lib.Ieee.{Float, eq, le, lt, ofInt, div, sub, neg, ofBits, toBits}
 use Rattle.cells.specs.declared.Cell as cell
 use Rattle.cells.specs.declared.Counts.{Counts}
 use Rattle.cells.specs.declared.End.{End}
@@ -13,9 +13,10 @@ use Rattle.cells.specs.declared.End.the-variants.{P}
 use Rattle.cells.specs.declared.Verdict.the-variants.{Fine}
 use Rattle.cells.specs.declared.Axis.{Axis}
 use Rattle.cells.specs.declared.Axis.the-variants.{X, Y, Z}
-use Rattle.cells.specs.Refusals.{Told}
+use Rattle.cells.specs.Refusals.{Told, at-end}
 use Rattle.cells.specs.Touching.{on}
 use Rattle.lines.proofs.Cells.{same-cell}
+use Rattle.survey.specs.declared.Lookup.{Lookup}
 use Rattle.survey.specs.declared.Lookup.the-variants.{Cell}
 use Rattle.survey.specs.declared.Placement.{Placement}
 use Rattle.survey.specs.declared.Point.{Point}
@@ -24,13 +25,14 @@ use Rattle.survey.specs.Search.{Inside, AllInside}
 use Rattle.survey.specs.Survey.{PlacedGrid, quotients, point-check, cell-at, look-up, cell-of, LooksUp, told-lookup}
 use Rattle.survey.proofs.Whole.{whole-exact}
 use Rattle.survey.proofs.Finite.{quotient-no-nan}
-use Rattle.survey.proofs.Numbers.{one-number, number-whole-part, number-found, number-in, cell-not-outside, outside-exactly}
+use Rattle.survey.proofs.Numbers.{one-number, number-whole-part, number-far, number-found, number-in, has-below, has-exactly, has-not-outside, outside-exactly}
 use Rattle.grids.specs.Inside.{Counted}
 use Rattle.grids.proofs.Shapes.{counted}
 use Rattle.survey.proofs.Survey.{placed, point-fine}
 use Rattle.survey.proofs.Lookups.{cell-given, cell-found, look-given}
-use Rattle.claims.specs.Points.{OneAnswer, Coordinate, OnlyOne, InItsCell, Finite, TheCell, Outside, Exact, Shares}
-use Rattle.claims.specs.Points.{Refuted, Every, table, cube, placement, metres, tenths, point, cell-is}
+use Rattle.claims.specs.Tables.{no-more, _and_}
+use Rattle.claims.specs.Points.{OneAnswer, Coordinate, OneCoordinate, OnlyOne, InItsCell, Finite, TheCell, Outside, Exact, Shares}
+use Rattle.claims.specs.Points.{Refuted, Every, table, wall-rows, cube, placement, metres, tenths, next-above, point, cell-is, refused}
 
 pub one-answer : (n : Counts) (at : Placement) (p : Point) → OneAnswer n at p
 one-answer n at p = record { alone = λ r s e f. e .says ∙ sym (f .says) }
@@ -39,20 +41,35 @@ one-answer n at p = record { alone = λ r s e f. e .says ∙ sym (f .says) }
 
 pub only-one : (q : Float) → OnlyOne q
 only-one q = record {
-  only = λ k m small below there i. one-number q m k below (omega arith) i there;
+  only = λ k m small below there i. one-number q m k below small i there;
   part = λ k small there. number-whole-part q k small there;
 }
 
 -- where q is inside, the definition's number is the coordinate
 coordinate : (count : ℕ) (q : Float) → Inside count q → Coordinate count q (pos (cell-number count q))
-coordinate count q h = let (below, there) = number-in count q h in record { number = cell-number count q; same = refl; below = below; there = there }
+coordinate count q h = let (below, has) = number-in count q h in record { number = cell-number count q; same = refl; below = below; has = has }
 
 -- a coordinate is the definition's number, and its quotient is not outside
 coordinate-is : (count : ℕ) (q : Float) (z : ℤ) → count ≤ 1024 → Coordinate count q z → z ≡ pos (cell-number count q)
-coordinate-is count q z small k = k .same ∙ ap pos (sym (number-found count (k .number) q (omega arith) (k .below) (k .there)))
+coordinate-is count q z small k = k .same ∙ ap pos (sym (number-found count (k .number) q (omega arith) (k .below) (k .has)))
 
 coordinate-inside : (count : ℕ) (q : Float) (z : ℤ) → count ≤ 1024 → Coordinate count q z → outside count q ≡ false
-coordinate-inside count q z small k = cell-not-outside q count (k .number) (omega arith) (k .below) (k .there)
+coordinate-inside count q z small k = has-not-outside count (k .number) q (omega arith) (k .below) (k .has)
+
+pub one-coordinate : (count : ℕ) (q : Float) → OneCoordinate count q
+one-coordinate count q =
+    record {
+      exists = λ some small. (
+        λ (z, k). has-exactly count q some (omega arith) .0 (k .number, k .below, k .has),
+        λ within. let (n, below, has) = has-exactly count q some (omega arith) .1 within in
+            (pos n, record { number = n; same = refl; below = below; has = has }),
+      );
+      only = λ y z small j k. coordinate-is count q y small j ∙ sym (coordinate-is count q z small k);
+      there = λ z small upto k. has-below count (k .number) q upto (k .has);
+      part = λ z small upto k.
+          k .same ∙ ap pos (sym (number-whole-part q (k .number) (let l = k .below in omega arith) (has-below count (k .number) q upto (k .has))));
+      last = λ z small far k. coordinate-is count q z small k ∙ ap pos (number-far count q far);
+    }
 
 -- so a cell with these coordinates is the definition's
 cell-is-at : (n : Counts) (q : Point) (c : cell.Cell) → Counted n → InItsCell n q c → c ≡ cell-at n q
@@ -107,7 +124,11 @@ outside-holds n at p =
             quotient-no-nan (p .y) (at .oy) (at .edge) (f .y) (l .y) (l .edge) (l .above),
             quotient-no-nan (p .z) (at .oz) (at .edge) (f .z) (l .z) (l .edge) (l .above),
           );
-      exactly = λ count q small p. outside-exactly q count (omega arith) p;
+      exactly = λ count q some small number.
+          let (none, lost) = outside-exactly count q some (omega arith) number in (
+            λ o z k. none o (k .number) (k .below) (k .has),
+            λ none. lost (λ k below has. none (pos k) (record { number = k; same = refl; below = below; has = has })),
+          );
     }
 
 pub conversion-exact : (k : ℕ) → Exact k
@@ -119,39 +140,51 @@ shares = record { half = refl; third = refl; three-tenths = refl; start = refl }
 
 -- ---- the table, and wrong answers
 
-pub surveyed : Every table
-unfolding cell-of le lt ofInt div sub neg
-surveyed = (
-  refl,
-  (
-    refl,
-    (
-      refl,
-      (
-        refl,
-        (
-          refl,
-          (refl, (refl, (refl, (refl, (refl, (refl, (refl, (refl, (refl, (refl, (refl, (refl, (refl, (refl, (refl, tt))))))))))))))),
-        ),
-      ),
-    ),
-  ),
-)
+walls-hold : Every wall-rows
+unfolding cell-of eq le lt ofInt div sub neg ofBits toBits
+walls-hold =
+    refl and refl and refl and refl and refl and refl and refl and refl and refl and refl and refl and refl and refl and refl and refl and
+    refl and refl and refl and refl and refl and refl and no-more
 
--- what the definition says at that input
+pub surveyed : Every table
+unfolding cell-of eq le lt ofInt div sub neg
+surveyed =
+    refl and refl and refl and refl and refl and refl and refl and refl and refl and refl and refl and refl and refl and refl and refl and
+    refl and refl and refl and walls-hold
+
+-- what the definition says at 1.5 m, on the far wall and behind it
 at-one-and-a-half : told-lookup (cell-of (cube 4) (placement (metres 0) (metres 1)) (point (tenths 15) (metres 0) (metres 0))) ≡ cell-is 1 0 0
-unfolding cell-of le lt ofInt div sub
+unfolding cell-of eq le lt ofInt div sub
 at-one-and-a-half = refl
 
--- the x of an answer's cell, 0 where there is none
-x-of : Told ⊎ cell.Cell → ℕ
-x-of (inl t) = 0
-x-of (inr c) = natAbs (c .x)
+at-the-wall : told-lookup (cell-of (cube 4) (placement (metres 0) (metres 1)) (point (metres 4) (metres 0) (metres 0))) ≡ cell-is 3 0 0
+unfolding cell-of eq le lt ofInt div sub
+at-the-wall = refl
+
+behind-the-wall : told-lookup (cell-of (cube 4) (placement (metres 0) (metres 1)) (point (next-above 4) (metres 0) (metres 0))) ≡ refused (at-end 9 P X)
+unfolding cell-of eq le lt ofInt div sub ofBits toBits
+behind-the-wall = refl
+
+-- the x of an answer's cell, 0 where there is none; and whether there is one, 1 or 0
+x-of : Told ⊎ cell.Cell → ℤ
+x-of (inl t) = pos 0
+x-of (inr c) = c .x
+
+found : Told ⊎ cell.Cell → ℕ
+found (inl t) = 0
+found (inr c) = 1
+
+-- an answer that meets the contract says what the definition does
+says : {n : Counts} {at : Placement} {p : Point} {r : Lookup} {t : Told ⊎ cell.Cell} → told-lookup (cell-of n at p) ≡ t → LooksUp n at p r → told-lookup r ≡ t
+says is h = ap told-lookup (h .says) ∙ is
 
 pub refuted : Refuted
-unfolding x-of
+unfolding x-of found
 refuted =
     record {
-      always-first-cell = λ c. let z : _≡_ {A = ℕ} 1 0 = ap x-of (sym at-one-and-a-half ∙ ap told-lookup (sym (c .says))) in omega arith;
-      refuses-always = λ r c. let z : _≡_ {A = ℕ} 1 0 = ap x-of (sym at-one-and-a-half ∙ ap told-lookup (sym (c .says))) in omega arith;
+      always-first-cell = λ h. let z : _≡_ {A = ℕ} 0 1 = ap (λ t. natAbs (x-of t)) (says at-one-and-a-half h) in omega arith;
+      refuses-always = λ r h. let z : _≡_ {A = ℕ} 0 1 = ap found (says at-one-and-a-half h) in omega arith;
+      wall-refused = λ r h. let z : _≡_ {A = ℕ} 0 1 = ap found (says at-the-wall h) in omega arith;
+      wall-to-another = λ c other h. other (ap x-of (says at-the-wall h));
+      behind-accepted = λ c h. let z : _≡_ {A = ℕ} 1 0 = ap found (says behind-the-wall h) in omega arith;
     }

@@ -8,7 +8,8 @@ use Rattle.records.specs.Pairs.{signed, pair-version, pair-length, rule-byte, p
 use Rattle.walks.specs.Answers.{first-hit}
 use Rattle.texts.specs.Text.{decimal, hit-line, clear-line, pair-refused-line, venue-refused-line}
 use Rattle.program.specs.Program.{beyond, output}
-use Rattle.claims.specs.Starred.{Every, no-more, _and_}
+use Rattle.claims.specs.Tables.{no-more, _and_}
+use Rattle.claims.specs.Starred.{Every}
 use Rattle.claims.specs.ProgramRows.{more-program-rows}
 
 pub more-programs-hold : Every more-program-rows

@@ -4,10 +4,11 @@ use mathlib.Core.Path.{_≡_, refl, sym, ap, ap₂, _∙_}
 use mathlib.Core.Bool.{cond}
 use mathlib.Core.List.{List}
 use native.Mathlib.Omega.{arith}
-use lib.Ieee.{le, lt, ofInt, div, sub}
+use lib.Ieee.{eq, le, lt, ofInt, div, sub}
 use lib.ListN.{length}
 use Rattle.cells.specs.declared.Cell as cell
 use Rattle.cells.specs.declared.Counts.{Counts}
+use Rattle.cells.specs.declared.End.{End}
 use Rattle.cells.specs.declared.End.the-variants.{P, Q}
 use Rattle.cells.specs.declared.Axis.the-variants.{Y}
 use Rattle.cells.specs.declared.Face.the-variants as Face
@@ -38,6 +39,10 @@ use Rattle.sight.specs.Sight.{share-of, sight-of, seen, looked, sight, Sees}
 use Rattle.sight.proofs.Seen.{looked-is, sight-is, camera-refused, both-found}
 use Rattle.claims.proofs.Story.{nothing-in-the-way}
 use Rattle.claims.specs.Sights.{SeenOnce, AsTheWalk, NothingInSight, CameraFirst, BlockedAsHit, Seen-there, Seen-back, Housed, WrongSights}
+use Rattle.claims.specs.Sights.{Ball-on-walls, Camera-on-walls}
+use Rattle.claims.specs.Example.{example-counts, at}
+use Rattle.claims.specs.Points.{metres, placement, point}
+use Rattle.claims.specs.Starred.{halves}
 
 -- 0 clear, 1 blocked, 2 refused
 kind : Sight → ℕ
@@ -165,8 +170,34 @@ camera-first how n l at camera =
 
 -- ---- wrong sights
 
+-- points that are looked up alike are seen alike
+seen-alike : (how : Manner) (n : Counts) (l : List ℕ) (at : Placement) (camera ball camera′ ball′ : Point) → look-up P n at camera ≡ look-up P n at camera′ →
+    look-up Q n at ball ≡ look-up Q n at ball′ → (s : Sight) → Sees how n l at camera ball s → Sees how n l at camera′ ball′ s
+seen-alike how n l at camera ball camera′ ball′ from to s h =
+    record {
+      says = h .says ∙ sight-is how n l at camera ball ∙
+          ap (λ s. by-verdict Refused s (shape n (length l) then placement-check at))
+          (looked-is how n l at camera ball ∙ ap₂ (seen how n l) from to ∙ sym (looked-is how n l at camera′ ball′))
+          ∙ sym (sight-is how n l at camera′ ball′);
+    }
+
+-- the far corner is looked up as the middle of its cell, (3,1,0)
+corner-looked-up : (e : End) → look-up e example-counts (placement (metres 0) (metres 1)) (point (metres 4) (metres 2) (metres 1)) ≡ Lookup.Cell (at 3 1 0)
+unfolding look-up eq le lt ofInt div sub
+corner-looked-up e = refl
+
+middle-looked-up : (e : End) → look-up e example-counts (placement (metres 0) (metres 1)) (point (halves 7) (halves 3) (halves 1)) ≡ Lookup.Cell (at 3 1 0)
+unfolding look-up eq le lt ofInt div sub
+middle-looked-up e = refl
+
+ball-as-there : (how : Manner) (s : Sight) → Ball-on-walls how s → Seen-there how s
+ball-as-there how s h = seen-alike how _ _ _ _ _ _ _ refl (corner-looked-up Q ∙ sym (middle-looked-up Q)) s h
+
+camera-as-back : (how : Manner) (s : Sight) → Camera-on-walls how s → Seen-back how s
+camera-as-back how s h = seen-alike how _ _ _ _ _ _ _ (corner-looked-up P ∙ sym (middle-looked-up P)) refl s h
+
 pub wrong-sights : WrongSights
-unfolding kind block-or sight le lt ofInt div sub
+unfolding kind block-or sight eq le lt ofInt div sub
 wrong-sights =
     record {
       clear-always = λ how. not-there (how .start) (how .rule);
@@ -176,6 +207,8 @@ wrong-sights =
       housing-passed = λ how tested h. blocked-there (how .start) (how .rule) tested h;
       rule-ignored = back-blocked;
       always-rule-2 = back-clear;
+      ball-refused = λ how r h. not-refused (how .start) (how .rule) r (ball-as-there how (Refused r) h);
+      camera-refused = λ how r h. back-not-refused (how .start) (how .rule) r (camera-as-back how (Refused r) h);
     }
   where
     not-there : (s : Start) (u : Rule) → Seen-there (record { start = s; rule = u }) Clear → ⊥
@@ -208,3 +241,9 @@ wrong-sights =
     back-clear : (s : Start) (b : Block) → Seen-back (record { start = s; rule = One }) (Blocked b) → ⊥
     back-clear Untested b h = let z : _≡_ {A = ℕ} 1 0 = ap kind (h .says) in omega arith
     back-clear Tested b h = let z : _≡_ {A = ℕ} 1 0 = ap kind (h .says) in omega arith
+
+    back-not-refused : (s : Start) (u : Rule) (r : Refusal) → Seen-back (record { start = s; rule = u }) (Refused r) → ⊥
+    back-not-refused Untested One r h = let z : _≡_ {A = ℕ} 2 0 = ap kind (h .says) in omega arith
+    back-not-refused Untested Two r h = let z : _≡_ {A = ℕ} 2 1 = ap kind (h .says) in omega arith
+    back-not-refused Tested One r h = let z : _≡_ {A = ℕ} 2 0 = ap kind (h .says) in omega arith
+    back-not-refused Tested Two r h = let z : _≡_ {A = ℕ} 2 1 = ap kind (h .says) in omega arith

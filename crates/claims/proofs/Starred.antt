@@ -1,6 +1,6 @@
 -- Every row of the table of starred cases holds: the definitions compute to what SCOPE says. Assumes nothing.
 use mathlib.Core.Path.{_≡_, refl}
-use lib.Ieee.{le, lt, ofInt, ofBits, div, sub}
+use lib.Ieee.{eq, le, lt, ofInt, ofBits, toBits, div, sub}
 use Rattle.cells.specs.Manners.{rule-of, rule-check}
 use Rattle.lines.specs.Preference.{order-of}
 use Rattle.lines.specs.Lines.{six-line, line-26}
@@ -14,7 +14,8 @@ use Rattle.texts.specs.Text.{decimal, hit-line, clear-line}
 use Rattle.program.specs.Program.{beyond, output}
 use Rattle.sight.specs.Sight.{sight}
 use Rattle.claims.specs.Program.{example-input, example-output}
-use Rattle.claims.specs.Starred.{Every, no-more, _and_, program-rows, record-rows, sight-rows, rule-rows, start-rows, table}
+use Rattle.claims.specs.Tables.{no-more, _and_}
+use Rattle.claims.specs.Starred.{Every, program-rows, record-rows, sight-rows, rule-rows, start-rows, table}
 
 pub example-writes : output example-input ≡ example-output
 unfolding beyond output decimal hit-line clear-line shape whole-check venue-version venue-head venue-check venue-read venue-cells signed pair-version
@@ -34,8 +35,8 @@ records-hold =
     programs-hold
 
 sights-hold : Every sight-rows
-unfolding sight le lt ofInt ofBits div sub
-sights-hold = refl and refl and refl and refl and refl and refl and refl and records-hold
+unfolding sight eq le lt ofInt ofBits toBits div sub
+sights-hold = refl and refl and refl and refl and refl and refl and refl and refl and refl and refl and refl and refl and refl and records-hold
 
 rules-hold : Every rule-rows
 unfolding first-hit six-line order-of

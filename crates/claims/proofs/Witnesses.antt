@@ -2,11 +2,11 @@
 use Prim.Native.Nat.{ℕ, zero, suc, _+_, _*_, _<_}
 use mathlib.Core.Path.{_≡_, refl, sym, subst}
 use mathlib.Core.Bool.{Bool, true, false, _&&_}
-use mathlib.Core.Logic.{inl, _≢_}
+use mathlib.Core.Logic.{inl, inr, _≢_}
 use mathlib.Core.List.{List, [], _∷_}
 use native.Mathlib.Omega.{arith}
 use lib.Dec.{ltb, lit<}
-use lib.Ieee.{le, lt, ofInt, div, sub}
+use lib.Ieee.{eq, le, lt, ofInt, div, sub}
 use lib.ListN.{getD}
 use borrow.Author.Tests.{ltb-true}
 use Rattle.cells.specs.declared.Axis.{Axis}
@@ -103,17 +103,25 @@ of-grids =
     }
 
 pub of-points : OfPoints
-unfolding count-check placement-check cell-of sight le lt ofInt div sub
+unfolding count-check placement-check cell-of sight eq le lt ofInt div sub
 of-points =
     record {
       tested = record { counts = refl; placed = refl };
       finite = record { x = refl; y = refl; z = refl };
       in-its-cell = record {
-        x = record { number = 1; same = refl; below = lit< tt; there = refl };
-        y = record { number = 0; same = refl; below = lit< tt; there = refl };
-        z = record { number = 3; same = refl; below = lit< tt; there = refl };
+        x = record { number = 1; same = refl; below = lit< tt; has = inl refl };
+        y = record { number = 0; same = refl; below = lit< tt; has = inl refl };
+        z = record { number = 3; same = refl; below = lit< tt; has = inl refl };
       };
       looked-up = record { says = refl };
+      in-last-cell = record {
+        x = record { number = 3; same = refl; below = lit< tt; has = inr (refl, refl) };
+        y = record { number = 3; same = refl; below = lit< tt; has = inr (refl, refl) };
+        z = record { number = 3; same = refl; below = lit< tt; has = inr (refl, refl) };
+      };
+      on-first = refl;
+      was-refused = refl;
+      behind-first = refl;
       off-survey = refl;
       seen = record { says = refl };
       blocked = record { says = refl };

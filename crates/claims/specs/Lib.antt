@@ -1,6 +1,7 @@
 pub mod Headline
 pub mod Words
 pub mod Example
+pub mod Tables
 pub mod Starred
 pub mod Lines
 pub mod Lists
@@ -9,6 +10,7 @@ pub mod Story
 pub mod Starts
 pub mod Rules
 pub mod Points
+pub mod FarWall
 pub mod Sights
 pub mod Records
 pub mod Refused

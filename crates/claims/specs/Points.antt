@@ -1,11 +1,11 @@
 -- What is claimed of a surveyed point's cell (SCOPE, S), for every counts, placement and point. Assumes nothing.
-use Prim.Native.Nat.{ℕ, _^_, _≤_, _<_}
+use Prim.Native.Nat.{ℕ, _+_, _-_, _^_, _≤_, _<_}
 use mathlib.Core.Path.{_≡_}
 use mathlib.Core.Bool.{true, false}
 use mathlib.Core.Logic.{_↔_, _⊎_, inl, inr}
 use mathlib.Core.List.{List, [], _∷_}
 use lib.IntN.{ℤ, pos, negsuc}
-use lib.Ieee.{Float, nan, inf, fin, binary64, div, neg, isNan, toUnsigned, toBits}
+use lib.Ieee.{Float, nan, inf, fin, binary64, div, neg, lt, le, isNan, toUnsigned, ofBits, toBits}
 use lib.Ieee.Exact.{HasValue}
 use lib.Ieee.Scale.{finite}
 use Rattle.cells.specs.declared.Axis.the-variants.{X, Y, Z}
@@ -22,24 +22,34 @@ use Rattle.survey.specs.declared.Lookup.{Lookup}
 use Rattle.survey.specs.declared.Lookup.the-variants.{Cell, Refused}
 use Rattle.survey.specs.declared.Placement.{Placement}
 use Rattle.survey.specs.declared.Point.{Point}
-use Rattle.survey.specs.Quotient.{as-f64, outside, in-cell}
+use Rattle.survey.specs.Quotient.{as-f64, outside, in-cell, on-far-face, Has}
 use Rattle.sight.specs.Sight.{share-of}
 use Rattle.survey.specs.Survey.{PlacedGrid, quotients, look-up, cell-of, LooksUp, told-lookup}
+use Rattle.claims.specs.Example.{counts}
+use Rattle.claims.specs.Tables.{EachRow}
 
 -- 1. One answer for each input.
 pub record OneAnswer (n : Counts) (at : Placement) (p : Point) : Type 0 where
   pub alone : (r s : Lookup) → LooksUp n at p r → LooksUp n at p s → r ≡ s
 
--- 2. On one axis: the coordinate z is a whole number below the count with z ≤ q < z+1.
+-- 2. On one axis: the coordinate z is a whole number below the count whose cell has q: z ≤ q < z+1, or q equals the count and z is the last.
 pub record Coordinate (count : ℕ) (q : Float) (z : ℤ) : Type 0 where
   pub number : ℕ
   pub same : z ≡ pos number
   pub below : number < count
-  pub there : in-cell q number ≡ true
+  pub has : Has count q number
 
--- no other whole number below 2^53 is such; and it is q's whole part
+-- there is one exactly where 0 ≤ q ≤ count, and no other; below the count it is q's whole part, with z ≤ q < z+1, and at the count it is the last
+pub record OneCoordinate (count : ℕ) (q : Float) : Type 0 where
+  pub exists : 0 < count → count ≤ 1024 → ((z : ℤ) × Coordinate count q z) ↔ ((le (as-f64 0) q ≡ true) × (le q (as-f64 count) ≡ true))
+  pub only : (y z : ℤ) → count ≤ 1024 → Coordinate count q y → Coordinate count q z → y ≡ z
+  pub there : (z : ℤ) → count ≤ 1024 → lt q (as-f64 count) ≡ true → (h : Coordinate count q z) → in-cell q (h .number) ≡ true
+  pub part : (z : ℤ) → count ≤ 1024 → lt q (as-f64 count) ≡ true → Coordinate count q z → z ≡ pos (toUnsigned 32 q)
+  pub last : (z : ℤ) → count ≤ 1024 → on-far-face count q ≡ true → Coordinate count q z → z ≡ pos (count - 1)
+
+-- no two whole numbers below 2^53 have k ≤ q < k+1; and one below 2^32 that has it is q's whole part
 pub record OnlyOne (q : Float) : Type 0 where
-  pub only : (k m : ℕ) → k < 2 ^ 32 → m < 2 ^ 53 → in-cell q k ≡ true → in-cell q m ≡ true → m ≡ k
+  pub only : (k m : ℕ) → k < 2 ^ 53 → m < 2 ^ 53 → in-cell q k ≡ true → in-cell q m ≡ true → m ≡ k
   pub part : (k : ℕ) → k < 2 ^ 32 → in-cell q k ≡ true → toUnsigned 32 q ≡ k
 
 -- on the three axes
@@ -55,7 +65,7 @@ pub record Finite (p : Point) : Type 0 where
   pub z : finite (p .z) ≡ true
   -- no more is asked
 
--- 3. An answer that is a cell is the cell where the point's quotients lie; and where there is such a cell, it is the answer. Of the call, and of
+-- 3. An answer that is a cell is the one that has the point's quotients; and where there is such a cell, it is the answer. Of the call, and of
 -- the lookups that a sight makes, of the camera as P and of the ball as Q.
 pub record TheCell (n : Counts) (at : Placement) (p : Point) : Type 0 where
   pub given : (c : cell.Cell) → LooksUp n at p (Cell c) → PlacedGrid n at × InItsCell n (quotients at p) c
@@ -63,12 +73,12 @@ pub record TheCell (n : Counts) (at : Placement) (p : Point) : Type 0 where
   pub end-given : (e : End) (c : cell.Cell) → PlacedGrid n at → look-up e n at p ≡ Cell c → InItsCell n (quotients at p) c
   pub end-found : (e : End) (c : cell.Cell) → PlacedGrid n at → Finite p → InItsCell n (quotients at p) c → look-up e n at p ≡ Cell c
 
--- 4. With counts and placement that pass their tests and finite values, no quotient is NaN; and a quotient is outside exactly when no whole
--- number k below the count has k ≤ q < k+1.
+-- 4. With counts and placement that pass their tests and finite values, no quotient is NaN; and a quotient is outside, below 0 or above the count,
+-- exactly when it has no coordinate.
 pub record Outside (n : Counts) (at : Placement) (p : Point) : Type 0 where
   pub numbers : PlacedGrid n at → Finite p →
       (isNan (quotients at p .x) ≡ false) × (isNan (quotients at p .y) ≡ false) × (isNan (quotients at p .z) ≡ false)
-  pub exactly : (count : ℕ) (q : Float) → count ≤ 1024 → isNan q ≡ false → (outside count q ≡ true) ↔ ((k : ℕ) → k < count → in-cell q k ≡ false)
+  pub exactly : (count : ℕ) (q : Float) → 0 < count → count ≤ 1024 → isNan q ≡ false → (outside count q ≡ true) ↔ ((z : ℤ) → ¬ (Coordinate count q z))
 
 -- 5. Every whole number up to 2^53 is made f64 exactly: its value is the number over 1. All counts and all numbers of 32 bits are among them.
 pub record Exact (k : ℕ) : Type 0 where
@@ -94,6 +104,13 @@ tenths k = div binary64 (as-f64 k) (as-f64 10)
 -- the least f64 above 0
 abbrev pub smallest : Float
 smallest = fin false 1 (negsuc 1073)
+
+-- the f64 next to k metres, by its bits: above it, and below
+abbrev pub next-above : ℕ → Float
+next-above k = ofBits binary64 (toBits binary64 (metres k) + 1)
+
+abbrev pub next-below : ℕ → Float
+next-below k = ofBits binary64 (toBits binary64 (metres k) - 1)
 
 -- the three counts alike
 abbrev pub cube : ℕ → Counts
@@ -129,11 +146,40 @@ Holds (row n at p says) = told-lookup (cell-of n at p) ≡ says
 
 -- every row of a table holds
 abbrev pub Every : List Row → Type 0
-Every [] = Unit {0}
-Every (r ∷ rows) = Holds r × Every rows
+Every = EachRow Holds
+
+-- the far walls of cubes of 1, 3 and 1,024 cells: the count itself and the f64 below it are the last cell's, the one above is refused 9, on each axis
+abbrev pub wall-rows : List Row
+wall-rows =
+    row (cube 1) (placement (metres 0) (metres 1)) (point (next-below 1) (metres 1) (metres 1)) (cell-is 0 0 0)
+    ∷ row (cube 1) (placement (metres 0) (metres 1)) (point (metres 1) (next-below 1) (next-below 1)) (cell-is 0 0 0)
+    ∷ row (cube 1) (placement (metres 0) (metres 1)) (point (next-above 1) (metres 1) (metres 1)) (refused (at-end 9 P X))
+    ∷ row (cube 1) (placement (metres 0) (metres 1)) (point (metres 1) (next-above 1) (metres 1)) (refused (at-end 9 P Y))
+    ∷ row (cube 1) (placement (metres 0) (metres 1)) (point (metres 1) (metres 1) (next-above 1)) (refused (at-end 9 P Z))
+    ∷ row (cube 3) (placement (metres 0) (metres 1)) (point (next-below 3) (metres 3) (metres 3)) (cell-is 2 2 2)
+    ∷ row (cube 3) (placement (metres 0) (metres 1)) (point (metres 3) (next-below 3) (next-below 3)) (cell-is 2 2 2)
+    ∷ row (cube 3) (placement (metres 0) (metres 1)) (point (next-above 3) (metres 3) (metres 3)) (refused (at-end 9 P X))
+    ∷ row (cube 3) (placement (metres 0) (metres 1)) (point (metres 3) (next-above 3) (metres 3)) (refused (at-end 9 P Y))
+    ∷ row (cube 3) (placement (metres 0) (metres 1)) (point (metres 3) (metres 3) (next-above 3)) (refused (at-end 9 P Z))
+    ∷ row (cube 1024) (placement (metres 0) (metres 1)) (point (next-below 1024) (metres 1024) (metres 1024)) (cell-is 1023 1023 1023)
+    ∷ row (cube 1024) (placement (metres 0) (metres 1)) (point (metres 1024) (next-below 1024) (next-below 1024)) (cell-is 1023 1023 1023)
+    ∷ row (cube 1024) (placement (metres 0) (metres 1)) (point (next-above 1024) (metres 1024) (metres 1024)) (refused (at-end 9 P X))
+    ∷ row (cube 1024) (placement (metres 0) (metres 1)) (point (metres 1024) (next-above 1024) (metres 1024)) (refused (at-end 9 P Y))
+    ∷ row (cube 1024) (placement (metres 0) (metres 1)) (point (metres 1024) (metres 1024) (next-above 1024)) (refused (at-end 9 P Z))
+    -- one wall alone, each
+    ∷ row (cube 4) (placement (metres 0) (metres 1)) (point (metres 4) (metres 0) (metres 0)) (cell-is 3 0 0)
+    ∷ row (cube 4) (placement (metres 0) (metres 1)) (point (metres 0) (metres 4) (metres 0)) (cell-is 0 3 0)
+    ∷ row (cube 4) (placement (metres 0) (metres 1)) (point (metres 0) (metres 0) (metres 4)) (cell-is 0 0 3)
+    -- the rounded q decides. Of the f64 nearest to these tenths, (0.9 - 0.1) / 0.2 is less than 4 and rounds to it, (1.1 - 0.1) / 0.2 is more than 5 and rounds
+    -- to it; and (0.9 - 0.3) / 0.2 is 3, and rounds to more
+    ∷ row (counts 4 5 3) (placement (tenths 1) (tenths 2)) (point (tenths 9) (tenths 11) (tenths 7)) (cell-is 3 4 2)
+    ∷ row (counts 3 4 1) (placement (tenths 3) (tenths 2)) (point (tenths 9) (tenths 3) (tenths 3)) (refused (at-end 9 P X))
+    -- the wall of x is passed, so that y is what is refused
+    ∷ row (cube 4) (placement (metres 0) (metres 1)) (point (metres 4) nan (metres 9)) (refused (at-end 8 P Y))
+    ∷ []
 
 -- accepted: 1.5 m at an edge of 1 m; 1,024 cells; minus zero; (0.7 - 0.1) / 0.2, which rounds to less than 3; a quotient that rounds to minus zero.
--- Refused: below 0, at the count, an infinite quotient (9); NaN and an infinity (8), x before y; edges 0.0, NaN, infinite, -1 and an origin
+-- Refused: below 0, above the count, an infinite quotient (9); NaN and an infinity (8), x before y; edges 0.0, NaN, infinite, -1 and an origin
 -- NaN (7); counts 0 and 1,025 (2), before 7.
 abbrev pub table : List Row
 table =
@@ -143,9 +189,7 @@ table =
     ∷ row (cube 4) (placement (tenths 1) (tenths 2)) (point (tenths 7) (tenths 1) (tenths 3)) (cell-is 2 0 0)
     ∷ row (cube 4) (placement (metres 0) (metres 4)) (point (neg smallest) (metres 5) (metres 15)) (cell-is 0 1 3)
     ∷ row (cube 4) (placement (metres 0) (metres 1)) (point (neg smallest) (metres 0) (metres 0)) (refused (at-end 9 P X))
-    ∷ row (cube 4) (placement (metres 0) (metres 1)) (point (metres 4) (metres 0) (metres 0)) (refused (at-end 9 P X))
-    ∷ row (cube 4) (placement (metres 0) (metres 1)) (point (metres 0) (metres 4) (metres 0)) (refused (at-end 9 P Y))
-    ∷ row (cube 4) (placement (metres 0) (metres 1)) (point (metres 0) (metres 0) (metres 4)) (refused (at-end 9 P Z))
+    ∷ row (cube 4) (placement (metres 0) (metres 1)) (point (metres 0) (metres 5) (metres 0)) (refused (at-end 9 P Y))
     ∷ row (cube 4) (placement (metres 0) smallest) (point (metres 0) (metres 1) (metres 0)) (refused (at-end 9 P Y))
     ∷ row (cube 4) (placement (metres 0) (metres 1)) (point (metres 0) nan (metres 0)) (refused (at-end 8 P Y))
     ∷ row (cube 4) (placement (metres 0) (metres 1)) (point (inf true) nan nan) (refused (at-end 8 P X))
@@ -157,7 +201,7 @@ table =
     ∷ row (cube 4) (placement nan nan) (point (metres 0) (metres 0) (metres 0)) (placement-refused OriginX)
     ∷ row (cube 0) (placement nan nan) (point nan nan nan) (count-refused X)
     ∷ row (cube 1025) (placement (metres 0) (metres 1)) (point (metres 0) (metres 0) (metres 0)) (count-refused X)
-    ∷ []
+    ∷ wall-rows
 
 -- ---- wrong answers that the contract rules out
 
@@ -165,6 +209,17 @@ table =
 abbrev pub Found-there : Lookup → Type 0
 Found-there = LooksUp (cube 4) (placement (metres 0) (metres 1)) (point (tenths 15) (metres 0) (metres 0))
 
+-- on the far wall of x, 4 m of 4 cells; and the next f64 behind it
+abbrev pub Found-on-wall : Lookup → Type 0
+Found-on-wall = LooksUp (cube 4) (placement (metres 0) (metres 1)) (point (metres 4) (metres 0) (metres 0))
+
+abbrev pub Found-behind : Lookup → Type 0
+Found-behind = LooksUp (cube 4) (placement (metres 0) (metres 1)) (point (next-above 4) (metres 0) (metres 0))
+
 pub record Refuted : Type 0 where
   pub always-first-cell : Found-there (Cell (record { x = pos 0; y = pos 0; z = pos 0 })) → ⊥
   pub refuses-always : (r : Refusal) → Found-there (Refused r) → ⊥
+  -- the far wall refused; given to the first cell, or to the cell behind the last; a cell behind it
+  pub wall-refused : (r : Refusal) → Found-on-wall (Refused r) → ⊥
+  pub wall-to-another : (c : cell.Cell) → (c .x ≡ pos 3 → ⊥) → Found-on-wall (Cell c) → ⊥
+  pub behind-accepted : (c : cell.Cell) → Found-behind (Cell c) → ⊥

@@ -9,7 +9,7 @@ use lib.IntN.{ℤ, pos, negℤ}
 use lib.Signed.{_<ℤ_, _≤ℤ_}
 use lib.ListN.{length, getD}
 use denote.Ref.{RefT}
-use lib.Ieee.{Float, binary64, sub, div, lt, le}
+use lib.Ieee.{Float, binary64, sub, div, lt}
 use lib.Ieee.Scale.{finite}
 use Rattle.cells.specs.declared.Axis.{Axis}
 use Rattle.cells.specs.declared.Axis.the-variants.{X, Y, Z}
@@ -109,7 +109,7 @@ abbrev pub value-tests : (e : End) (a : Axis) (count : ℕ) (value origin edge :
 value-tests e a count value origin edge =
     let q : Float = div binary64 (sub binary64 value origin) edge in
     (finite value ≡ false) gives at-end 8 e a else
-    ((lt q (as-f64 0) ≡ true) ⊎ (le (as-f64 count) q ≡ true)) gives at-end 9 e a
+    ((lt q (as-f64 0) ≡ true) ⊎ (lt (as-f64 count) q ≡ true)) gives at-end 9 e a
 
 -- a surveyed point: x (8, then 9), y, z
 abbrev pub point-tests : End → Counts → Placement → Point → Tests

@@ -105,6 +105,15 @@ Housed how =
     Sees how example-counts marked-cells (placement (metres 0) (metres 1)) (point (halves 3) (halves 3) (halves 1))
     (point (halves 7) (halves 3) (halves 1))
 
+-- the ball in the far corner of the box, and the camera there: on the far walls of x, y and z
+abbrev pub Ball-on-walls : Manner → Sight → Type 0
+Ball-on-walls how =
+    Sees how example-counts marked-cells (placement (metres 0) (metres 1)) (point (halves 1) (halves 1) (halves 1)) (point (metres 4) (metres 2) (metres 1))
+
+abbrev pub Camera-on-walls : Manner → Sight → Type 0
+Camera-on-walls how =
+    Sees how example-counts marked-cells (placement (metres 0) (metres 1)) (point (metres 4) (metres 2) (metres 1)) (point (halves 1) (halves 1) (halves 1))
+
 pub record WrongSights : Type 0 where
   pub clear-always : (how : Manner) → Seen-there how Clear → ⊥
   pub refuses-always : (how : Manner) (r : Refusal) → Seen-there how (Refused r) → ⊥
@@ -116,3 +125,6 @@ pub record WrongSights : Type 0 where
   -- rule 2 is taken for rule 1, and rule 1 for rule 2
   pub rule-ignored : (start : Start) → Seen-back (record { start = start; rule = Two }) Clear → ⊥
   pub always-rule-2 : (start : Start) (b : Block) → Seen-back (record { start = start; rule = One }) (Blocked b) → ⊥
+  -- a point on the far walls is refused
+  pub ball-refused : (how : Manner) (r : Refusal) → Ball-on-walls how (Refused r) → ⊥
+  pub camera-refused : (how : Manner) (r : Refusal) → Camera-on-walls how (Refused r) → ⊥

@@ -37,7 +37,8 @@ use Rattle.survey.specs.declared.Point.{Point}
 use Rattle.survey.specs.Quotient.{as-f64}
 use Rattle.sight.specs.Sight as sights
 use Rattle.sight.specs.Sight.{sight, told-sight, blocked}
-use Rattle.claims.specs.Points.{metres, placement, point}
+use Rattle.claims.specs.Points.{metres, next-above, placement, point}
+use Rattle.claims.specs.Tables.{EachRow}
 use Rattle.claims.specs.Example.{counts, at, example-counts, example-cells, marked-cells}
 use Rattle.claims.specs.Rules.{low-post}
 use Rattle.claims.specs.Story.{long-bytes}
@@ -68,7 +69,7 @@ halves k = div binary64 (as-f64 k) (as-f64 2)
 -- room for so many numbers, and what the 6-line's call answers; counts, bytes, and the bytes marked; a walk, its manner, its grid and ends, and what
 -- it finds; a venue's record, its counts and its cells; a pair's record, P, Q and the rule, or what is said of its refusal; the program's whole
 -- input and output; or a manner, a grid, its placement, camera and ball, and the 64 bits of the share, the cell, code, reads and entry face of what
--- is in the way, or that nothing is
+-- is in the way, or that nothing is, or what is said of its refusal
 pub data Row : Type 0 where
   six : Rule → Cell → Cell → List Cell → Row
   orders : Cell → Cell → Order → Row
@@ -83,6 +84,7 @@ pub data Row : Type 0 where
   writes : List ℕ → List ℕ → Row
   sees : Manner → Counts → List ℕ → Placement → Point → Point → ℕ → Cell → ℕ → ℕ → Face → Row
   sees-clear : Manner → Counts → List ℕ → Placement → Point → Point → Row
+  sees-none : Manner → Counts → List ℕ → Placement → Point → Point → Told → Row
 
 -- what a row says
 abbrev pub Holds : Row → Type 0
@@ -98,15 +100,14 @@ Holds (venue-part s cells) = venue-cells s ≡ cells
 Holds (sees how n l place camera ball share c code reads face) =
     told-sight (sight how n l place camera ball) ≡ inr (blocked (record { share = ofBits binary64 share; cell = c; code = code; reads = reads; face = face }))
 Holds (sees-clear how n l place camera ball) = told-sight (sight how n l place camera ball) ≡ inr sights.clear
+Holds (sees-none how n l place camera ball t) = told-sight (sight how n l place camera ball) ≡ inl t
 Holds (pair s p q rule) = told-pair (pair-read s) ≡ inr (p, q, rule)
 Holds (no-pair s t) = told-pair (pair-read s) ≡ inl t
 Holds (writes s out) = output s ≡ out
 
-infixr 20 _and_
 -- every row of a table holds
-pub data Every : List Row → Type 0 where
-  no-more : Every []
-  _and_ : {row : Row} {rows : List Row} → Holds row → Every rows → Every (row ∷ rows)
+abbrev pub Every : List Row → Type 0
+Every = EachRow Holds
 
 -- the program on that input, and on the marked venue
 abbrev pub program-rows : List Row
@@ -162,6 +163,21 @@ sight-rows =
     (point (halves 1) (halves 1) (halves 1)) 0x3fe0_0000_0000_0000 (at 1 1 0) 2 3 (Face.Minus X)
     ∷ sees-clear (tested-by One) example-counts marked-cells (placement (metres 0) (metres 1)) (point (halves 7) (halves 3) (halves 1))
     (point (halves 1) (halves 1) (halves 1))
+    -- on the far walls, as from the middles of the last cells: the ball in the far corner, (3,1,0); the camera there; the camera on the wall of y alone,
+    -- in its housing (1,1,0); the ball on the wall of z alone
+    ∷ sees tested-start example-counts marked-cells (placement (metres 0) (metres 1)) (point (halves 1) (halves 1) (halves 1))
+    (point (metres 4) (metres 2) (metres 1)) 0x3fe0_0000_0000_0000 (at 1 1 0) 2 3 (Face.Plus Y)
+    ∷ sees (tested-by Two) example-counts marked-cells (placement (metres 0) (metres 1)) (point (metres 4) (metres 2) (metres 1))
+    (point (halves 1) (halves 1) (halves 1)) 0x3fe0_0000_0000_0000 (at 1 1 0) 2 3 (Face.Minus X)
+    ∷ sees tested-start example-counts marked-cells (placement (metres 0) (metres 1)) (point (halves 3) (metres 2) (halves 1))
+    (point (halves 7) (halves 3) (halves 1)) 0 (at 1 1 0) 2 1 Face.None
+    ∷ sees usual (counts 1 1 3) (0 ∷ 2 ∷ 0 ∷ []) (placement (metres 0) (metres 1)) (point (halves 1) (halves 1) (halves 1))
+    (point (halves 1) (halves 1) (metres 3)) 0x3fd0_0000_0000_0000 (at 0 0 1) 2 2 (Face.Plus Z)
+    -- behind them by the least f64: the camera on z, though the ball is behind on x; the ball on y, from a camera in the far corner
+    ∷ sees-none usual example-counts marked-cells (placement (metres 0) (metres 1)) (point (metres 4) (metres 2) (next-above 1))
+    (point (next-above 4) (metres 2) (metres 1)) (at-end 9 P Z)
+    ∷ sees-none usual example-counts marked-cells (placement (metres 0) (metres 1)) (point (metres 4) (metres 2) (metres 1))
+    (point (metres 4) (next-above 2) (metres 1)) (at-end 9 Q Y)
     ∷ record-rows
 
 -- rule 2, and rule 1 beside it where they differ. The order z, then y, then x says which end comes first: also below 0, and where x alone differs

@@ -53,6 +53,7 @@ use Rattle.claims.specs.Example.{counts, at, example-counts, example-cel
 use Rattle.claims.specs.Lists.{lowest, highest, room}
 use Rattle.claims.specs.Rules.{ComesFirst, four-cells, by-xzy}
 use Rattle.claims.specs.Points.{Finite, InItsCell, cube, metres, tenths, placement, point}
+use Rattle.claims.specs.FarWall.{look-up-before, on-wall}
 use Rattle.claims.specs.Records.{Right, RightPair, example-venue, example-pair, example-room, pair-by}
 use Rattle.claims.specs.ProgramRows.{no-cells}
 use Rattle.claims.specs.Starred.{halves}
@@ -137,8 +138,13 @@ pub record OfPoints : Type 0 where
   pub finite : Finite (point (tenths 15) (metres 0) (tenths 39))
   pub in-its-cell : InItsCell (cube 4) (quotients (placement (metres 0) (metres 1)) (point (tenths 15) (metres 0) (tenths 39))) (at 1 0 3)
   pub looked-up : LooksUp (cube 4) (placement (metres 0) (metres 1)) (point (tenths 15) (metres 0) (tenths 39)) (Lookup.Cell (at 1 0 3))
-  -- a camera on the far wall has no cell
-  pub off-survey : look-up P (cube 4) (placement (metres 0) (metres 1)) (point (metres 4) (metres 0) (metres 0)) ≡ Lookup.Refused (OffSurvey P X)
+  -- a point on the far walls; one on the first, which the half-open rule refused; and one behind it, which lies on none
+  pub in-last-cell : InItsCell (cube 4) (quotients (placement (metres 0) (metres 1)) (point (metres 4) (metres 4) (metres 4))) (at 3 3 3)
+  pub on-first : on-wall (cube 4) (placement (metres 0) (metres 1)) (point (metres 4) (metres 0) (metres 0)) X ≡ true
+  pub was-refused : look-up-before P (cube 4) (placement (metres 0) (metres 1)) (point (metres 4) (metres 0) (metres 0)) ≡ Lookup.Refused (OffSurvey P X)
+  pub behind-first : on-wall (cube 4) (placement (metres 0) (metres 1)) (point (metres 5) (metres 0) (metres 0)) X ≡ false
+  -- a camera behind the far wall has no cell
+  pub off-survey : look-up P (cube 4) (placement (metres 0) (metres 1)) (point (metres 5) (metres 0) (metres 0)) ≡ Lookup.Refused (OffSurvey P X)
   -- a clear sight over complete marks
   pub seen : Sees usual (counts 3 2 1) all-clear (placement (metres 0) (metres 1)) (point (halves 1) (halves 1) (halves 1))
       (point (halves 5) (halves 3) (halves 1)) Sight.Clear

@@ -65,7 +65,7 @@ module _ (n : Counts) (at : Placement) (p : Point) where
 -- ---- an answer that is a cell
 
 -- a cell is no refusal
-no-refusal : (c : cell.Cell) (r : Refusal) → ¬ (Refused r ≡ Cell c)
+pub no-refusal : (c : cell.Cell) (r : Refusal) → ¬ (Refused r ≡ Cell c)
 no-refusal c r h = let z : _≡_ {A = ℕ} 0 1 = cc in omega arith
 
 -- the quotients lie inside, and the cell is where they lie

@@ -100,11 +100,11 @@ fn quotient(value: f64, origin: f64, edge: f64) -> f64
     (value - origin) / edge
 }
 
-// Below 0, or at or above the count.
+// Below 0, or above the count.
 fn outside(count: u32, q: f64) -> bool
     ensures { λ r. ⌜ r ≡ outside count q ⌝ }
 {
-    if q < 0.0 { true } else { (count as f64) <= q }
+    if q < 0.0 { true } else { (count as f64) < q }
 }
 
 // Refusals 8, then 9, of one value.
@@ -131,7 +131,7 @@ fn halved(q: f64, s: Span) -> Span
     }
 }
 
-// The whole number n below the count with n ≤ q < n + 1, by comparisons alone.
+// The whole number n below the count with n ≤ q < n + 1, the last one where q is the count; by comparisons alone.
 fn cell_number(count: u32, q: f64) -> u32
     requires { ⌜ Inside count q ⌝ }
     ensures { λ r. ⌜ r ≡ cell-number count q ⌝ }
