@@ -29,7 +29,7 @@ use Rattle.survey.specs.declared.Placement.{Placement}
 use Rattle.survey.specs.declared.Point.{Point}
 use Rattle.survey.specs.Quotient.{as-f64, outside, on-far-face}
 use Rattle.survey.specs.Survey.{placement-check, quotients, value-check, point-check, cell-at, look-up, cell-of, LooksUp}
-use Rattle.survey.proofs.Tests.{clash, false-unless}
+use Rattle.survey.proofs.Tests.{T→true, true→T, or-r, clash, false-unless}
 use Rattle.survey.proofs.Order.{at-most-is, equal-at-most}
 use Rattle.survey.proofs.Numbers.{number-off-face, off-face, far-not-outside}
 use Rattle.survey.proofs.Lookups.{no-refusal}
@@ -46,16 +46,16 @@ or-false : (b : Bool) → (b || false) ≡ b
 or-false true = refl
 or-false false = refl
 
-or-true : (b : Bool) → (b || true) ≡ true
-or-true true = refl
-or-true false = refl
+was-outside : (count : ℕ) (q : Float) → on-far-face count q ≡ true → outside-before count q ≡ true
+was-outside count q on =
+    T→true (outside-before count q) (or-r (lt q (as-f64 0)) (le (as-f64 count) q) (true→T (equal-at-most (as-f64 count) q on .0)))
 
 pub axis-kept : (count : ℕ) (q : Float) → AxisKept count q
 axis-kept count q =
     record {
       number = λ upto. number-off-face count q (off-face count q upto);
       test = λ off. ap (λ b. lt q (as-f64 0) || b) (sym (at-most-is (as-f64 count) q ∙ rw off (or-false (lt (as-f64 count) q))));
-      was-outside = λ on. rw (equal-at-most (as-f64 count) q on .0) (or-true (lt q (as-f64 0)));
+      was-outside = was-outside count q;
       is-inside = λ small on. far-not-outside count q (omega arith) on;
     }
 
@@ -80,7 +80,7 @@ judged e a count value q = go (on-far-face count q) refl
     off-it off (Verdict.Refused r) is = alike r is (same off ∙ is)
 
     on-it : on-far-face count q ≡ true → (b : Bool) → finite value ≡ b → Case
-    on-it on true known = wall on (rw (known, axis-kept count q .was-outside on) refl)
+    on-it on true known = wall on (rw (known, was-outside count q on) refl)
     on-it on false known = alike (Refusal.NotFinite e a) (rw known refl) (rw known refl)
 
     go : (b : Bool) → on-far-face count q ≡ b → Case
@@ -130,7 +130,7 @@ module _ (e : End) (n : Counts) (at : Placement) (p : Point) where
       passed-off : (a : Axis) (count : ℕ) (value r : Float) → value-before e a count value r ≡ Verdict.Fine → on-far-face count r ≡ false
       passed-off a count value r h =
           false-unless (on-far-face count r) (λ on.
-          clash (axis-kept count r .was-outside on)
+          clash (was-outside count r on)
           (passed (outside-before count r) (Refusal.OffSurvey e a) (fine-rest (refuse-when (not (finite value)) (Refusal.NotFinite e a)) _ h)))
 
   pub only-walls : OnlyWalls e n at p
