@@ -12,6 +12,7 @@ typedef __typeof__(oat_line26) line26_call;
 typedef __typeof__(oat_mark) mark_call;
 typedef __typeof__(oat_complete) complete_call;
 typedef __typeof__(oat_sight) sight_call;
+typedef __typeof__(oat_cell_of) cell_of_call;
 
 static uint64_t mixed(uint64_t sum, uint64_t value) { return (sum ^ value) * 0x9E3779B97F4A7C15u; }
 
@@ -73,6 +74,19 @@ INLINE uint64_t sights(manner how, sight_call *call, size_t rounds, SEGMENTS) {
         sum = mixed(sum, REFUSAL(a) + ((uint64_t)a.reads << 32));
         sum = mixed(sum, (uint64_t)a.blocked << 40 | CELL(a) << 8 | a.code);
         sum = mixed(sum, ((union { double value; uint64_t bits; }){a.share}).bits);
+    }
+    return sum;
+}
+
+/* the cells of both centres; the grid's bytes are not asked for */
+uint64_t loop_points(cell_of_call *call, size_t rounds, SEGMENTS) {
+    uint64_t sum = 0;
+    oat_counts n = {nx, ny, nz};
+    oat_placement at = {.edge = 1};
+    (void)cells;
+    while (rounds--) for (size_t e = 0; e < 2 * segments; e++) {
+        __auto_type c = call(n, at, centre(ends[e]));
+        sum = mixed(sum, REFUSAL(c) + (CELL(c) << 32));
     }
     return sum;
 }

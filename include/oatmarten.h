@@ -1,4 +1,4 @@
-/* Oatmarten: exact sight lines through a voxel grid. The C interface, revision 5 (OAT_REVISION).
+/* Oatmarten: exact sight lines through a voxel grid. The C interface, revision 6 (OAT_REVISION).
 
    Link with liboatmarten.a (x86-64 Linux). docs/C.md has a whole program, docs/SCOPE.md the exact rules, docs/TRUST.md says what is proved
    and what is not.
@@ -27,8 +27,8 @@
 extern "C" {
 #endif
 
-/* Grows by one when a struct, a call or a number of this header changes. */
-#define OAT_REVISION 5
+/* Grows by one when a struct, a call or a number of this header changes, or what a call answers. (6: points on the far faces have a cell.) */
+#define OAT_REVISION 6
 
 /* The field `refusal`, with what it names. Where more than one applies, each call below says the order of its tests; ends are looked at P
    before Q, axes in the order x, y, z. */
@@ -42,7 +42,7 @@ enum oat_refusal {
     OAT_REFUSED_ROOM = 6,       /* too little room for the answer */
     OAT_REFUSED_PLACEMENT = 7,  /* an origin value or the edge not finite, or the edge not above 0: axis, or OAT_AXIS_EDGE */
     OAT_REFUSED_NOT_FINITE = 8, /* a surveyed value not finite: end and axis */
-    OAT_REFUSED_OFF_SURVEY = 9, /* a surveyed value outside the grid: end and axis */
+    OAT_REFUSED_OFF_SURVEY = 9, /* a surveyed value outside the grid, whose faces all belong to it: end and axis */
     OAT_REFUSED_RECORD = 10,    /* a record cut short or of the wrong length */
     OAT_REFUSED_VERSION = 11,   /* a record's version byte: of a venue not 1, of a pair neither 1 nor 2 */
     OAT_REFUSED_RULE = 12       /* a rule that is neither 1 nor 2: a number given to a call, or the last byte of a pair record of version 2 */
@@ -281,13 +281,15 @@ oat_hit oat_adaptive(oat_counts n, const uint8_t *cells, size_t bytes, oat_cell 
 
 /* ---- surveyed points */
 
-/* The cell of a point: refusals 2, 7 (origin x, y, z, edge), then for each axis 8, then 9. On each axis it is the whole number n with
-   n <= (point - origin) / edge < n + 1, the difference and the quotient rounded once each. The end that a refusal names is P. */
+/* The cell of a point: refusals 2, 7 (origin x, y, z, edge), then for each axis 8, then 9. On each axis let q be (point - origin) / edge, the
+   difference and the quotient rounded once each. The cell is the whole number n below the count with n <= q < n + 1. The far faces belong to
+   the last cells: where q equals the count it is the last one. A q below 0 or above the count is refused 9. The end that a refusal names is
+   P. */
 oat_found oat_cell_of(oat_counts n, oat_placement at, oat_point point);
 
-/* Whether anything solid is in the way from the camera's cell to the ball's, by the adaptive walk: refusals 12, 2, 3, 7, then the camera
-   (P) by axis 8, 9, then the ball (Q). The camera's own cell is tested where `how` says so, and by OAT_MANNER_USUAL it is not; a ball in
-   that same cell is then seen. The ball's cell is tested otherwise. Takes the marks as they are: mark first. */
+/* Whether anything solid is in the way from the camera's cell to the ball's, each as oat_cell_of gives it, by the adaptive walk: refusals 12,
+   2, 3, 7, then the camera (P) by axis 8, 9, then the ball (Q). The camera's own cell is tested where `how` says so, and by OAT_MANNER_USUAL
+   it is not; a ball in that same cell is then seen. The ball's cell is tested otherwise. Takes the marks as they are: mark first. */
 oat_sight_answer oat_sight(oat_counts n, const uint8_t *cells, size_t bytes, oat_placement at, oat_point camera, oat_point ball, oat_manner how);
 
 /* ---- records: numbers are big-endian; bytes after a record are not looked at */

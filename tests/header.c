@@ -87,10 +87,11 @@ int main(void) {
     SHOW(oat_found, oat_cell_of(n, at, ball));
     SHOW(oat_found, oat_cell_of(n, (oat_placement){.ox = 0, .oy = 0, .oz = 0, .edge = 0}, ball));
     SHOW(oat_found, oat_cell_of(n, at, (oat_point){.x = -9, .y = 1 / 0.0, .z = 3}));
+    SHOW(oat_found, oat_cell_of(n, at, (oat_point){.x = -5.5, .y = 24, .z = 6.5})); /* on the three far walls */
     SHOW(oat_sight_answer, oat_sight(n, cells, sizeof cells, at, camera, ball, OAT_MANNER_USUAL));
     SHOW(oat_sight_answer, oat_sight(n, cells, sizeof cells, at, (oat_point){.x = -8.75, .y = 23.25, .z = 6.25},
                                      (oat_point){.x = -8.75, .y = 23.25, .z = 3.25}, tested));
-    SHOW(oat_sight_answer, oat_sight(n, cells, sizeof cells, at, camera, (oat_point){.x = -9.75, .y = 23.75, .z = 6.5}, untested));
+    SHOW(oat_sight_answer, oat_sight(n, cells, sizeof cells, at, camera, (oat_point){.x = -9.75, .y = 23.75, .z = 6.75}, untested));
 
     /* from the solid cell */
     const oat_point inside = {.x = -8.75, .y = 23.25, .z = 4.75};
