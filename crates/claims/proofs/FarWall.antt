@@ -27,7 +27,7 @@ use Rattle.survey.specs.declared.Lookup.{Lookup}
 use Rattle.survey.specs.declared.Lookup.the-variants.{Cell, Refused}
 use Rattle.survey.specs.declared.Placement.{Placement}
 use Rattle.survey.specs.declared.Point.{Point}
-use Rattle.survey.specs.Quotient.{as-f64, outside, on-far-face}
+use Rattle.survey.specs.Quotient.{as-f64, on-far-face}
 use Rattle.survey.specs.Survey.{placement-check, quotients, value-check, point-check, cell-at, look-up, cell-of, LooksUp}
 use Rattle.survey.proofs.Tests.{T→true, true→T, or-r, clash, false-unless}
 use Rattle.survey.proofs.Order.{at-most-is, equal-at-most}

@@ -1,7 +1,7 @@
 -- The claims about a surveyed point's cell, each from its law; the table's rows by computation. Assumes nothing.
 use Prim.Native.Nat.{ℕ, _-_, _≤_}
 use mathlib.Core.Path.{_≡_, refl, sym, ap, subst, _∙_}
-use mathlib.Core.Bool.{true, false}
+use mathlib.Core.Bool.{false}
 use mathlib.Core.Logic.{_⊎_, inl, inr}
 use native.Mathlib.Omega.{arith}
 use lib.IntN.{ℤ, pos, natAbs}
@@ -65,7 +65,7 @@ one-coordinate count q =
             (pos n, record { number = n; same = refl; below = below; has = has }),
       );
       only = λ y z small j k. coordinate-is count q y small j ∙ sym (coordinate-is count q z small k);
-      there = λ z small upto k. has-below count (k .number) q upto (k .has);
+      there = λ z upto k. has-below count (k .number) q upto (k .has);
       part = λ z small upto k.
           k .same ∙ ap pos (sym (number-whole-part q (k .number) (let l = k .below in omega arith) (has-below count (k .number) q upto (k .has))));
       last = λ z small far k. coordinate-is count q z small k ∙ ap pos (number-far count q far);

@@ -43,7 +43,7 @@ pub record Coordinate (count : ℕ) (q : Float) (z : ℤ) : Type 0 where
 pub record OneCoordinate (count : ℕ) (q : Float) : Type 0 where
   pub exists : 0 < count → count ≤ 1024 → ((z : ℤ) × Coordinate count q z) ↔ ((le (as-f64 0) q ≡ true) × (le q (as-f64 count) ≡ true))
   pub only : (y z : ℤ) → count ≤ 1024 → Coordinate count q y → Coordinate count q z → y ≡ z
-  pub there : (z : ℤ) → count ≤ 1024 → lt q (as-f64 count) ≡ true → (h : Coordinate count q z) → in-cell q (h .number) ≡ true
+  pub there : (z : ℤ) → lt q (as-f64 count) ≡ true → (h : Coordinate count q z) → in-cell q (h .number) ≡ true
   pub part : (z : ℤ) → count ≤ 1024 → lt q (as-f64 count) ≡ true → Coordinate count q z → z ≡ pos (toUnsigned 32 q)
   pub last : (z : ℤ) → count ≤ 1024 → on-far-face count q ≡ true → Coordinate count q z → z ≡ pos (count - 1)
 

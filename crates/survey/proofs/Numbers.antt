@@ -99,10 +99,6 @@ number-found count n q r l (inl there) =
     number-off-face count q (cell-off-face count n q r l there) ∙ below-found count n q r l there
 number-found count n q r l (inr (far, last)) = number-far count q far ∙ omega arith
 
--- so there is only one
-pub one-has : (count m n : ℕ) (q : Float) → count ≤ 2 ^ 53 → m < count → n < count → Has count q m → Has count q n → m ≡ n
-one-has count m n q r k l h i = sym (number-found count m q r k h) ∙ number-found count n q r l i
-
 -- a cell below the count that is not above q, and ends above q unless it is the last, has q
 has-of : (count n : ℕ) (q : Float) → count ≤ 2 ^ 53 → lt (as-f64 count) q ≡ false → n < count → le (as-f64 n) q ≡ true
     → (n + 1 < count → lt q (as-f64 (n + 1)) ≡ true) → Has count q n

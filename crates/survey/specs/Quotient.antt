@@ -15,7 +15,7 @@ as-f64 n = ofInt binary64 (pos n)
 abbrev pub quotient : (point origin edge : Float) → Float
 quotient point origin edge = div binary64 (sub binary64 point origin) edge
 
--- SCOPE S5: a q before the near face of the axis or behind its far face
+-- SCOPE S5: a q before the axis begins, or behind its far face
 abbrev pub outside : ℕ → Float → Bool
 outside count q = lt q (as-f64 0) || lt (as-f64 count) q
 
