@@ -78,6 +78,20 @@ INLINE uint64_t sights(manner how, sight_call *call, size_t rounds, SEGMENTS) {
     return sum;
 }
 
+/* the corner of a cell with the largest x, y and z, on far walls where the cell is a last one; and as far again behind it */
+#if OAT_REVISION >= 6
+uint64_t sum_corners(cell_of_call *call, SEGMENTS) {
+    uint64_t sum = 0;
+    oat_counts n = {nx, ny, nz};
+    (void)cells;
+    for (size_t e = 0; e < 2 * segments; e++) for (int32_t more = 1; more < 3; more++) {
+        __auto_type c = call(n, (oat_placement){.edge = 1}, (oat_point){ends[e].x + more, ends[e].y + more, ends[e].z + more});
+        sum = mixed(mixed(sum, REFUSAL(c) + (CELL(c) << 32)), c.said.axis);
+    }
+    return sum;
+}
+#endif
+
 /* the cells of both centres; the grid's bytes are not asked for */
 uint64_t loop_points(cell_of_call *call, size_t rounds, SEGMENTS) {
     uint64_t sum = 0;

@@ -173,9 +173,23 @@ oat_hit BY(adaptive)(oat_counts n, const uint8_t *cells, size_t bytes, oat_cell 
     return BY(found)(n, cells, at, p, way, tie, (uint32_t)U + more);
 }
 
-/* points within the grid, so that a quotient rounded towards 0 is the cell */
+/* points within the grid and off its far walls, so that a quotient rounded towards 0 is the cell */
 static inline oat_cell cell_at(oat_placement at, oat_point p) {
     return (oat_cell){(int)((p.x - at.ox) / at.edge), (int)((p.y - at.oy) / at.edge), (int)((p.z - at.oz) / at.edge)};
+}
+
+/* points anywhere, on the far walls too; counts and placement are right */
+oat_found BY(cell_of)(oat_counts n, oat_placement at, oat_point p) {
+    const double value[] = {p.x, p.y, p.z}, origin[] = {at.ox, at.oy, at.oz};
+    const uint32_t counts[] = {n.nx, n.ny, n.nz};
+    int32_t cell[3];
+    for (uint32_t a = 0; a < 3; a++) {
+        double q = (value[a] - origin[a]) / at.edge;
+        if (value[a] - value[a] != 0) return (oat_found){.said = {OAT_REFUSED_NOT_FINITE, OAT_END_P, a + 1}};
+        if (q < 0 || q > counts[a]) return (oat_found){.said = {OAT_REFUSED_OFF_SURVEY, OAT_END_P, a + 1}};
+        cell[a] = q == counts[a] ? (int32_t)counts[a] - 1 : (int32_t)q;
+    }
+    return (oat_found){.x = cell[0], .y = cell[1], .z = cell[2]};
 }
 
 oat_sight_answer BY(sight)(oat_counts n, const uint8_t *cells, size_t bytes, oat_placement at, oat_point camera, oat_point ball, oat_manner how) {

@@ -27,7 +27,7 @@
 extern "C" {
 #endif
 
-/* Grows by one when a struct, a call or a number of this header changes, or what a call answers. (6: points on the far faces have a cell.) */
+/* Grows by one when a struct, a call or a number of this header changes, or what a call answers. */
 #define OAT_REVISION 6
 
 /* The field `refusal`, with what it names. Where more than one applies, each call below says the order of its tests; ends are looked at P
@@ -42,7 +42,7 @@ enum oat_refusal {
     OAT_REFUSED_ROOM = 6,       /* too little room for the answer */
     OAT_REFUSED_PLACEMENT = 7,  /* an origin value or the edge not finite, or the edge not above 0: axis, or OAT_AXIS_EDGE */
     OAT_REFUSED_NOT_FINITE = 8, /* a surveyed value not finite: end and axis */
-    OAT_REFUSED_OFF_SURVEY = 9, /* a surveyed value outside the grid, whose faces all belong to it: end and axis */
+    OAT_REFUSED_OFF_SURVEY = 9, /* a surveyed value outside the grid (its far faces are not outside): end and axis */
     OAT_REFUSED_RECORD = 10,    /* a record cut short or of the wrong length */
     OAT_REFUSED_VERSION = 11,   /* a record's version byte: of a venue not 1, of a pair neither 1 nor 2 */
     OAT_REFUSED_RULE = 12       /* a rule that is neither 1 nor 2: a number given to a call, or the last byte of a pair record of version 2 */

@@ -31,7 +31,7 @@ use Rattle.survey.specs.Quotient.{as-f64, on-far-face}
 use Rattle.survey.specs.Survey.{placement-check, quotients, value-check, point-check, cell-at, look-up, cell-of, LooksUp}
 use Rattle.survey.proofs.Tests.{T→true, true→T, or-r, clash, false-unless}
 use Rattle.survey.proofs.Order.{at-most-is, equal-at-most}
-use Rattle.survey.proofs.Numbers.{number-off-face, off-face, far-not-outside}
+use Rattle.survey.proofs.Numbers.{below-in, number-off-face, off-face, far-not-outside}
 use Rattle.survey.proofs.Lookups.{no-refusal}
 use Rattle.sight.specs.declared.Sight.{Sight}
 use Rattle.sight.specs.declared.Sight.the-variants as Sight
@@ -54,6 +54,7 @@ pub axis-kept : (count : ℕ) (q : Float) → AxisKept count q
 axis-kept count q =
     record {
       number = λ upto. number-off-face count q (off-face count q upto);
+      was = λ small from upto. below-in count q (omega arith) from upto;
       test = λ off. ap (λ b. lt q (as-f64 0) || b) (sym (at-most-is (as-f64 count) q ∙ rw off (or-false (lt (as-f64 count) q))));
       was-outside = was-outside count q;
       is-inside = λ small on. far-not-outside count q (omega arith) on;
@@ -140,15 +141,15 @@ module _ (e : End) (n : Counts) (at : Placement) (p : Point) where
 
 -- tests that come first leave it so
 module _ {A : Type 0} (refused : Refusal → A) (e : End) (n : Counts) (at : Placement) (p : Point) where
-  behind-tests : (v : Verdict) {now before : A} → SameOrWall refused e n at p now before →
+  after-tests : (v : Verdict) {now before : A} → SameOrWall refused e n at p now before →
       SameOrWall refused e n at p (by-verdict refused now v) (by-verdict refused before v)
-  behind-tests Verdict.Fine h = h
-  behind-tests (Verdict.Refused r) h = inl refl
+  after-tests Verdict.Fine h = h
+  after-tests (Verdict.Refused r) h = inl refl
 
 module _ (n : Counts) (at : Placement) where
   cell-of-moved : (p : Point) (r : Lookup) → LooksUp n at p r → SameOrWall Refused P n at p r (cell-of-before n at p)
   unfolding cell-of
-  cell-of-moved p r h = rw (h .says) (behind-tests Refused P n at p (count-check n then placement-check at) (look-moved P n at p))
+  cell-of-moved p r h = rw (h .says) (after-tests Refused P n at p (count-check n then placement-check at) (look-moved P n at p))
 
   -- the sight, from the two lookups by both rules
   seen-moved : (how : Manner) (l : List ℕ) (camera ball : Point) (f f′ t t′ : Lookup) → SameOrWall Refused P n at camera f f′ →
@@ -166,8 +167,8 @@ module _ (n : Counts) (at : Placement) where
   see-moved how l camera ball r h =
       rw (h .says, sight-is how n l at camera ball, looked-is how n l at camera ball)
       (elim (seen-moved how l camera ball _ _ _ _ (look-moved P n at camera) (look-moved Q n at ball)) [
-        | inl from ↦ inl (behind-tests Sight.Refused P n at camera tests from)
-        | inr to ↦ inr (behind-tests Sight.Refused Q n at ball tests to)
+        | inl from ↦ inl (after-tests Sight.Refused P n at camera tests from)
+        | inr to ↦ inr (after-tests Sight.Refused Q n at ball tests to)
       ])
     where
       tests : Verdict

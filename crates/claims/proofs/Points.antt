@@ -165,10 +165,10 @@ behind-the-wall : told-lookup (cell-of (cube 4) (placement (metres 0) (metres 1)
 unfolding cell-of eq le lt ofInt div sub ofBits toBits
 behind-the-wall = refl
 
--- the x of an answer's cell, 0 where there is none; and whether there is one, 1 or 0
-x-of : Told ⊎ cell.Cell → ℤ
-x-of (inl t) = pos 0
-x-of (inr c) = c .x
+-- an answer's cell, the first where there is none; and whether there is one, 1 or 0
+cell-in : Told ⊎ cell.Cell → cell.Cell
+cell-in (inl t) = record { x = pos 0; y = pos 0; z = pos 0 }
+cell-in (inr c) = c
 
 found : Told ⊎ cell.Cell → ℕ
 found (inl t) = 0
@@ -179,12 +179,12 @@ says : {n : Counts} {at : Placement} {p : Point} {r : Lookup} {t : Told ⊎ cell
 says is h = ap told-lookup (h .says) ∙ is
 
 pub refuted : Refuted
-unfolding x-of found
+unfolding cell-in found
 refuted =
     record {
-      always-first-cell = λ h. let z : _≡_ {A = ℕ} 0 1 = ap (λ t. natAbs (x-of t)) (says at-one-and-a-half h) in omega arith;
+      always-first-cell = λ h. let z : _≡_ {A = ℕ} 0 1 = ap (λ t. natAbs (cell-in t .x)) (says at-one-and-a-half h) in omega arith;
       refuses-always = λ r h. let z : _≡_ {A = ℕ} 0 1 = ap found (says at-one-and-a-half h) in omega arith;
       wall-refused = λ r h. let z : _≡_ {A = ℕ} 0 1 = ap found (says at-the-wall h) in omega arith;
-      wall-to-another = λ c other h. other (ap x-of (says at-the-wall h));
+      wall-to-another = λ c other h. other (ap cell-in (says at-the-wall h));
       behind-accepted = λ c h. let z : _≡_ {A = ℕ} 1 0 = ap found (says behind-the-wall h) in omega arith;
     }

@@ -38,8 +38,8 @@ use Rattle.sight.specs.declared.Sight.the-variants.{Clear, Blocked, Refused}
 use Rattle.sight.specs.Sight.{share-of, sight-of, seen, looked, sight, Sees}
 use Rattle.sight.proofs.Seen.{looked-is, sight-is, camera-refused, both-found}
 use Rattle.claims.proofs.Story.{nothing-in-the-way}
-use Rattle.claims.specs.Sights.{SeenOnce, AsTheWalk, NothingInSight, CameraFirst, BlockedAsHit, Seen-there, Seen-back, Housed, WrongSights}
-use Rattle.claims.specs.Sights.{Ball-on-walls, Camera-on-walls}
+use Rattle.claims.specs.Sights.{SeenOnce, AsTheWalk, NothingInSight, CameraFirst, BlockedAsHit, SeenAlike, Seen-there, Seen-back, Housed, WrongSights}
+use Rattle.claims.specs.Sights.{FarCorner}
 use Rattle.claims.specs.Example.{example-counts, at}
 use Rattle.claims.specs.Points.{metres, placement, point}
 use Rattle.claims.specs.Starred.{halves}
@@ -170,15 +170,15 @@ camera-first how n l at camera =
 
 -- ---- wrong sights
 
--- points that are looked up alike are seen alike
-seen-alike : (how : Manner) (n : Counts) (l : List ℕ) (at : Placement) (camera ball camera′ ball′ : Point) → look-up P n at camera ≡ look-up P n at camera′ →
-    look-up Q n at ball ≡ look-up Q n at ball′ → (s : Sight) → Sees how n l at camera ball s → Sees how n l at camera′ ball′ s
-seen-alike how n l at camera ball camera′ ball′ from to s h =
+pub seen-alike : (how : Manner) (n : Counts) (l : List ℕ) (at : Placement) (camera ball camera′ ball′ : Point) → SeenAlike how n l at camera ball camera′ ball′
+seen-alike how n l at camera ball camera′ ball′ =
     record {
-      says = h .says ∙ sight-is how n l at camera ball ∙
-          ap (λ s. by-verdict Refused s (shape n (length l) then placement-check at))
-          (looked-is how n l at camera ball ∙ ap₂ (seen how n l) from to ∙ sym (looked-is how n l at camera′ ball′))
-          ∙ sym (sight-is how n l at camera′ ball′);
+      alike = λ from to s h. record {
+        says = h .says ∙ sight-is how n l at camera ball ∙
+            ap (λ s. by-verdict Refused s (shape n (length l) then placement-check at))
+            (looked-is how n l at camera ball ∙ ap₂ (seen how n l) from to ∙ sym (looked-is how n l at camera′ ball′))
+            ∙ sym (sight-is how n l at camera′ ball′);
+      };
     }
 
 -- the far corner is looked up as the middle of its cell, (3,1,0)
@@ -190,11 +190,12 @@ middle-looked-up : (e : End) → look-up e example-counts (placement (metres 0) 
 unfolding look-up eq le lt ofInt div sub
 middle-looked-up e = refl
 
-ball-as-there : (how : Manner) (s : Sight) → Ball-on-walls how s → Seen-there how s
-ball-as-there how s h = seen-alike how _ _ _ _ _ _ _ refl (corner-looked-up Q ∙ sym (middle-looked-up Q)) s h
-
-camera-as-back : (how : Manner) (s : Sight) → Camera-on-walls how s → Seen-back how s
-camera-as-back how s h = seen-alike how _ _ _ _ _ _ _ (corner-looked-up P ∙ sym (middle-looked-up P)) refl s h
+pub far-corner : FarCorner
+far-corner =
+    record {
+      ball = λ how. seen-alike how _ _ _ _ _ _ _ .alike refl (corner-looked-up Q ∙ sym (middle-looked-up Q));
+      camera = λ how. seen-alike how _ _ _ _ _ _ _ .alike (corner-looked-up P ∙ sym (middle-looked-up P)) refl;
+    }
 
 pub wrong-sights : WrongSights
 unfolding kind block-or sight eq le lt ofInt div sub
@@ -207,8 +208,8 @@ wrong-sights =
       housing-passed = λ how tested h. blocked-there (how .start) (how .rule) tested h;
       rule-ignored = back-blocked;
       always-rule-2 = back-clear;
-      ball-refused = λ how r h. not-refused (how .start) (how .rule) r (ball-as-there how (Refused r) h);
-      camera-refused = λ how r h. back-not-refused (how .start) (how .rule) r (camera-as-back how (Refused r) h);
+      ball-refused = λ how r h. not-refused (how .start) (how .rule) r (far-corner .ball how (Refused r) h);
+      camera-refused = λ how r h. back-not-refused (how .start) (how .rule) r (far-corner .camera how (Refused r) h);
     }
   where
     not-there : (s : Start) (u : Rule) → Seen-there (record { start = s; rule = u }) Clear → ⊥

@@ -1,6 +1,6 @@
 -- The surveyed box is closed (SCOPE S13), and nothing else moved when it was closed: told by the half-open rule that stood before, by which a quotient
 -- equal to the count was outside. Assumes nothing.
-use Prim.Native.Nat.{ℕ, _≤_}
+use Prim.Native.Nat.{ℕ, _≤_, _<_}
 use mathlib.Core.Path.{_≡_}
 use mathlib.Core.Bool.{Bool, true, false, not, _||_}
 use mathlib.Core.List.{List}
@@ -26,7 +26,7 @@ use Rattle.survey.specs.declared.Lookup.{Lookup}
 use Rattle.survey.specs.declared.Lookup.the-variants.{Cell, Refused}
 use Rattle.survey.specs.declared.Placement.{Placement}
 use Rattle.survey.specs.declared.Point.{Point}
-use Rattle.survey.specs.Quotient.{as-f64, outside, on-far-face, number-below, cell-number}
+use Rattle.survey.specs.Quotient.{as-f64, outside, in-cell, on-far-face, number-below, cell-number}
 use Rattle.survey.specs.Survey.{placement-check, quotients, look-up, LooksUp}
 use Rattle.sight.specs.declared.Sight.{Sight}
 use Rattle.sight.specs.declared.Sight.the-variants as Sight
@@ -65,9 +65,12 @@ sight-before how n l at camera ball =
 
 -- ---- what moved
 
--- One axis: below the count the number is what it was, and off the far face the test. On the far face q was outside, and is inside.
+-- One axis: below the count the number is what it was, that of the cell where q lies, and off the far face the test. On the far face q was outside, and is
+-- inside.
 pub record AxisKept (count : ℕ) (q : Float) : Type 0 where
   pub number : lt q (as-f64 count) ≡ true → cell-number count q ≡ number-below count q
+  pub was : count ≤ 1024 → le (as-f64 0) q ≡ true → lt q (as-f64 count) ≡ true →
+      (number-below count q < count) × (in-cell q (number-below count q) ≡ true)
   pub test : on-far-face count q ≡ false → outside count q ≡ outside-before count q
   pub was-outside : on-far-face count q ≡ true → outside-before count q ≡ true
   pub is-inside : count ≤ 1024 → on-far-face count q ≡ true → outside count q ≡ false
@@ -91,7 +94,7 @@ pub record OnlyWalls (e : End) (n : Counts) (at : Placement) (p : Point) : Type 
   pub moved : SameOrWall Refused e n at p (look-up e n at p) (look-up-before e n at p)
   pub had-none : (a : Axis) (c : cell.Cell) → on-wall n at p a ≡ true → ¬ (look-up-before e n at p ≡ Cell c)
 
--- The two calls: the cell of a point, as P; and the sight, which moved where the camera lies on a far wall, or the ball does.
+-- The two calls: the cell of a point, as P; and the sight, which moved only where the camera lies on a far wall, or the ball does.
 pub record CallsKept (n : Counts) (at : Placement) : Type 0 where
   pub cell-of : (p : Point) (r : Lookup) → LooksUp n at p r → SameOrWall Refused P n at p r (cell-of-before n at p)
   pub see : (how : Manner) (l : List ℕ) (camera ball : Point) (r : Sight) → Sees how n l at camera ball r →

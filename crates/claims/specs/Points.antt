@@ -148,7 +148,7 @@ Holds (row n at p says) = told-lookup (cell-of n at p) ≡ says
 abbrev pub Every : List Row → Type 0
 Every = EachRow Holds
 
--- the far walls of cubes of 1, 3 and 1,024 cells: the count itself and the f64 below it are the last cell's, the one above is refused 9, on each axis
+-- the far walls of cubes of 1, 3 and 1,024 cells a side: the count itself and the f64 below it are the last cell's, the one above is refused 9, on each axis
 abbrev pub wall-rows : List Row
 wall-rows =
     row (cube 1) (placement (metres 0) (metres 1)) (point (next-below 1) (metres 1) (metres 1)) (cell-is 0 0 0)
@@ -221,5 +221,5 @@ pub record Refuted : Type 0 where
   pub refuses-always : (r : Refusal) → Found-there (Refused r) → ⊥
   -- the far wall refused; given to the first cell, or to the cell behind the last; a cell behind it
   pub wall-refused : (r : Refusal) → Found-on-wall (Refused r) → ⊥
-  pub wall-to-another : (c : cell.Cell) → (c .x ≡ pos 3 → ⊥) → Found-on-wall (Cell c) → ⊥
+  pub wall-to-another : (c : cell.Cell) → (c ≡ record { x = pos 3; y = pos 0; z = pos 0 } → ⊥) → Found-on-wall (Cell c) → ⊥
   pub behind-accepted : (c : cell.Cell) → Found-behind (Cell c) → ⊥

@@ -86,7 +86,12 @@ module _ (how : Manner) (n : Counts) (l : List ℕ) (at : Placement) where
   pub record BlockedAsHit (camera ball : Point) : Type 0 where
     pub as-hit : (b : Block) → Sees how n l at camera ball (Blocked b) → BlockedBy camera ball b
 
--- ---- wrong answers, on the program's venue with its marks: a camera and a ball in the middles of (0,0,0) and (3,1,0)
+  -- 6. A sight knows its points by their lookups alone: points that are looked up alike are seen alike.
+  pub record SeenAlike (camera ball camera′ ball′ : Point) : Type 0 where
+    pub alike : look-up P n at camera ≡ look-up P n at camera′ → look-up Q n at ball ≡ look-up Q n at ball′ → (s : Sight) →
+        Sees how n l at camera ball s → Sees how n l at camera′ ball′ s
+
+-- ---- the far corner and wrong answers, on the program's venue with its marks: a camera and a ball in the middles of (0,0,0) and (3,1,0)
 
 abbrev pub Seen-there : Manner → Sight → Type 0
 Seen-there how =
@@ -105,7 +110,7 @@ Housed how =
     Sees how example-counts marked-cells (placement (metres 0) (metres 1)) (point (halves 3) (halves 3) (halves 1))
     (point (halves 7) (halves 3) (halves 1))
 
--- the ball in the far corner of the box, and the camera there: on the far walls of x, y and z
+-- the ball in the far corner of the box, (4, 2, 1), and the camera there: on the far walls of x, y and z
 abbrev pub Ball-on-walls : Manner → Sight → Type 0
 Ball-on-walls how =
     Sees how example-counts marked-cells (placement (metres 0) (metres 1)) (point (halves 1) (halves 1) (halves 1)) (point (metres 4) (metres 2) (metres 1))
@@ -113,6 +118,11 @@ Ball-on-walls how =
 abbrev pub Camera-on-walls : Manner → Sight → Type 0
 Camera-on-walls how =
     Sees how example-counts marked-cells (placement (metres 0) (metres 1)) (point (metres 4) (metres 2) (metres 1)) (point (halves 1) (halves 1) (halves 1))
+
+-- 7. The far corner is seen as the middle of its cell, (3,1,0), in every manner.
+pub record FarCorner : Type 0 where
+  pub ball : (how : Manner) (s : Sight) → Ball-on-walls how s → Seen-there how s
+  pub camera : (how : Manner) (s : Sight) → Camera-on-walls how s → Seen-back how s
 
 pub record WrongSights : Type 0 where
   pub clear-always : (how : Manner) → Seen-there how Clear → ⊥

@@ -173,7 +173,7 @@ sight-rows =
     (point (halves 7) (halves 3) (halves 1)) 0 (at 1 1 0) 2 1 Face.None
     ∷ sees usual (counts 1 1 3) (0 ∷ 2 ∷ 0 ∷ []) (placement (metres 0) (metres 1)) (point (halves 1) (halves 1) (halves 1))
     (point (halves 1) (halves 1) (metres 3)) 0x3fd0_0000_0000_0000 (at 0 0 1) 2 2 (Face.Plus Z)
-    -- behind them by the least f64: the camera on z, though the ball is behind on x; the ball on y, from a camera in the far corner
+    -- the next f64 behind a wall: the camera's on z, though the ball's x is behind too; the ball's on y, from a camera in the far corner
     ∷ sees-none usual example-counts marked-cells (placement (metres 0) (metres 1)) (point (metres 4) (metres 2) (next-above 1))
     (point (next-above 4) (metres 2) (metres 1)) (at-end 9 P Z)
     ∷ sees-none usual example-counts marked-cells (placement (metres 0) (metres 1)) (point (metres 4) (metres 2) (metres 1))

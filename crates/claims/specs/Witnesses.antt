@@ -138,7 +138,7 @@ pub record OfPoints : Type 0 where
   pub finite : Finite (point (tenths 15) (metres 0) (tenths 39))
   pub in-its-cell : InItsCell (cube 4) (quotients (placement (metres 0) (metres 1)) (point (tenths 15) (metres 0) (tenths 39))) (at 1 0 3)
   pub looked-up : LooksUp (cube 4) (placement (metres 0) (metres 1)) (point (tenths 15) (metres 0) (tenths 39)) (Lookup.Cell (at 1 0 3))
-  -- a point on the far walls; one on the first, which the half-open rule refused; and one behind it, which lies on none
+  -- a point on the far walls; one on the first, which the half-open rule refused; and one behind it, which does not lie on it
   pub in-last-cell : InItsCell (cube 4) (quotients (placement (metres 0) (metres 1)) (point (metres 4) (metres 4) (metres 4))) (at 3 3 3)
   pub on-first : on-wall (cube 4) (placement (metres 0) (metres 1)) (point (metres 4) (metres 0) (metres 0)) X ≡ true
   pub was-refused : look-up-before P (cube 4) (placement (metres 0) (metres 1)) (point (metres 4) (metres 0) (metres 0)) ≡ Lookup.Refused (OffSurvey P X)

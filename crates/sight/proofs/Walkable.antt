@@ -27,7 +27,7 @@ use Rattle.survey.proofs.Lookups.{look-given}
 number-on : (k count : ℕ) → k < count → off-axis (pos k) count ≡ false
 number-on k count h = rw (le-ltZ (pos k) (pos 0) (omega arith), lt-leZ (pos count) (pos k) (omega arith))
 
--- the cell where quotients lie that are inside
+-- the cell that has quotients that are inside
 inside-grid : (n : Counts) (q : Point) → AllInside n q → InGrid n (cell-at n q)
 inside-grid n q h = record { inside = on-axis }
   where

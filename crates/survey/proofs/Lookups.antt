@@ -68,7 +68,7 @@ module _ (n : Counts) (at : Placement) (p : Point) where
 pub no-refusal : (c : cell.Cell) (r : Refusal) → ¬ (Refused r ≡ Cell c)
 no-refusal c r h = let z : _≡_ {A = ℕ} 0 1 = cc in omega arith
 
--- the quotients lie inside, and the cell is where they lie
+-- the quotients lie inside, and the cell is the one that has them
 pub look-given : (e : End) (n : Counts) (at : Placement) (p : Point) (c : cell.Cell) → PlacedGrid n at → look-up e n at p ≡ Cell c →
     AllInside n (quotients at p) × (c ≡ cell-at n (quotients at p))
 look-given e n at p c tested h =

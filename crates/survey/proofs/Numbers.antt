@@ -61,6 +61,13 @@ number-there q (suc m) r from upto = go (lt q (as-f64 m)) refl (number-there q m
           (subst (λ (k : ℕ). lt q (as-f64 k) ≡ true) (sym (add-one m)) upto),
     )
 
+-- so the search gives it
+pub below-in : (count : ℕ) (q : Float) → count ≤ 2 ^ 53 → le (as-f64 0) q ≡ true → lt q (as-f64 count) ≡ true →
+    (number-below count q < count) × (in-cell q (number-below count q) ≡ true)
+below-in count q r from upto =
+    let (n, l, there) = number-there q count r from upto in
+    rw (below-found count n q r l there) (l, there)
+
 -- ---- the far face
 
 -- the definition's number there, and off it

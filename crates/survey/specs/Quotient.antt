@@ -38,6 +38,6 @@ unfoldable pub cell-number : ℕ → Float → ℕ
 unfolding number-below
 cell-number count q = cond (on-far-face count q) (count - 1) (number-below count q)
 
--- SCOPE S3, S13: cell number n of an axis of so many cells has q: q lies in it; or it lies on the far face, and the cell is the last
+-- SCOPE S3, S13: of the cells of an axis, those below the count, number n has q: q lies in it; or q lies on the far face, and it is the last
 abbrev pub Has : ℕ → Float → ℕ → Type 0
 Has count q n = (in-cell q n ≡ true) ⊎ ((on-far-face count q ≡ true) × (n + 1 ≡ count))

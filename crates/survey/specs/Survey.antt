@@ -62,7 +62,7 @@ point-check e n p q =
     value-check e Y (n .ny) (p .y) (q .y) then
     value-check e Z (n .nz) (p .z) (q .z)
 
--- the cell where quotients lie
+-- the cell that has these quotients
 abbrev pub cell-at : Counts → Point → cell.Cell
 cell-at n q = record { x = pos (cell-number (n .nx) (q .x)); y = pos (cell-number (n .ny) (q .y)); z = pos (cell-number (n .nz) (q .z)) }
 

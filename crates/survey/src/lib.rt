@@ -166,7 +166,7 @@ fn check_point(end: End, n: Counts, point: Point, q: Point) -> Verdict
     first_of(x, first_of(y, z))
 }
 
-// The cell where quotients lie.
+// The cell that has these quotients.
 fn cell_at(n: Counts, q: Point) -> Cell
     requires { ⌜ AllInside n q ⌝ }
     ensures { λ r. ⌜ r ≡ cell-at n q ⌝ }
