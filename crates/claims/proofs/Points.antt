@@ -175,7 +175,8 @@ found (inl t) = 0
 found (inr c) = 1
 
 -- an answer that meets the contract says what the definition does
-says : {n : Counts} {at : Placement} {p : Point} {r : Lookup} {t : Told ⊎ cell.Cell} → told-lookup (cell-of n at p) ≡ t → LooksUp n at p r → told-lookup r ≡ t
+says : {n : Counts} {at : Placement} {p : Point} {r : Lookup} {t : Told ⊎ cell.Cell} → told-lookup (cell-of n at p) ≡ t → LooksUp n at p r →
+    told-lookup r ≡ t
 says is h = ap told-lookup (h .says) ∙ is
 
 pub refuted : Refuted

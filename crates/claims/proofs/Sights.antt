@@ -170,7 +170,8 @@ camera-first how n l at camera =
 
 -- ---- wrong sights
 
-pub seen-alike : (how : Manner) (n : Counts) (l : List ℕ) (at : Placement) (camera ball camera′ ball′ : Point) → SeenAlike how n l at camera ball camera′ ball′
+pub seen-alike : (how : Manner) (n : Counts) (l : List ℕ) (at : Placement) (camera ball camera′ ball′ : Point) →
+    SeenAlike how n l at camera ball camera′ ball′
 seen-alike how n l at camera ball camera′ ball′ =
     record {
       alike = λ from to s h. record {

@@ -126,7 +126,8 @@ pub not-outside : (count : ℕ) (q : Float) → outside count q ≡ false → (l
 not-outside count q h = neither (lt q (as-f64 0)) (lt (as-f64 count) q) h
 
 -- where 0 ≤ q and q is not above the count, some cell has q
-has-there : (count : ℕ) (q : Float) → 0 < count → count ≤ 2 ^ 53 → le (as-f64 0) q ≡ true → lt (as-f64 count) q ≡ false → (n : ℕ) × (n < count) × Has count q n
+has-there : (count : ℕ) (q : Float) → 0 < count → count ≤ 2 ^ 53 → le (as-f64 0) q ≡ true → lt (as-f64 count) q ≡ false →
+    (n : ℕ) × (n < count) × Has count q n
 has-there count q some r from within = go (below-or-far count q r (compared (as-f64 0) q from) within)
   where
     go : (lt q (as-f64 count) ≡ true) ⊎ (on-far-face count q ≡ true) → (n : ℕ) × (n < count) × Has count q n
@@ -177,7 +178,8 @@ pub has-not-outside : (count n : ℕ) (q : Float) → count ≤ 2 ^ 53 → n < c
 has-not-outside count n q r l h = let (number, low, high) = has-tests count n q r l h in rw (low, high) refl
 
 -- a number is outside exactly when no cell below the count has it
-pub outside-exactly : (count : ℕ) (q : Float) → 0 < count → count ≤ 2 ^ 53 → isNan q ≡ false → (outside count q ≡ true) ↔ ((n : ℕ) → n < count → ¬ (Has count q n))
+pub outside-exactly : (count : ℕ) (q : Float) → 0 < count → count ≤ 2 ^ 53 → isNan q ≡ false →
+    (outside count q ≡ true) ↔ ((n : ℕ) → n < count → ¬ (Has count q n))
 outside-exactly count q some r p = (none, lost)
   where
     none : outside count q ≡ true → (n : ℕ) → n < count → ¬ (Has count q n)
