@@ -23,6 +23,7 @@ use Rattle.cells.specs.declared.Verdict.the-variants as Verdict
 use Rattle.cells.specs.Checks.{refuse-when, _then_, by-verdict}
 use Rattle.cells.proofs.Checks.{fine-rest, each-fine, passed, by-fine}
 use Rattle.grids.specs.Grid.{shape, count-check}
+use Rattle.grids.proofs.Any.{or-false}
 use Rattle.survey.specs.declared.Lookup.{Lookup}
 use Rattle.survey.specs.declared.Lookup.the-variants.{Cell, Refused}
 use Rattle.survey.specs.declared.Placement.{Placement}
@@ -42,10 +43,6 @@ use Rattle.claims.specs.FarWall.{AxisKept, on-wall, SameOrWall, OnlyWall
 
 -- ---- one axis
 
-or-false : (b : Bool) → (b || false) ≡ b
-or-false true = refl
-or-false false = refl
-
 was-outside : (count : ℕ) (q : Float) → on-far-face count q ≡ true → outside-before count q ≡ true
 was-outside count q on =
     T→true (outside-before count q) (or-r (lt q (as-f64 0)) (le (as-f64 count) q) (true→T (equal-at-most (as-f64 count) q on .0)))
@@ -61,17 +58,17 @@ axis-kept count q =
     }
 
 -- a value by both rules: it passes both, off the far face; it is refused alike; or it lies on the far face, and the half-open rule refused it 9
-data Judged (e : End) (a : Axis) (face : Bool) (now before : Verdict) : Type 0 where
-  passes : face ≡ false → now ≡ Verdict.Fine → before ≡ Verdict.Fine → Judged e a face now before
-  alike : (r : Refusal) → now ≡ Verdict.Refused r → before ≡ Verdict.Refused r → Judged e a face now before
-  wall : face ≡ true → before ≡ Verdict.Refused (Refusal.OffSurvey e a) → Judged e a face now before
+data ByBoth (e : End) (a : Axis) (face : Bool) (now before : Verdict) : Type 0 where
+  passes : face ≡ false → now ≡ Verdict.Fine → before ≡ Verdict.Fine → ByBoth e a face now before
+  alike : (r : Refusal) → now ≡ Verdict.Refused r → before ≡ Verdict.Refused r → ByBoth e a face now before
+  wall : face ≡ true → before ≡ Verdict.Refused (Refusal.OffSurvey e a) → ByBoth e a face now before
 
-judged : (e : End) (a : Axis) (count : ℕ) (value q : Float) →
-    Judged e a (on-far-face count q) (value-check e a count value q) (value-before e a count value q)
-judged e a count value q = go (on-far-face count q) refl
+by-both : (e : End) (a : Axis) (count : ℕ) (value q : Float) →
+    ByBoth e a (on-far-face count q) (value-check e a count value q) (value-before e a count value q)
+by-both e a count value q = go (on-far-face count q) refl
   where
     Case : Type 0
-    Case = Judged e a (on-far-face count q) (value-check e a count value q) (value-before e a count value q)
+    Case = ByBoth e a (on-far-face count q) (value-check e a count value q) (value-before e a count value q)
 
     same : on-far-face count q ≡ false → value-before e a count value q ≡ value-check e a count value q
     same off = ap (λ b. refuse-when (not (finite value)) (Refusal.NotFinite e a) then refuse-when b (Refusal.OffSurvey e a)) (sym (axis-kept count q .test off))
@@ -101,11 +98,11 @@ module _ (e : End) (n : Counts) (at : Placement) (p : Point) where
   look-moved : SameOrWall Refused e n at p (look-up e n at p) (look-up-before e n at p)
   unfolding look-up point-check
   look-moved =
-      by-axes (judged e X (n .nx) (p .x) (q .x)) (judged e Y (n .ny) (p .y) (q .y)) (judged e Z (n .nz) (p .z) (q .z))
+      by-axes (by-both e X (n .nx) (p .x) (q .x)) (by-both e Y (n .ny) (p .y) (q .y)) (by-both e Z (n .nz) (p .z) (q .z))
     where
-      by-axes : Judged e X (on-wall n at p X) (value-check e X (n .nx) (p .x) (q .x)) (value-before e X (n .nx) (p .x) (q .x)) →
-          Judged e Y (on-wall n at p Y) (value-check e Y (n .ny) (p .y) (q .y)) (value-before e Y (n .ny) (p .y) (q .y)) →
-          Judged e Z (on-wall n at p Z) (value-check e Z (n .nz) (p .z) (q .z)) (value-before e Z (n .nz) (p .z) (q .z)) →
+      by-axes : ByBoth e X (on-wall n at p X) (value-check e X (n .nx) (p .x) (q .x)) (value-before e X (n .nx) (p .x) (q .x)) →
+          ByBoth e Y (on-wall n at p Y) (value-check e Y (n .ny) (p .y) (q .y)) (value-before e Y (n .ny) (p .y) (q .y)) →
+          ByBoth e Z (on-wall n at p Z) (value-check e Z (n .nz) (p .z) (q .z)) (value-before e Z (n .nz) (p .z) (q .z)) →
           SameOrWall Refused e n at p (look-up e n at p) (look-up-before e n at p)
       by-axes (wall on x) y z = inr (X, on, rw x refl)
       by-axes (alike r x x′) y z = inl (rw (x, x′) refl)

@@ -32,7 +32,7 @@ use Rattle.survey.proofs.Survey.{placed, point-fine}
 use Rattle.survey.proofs.Lookups.{cell-given, cell-found, look-given}
 use Rattle.claims.specs.Tables.{no-more, _and_}
 use Rattle.claims.specs.Points.{OneAnswer, Coordinate, OneCoordinate, OnlyOne, InItsCell, Finite, TheCell, Outside, Exact, Shares}
-use Rattle.claims.specs.Points.{Refuted, Every, table, wall-rows, cube, placement, metres, tenths, next-above, point, cell-is, refused}
+use Rattle.claims.specs.Points.{Refuted, Every, table, wall-rows, cube, one-metre, metres, tenths, next-above, point, cell-is, refused}
 
 pub one-answer : (n : Counts) (at : Placement) (p : Point) → OneAnswer n at p
 one-answer n at p = record { alone = λ r s e f. e .says ∙ sym (f .says) }
@@ -153,15 +153,15 @@ surveyed =
     refl and refl and refl and walls-hold
 
 -- what the definition says at 1.5 m, on the far wall and behind it
-at-one-and-a-half : told-lookup (cell-of (cube 4) (placement (metres 0) (metres 1)) (point (tenths 15) (metres 0) (metres 0))) ≡ cell-is 1 0 0
+at-one-and-a-half : told-lookup (cell-of (cube 4) one-metre (point (tenths 15) (metres 0) (metres 0))) ≡ cell-is 1 0 0
 unfolding cell-of eq le lt ofInt div sub
 at-one-and-a-half = refl
 
-at-the-wall : told-lookup (cell-of (cube 4) (placement (metres 0) (metres 1)) (point (metres 4) (metres 0) (metres 0))) ≡ cell-is 3 0 0
+at-the-wall : told-lookup (cell-of (cube 4) one-metre (point (metres 4) (metres 0) (metres 0))) ≡ cell-is 3 0 0
 unfolding cell-of eq le lt ofInt div sub
 at-the-wall = refl
 
-behind-the-wall : told-lookup (cell-of (cube 4) (placement (metres 0) (metres 1)) (point (next-above 4) (metres 0) (metres 0))) ≡ refused (at-end 9 P X)
+behind-the-wall : told-lookup (cell-of (cube 4) one-metre (point (next-above 4) (metres 0) (metres 0))) ≡ refused (at-end 9 P X)
 unfolding cell-of eq le lt ofInt div sub ofBits toBits
 behind-the-wall = refl
 

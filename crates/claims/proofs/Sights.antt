@@ -41,7 +41,7 @@ use Rattle.claims.proofs.Story.{nothing-in-the-way}
 use Rattle.claims.specs.Sights.{SeenOnce, AsTheWalk, NothingInSight, CameraFirst, BlockedAsHit, SeenAlike, Seen-there, Seen-back, Housed, WrongSights}
 use Rattle.claims.specs.Sights.{FarCorner}
 use Rattle.claims.specs.Example.{example-counts, at}
-use Rattle.claims.specs.Points.{metres, placement, point}
+use Rattle.claims.specs.Points.{metres, one-metre, point}
 use Rattle.claims.specs.Starred.{halves}
 
 -- 0 clear, 1 blocked, 2 refused
@@ -168,7 +168,7 @@ camera-first how n l at camera =
     alike r lost ball = sight-is how n l at camera ball
         ∙ ap (λ s. by-verdict Refused s (shape n (length l) then placement-check at)) (camera-refused how n l at camera ball (sym lost) refl)
 
--- ---- wrong sights
+-- ---- points that are looked up alike, and the far corner
 
 pub seen-alike : (how : Manner) (n : Counts) (l : List ℕ) (at : Placement) (camera ball camera′ ball′ : Point) →
     SeenAlike how n l at camera ball camera′ ball′
@@ -183,11 +183,11 @@ seen-alike how n l at camera ball camera′ ball′ =
     }
 
 -- the far corner is looked up as the middle of its cell, (3,1,0)
-corner-looked-up : (e : End) → look-up e example-counts (placement (metres 0) (metres 1)) (point (metres 4) (metres 2) (metres 1)) ≡ Lookup.Cell (at 3 1 0)
+corner-looked-up : (e : End) → look-up e example-counts one-metre (point (metres 4) (metres 2) (metres 1)) ≡ Lookup.Cell (at 3 1 0)
 unfolding look-up eq le lt ofInt div sub
 corner-looked-up e = refl
 
-middle-looked-up : (e : End) → look-up e example-counts (placement (metres 0) (metres 1)) (point (halves 7) (halves 3) (halves 1)) ≡ Lookup.Cell (at 3 1 0)
+middle-looked-up : (e : End) → look-up e example-counts one-metre (point (halves 7) (halves 3) (halves 1)) ≡ Lookup.Cell (at 3 1 0)
 unfolding look-up eq le lt ofInt div sub
 middle-looked-up e = refl
 
@@ -197,6 +197,8 @@ far-corner =
       ball = λ how. seen-alike how _ _ _ _ _ _ _ .alike refl (corner-looked-up Q ∙ sym (middle-looked-up Q));
       camera = λ how. seen-alike how _ _ _ _ _ _ _ .alike (corner-looked-up P ∙ sym (middle-looked-up P)) refl;
     }
+
+-- ---- wrong sights
 
 pub wrong-sights : WrongSights
 unfolding kind block-or sight eq le lt ofInt div sub

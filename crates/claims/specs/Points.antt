@@ -120,6 +120,10 @@ cube k = record { nx = k; ny = k; nz = k }
 abbrev pub placement : Float → Float → Placement
 placement o edge = record { ox = o; oy = o; oz = o; edge = edge }
 
+-- origin 0, and cells of one metre
+abbrev pub one-metre : Placement
+one-metre = placement (metres 0) (metres 1)
+
 abbrev pub point : (x y z : Float) → Point
 point x y z = record { x = x; y = y; z = z }
 
@@ -151,31 +155,31 @@ Every = EachRow Holds
 -- the far walls of cubes of 1, 3 and 1,024 cells a side: the count itself and the f64 below it are the last cell's, the one above is refused 9, on each axis
 abbrev pub wall-rows : List Row
 wall-rows =
-    row (cube 1) (placement (metres 0) (metres 1)) (point (next-below 1) (metres 1) (metres 1)) (cell-is 0 0 0)
-    ∷ row (cube 1) (placement (metres 0) (metres 1)) (point (metres 1) (next-below 1) (next-below 1)) (cell-is 0 0 0)
-    ∷ row (cube 1) (placement (metres 0) (metres 1)) (point (next-above 1) (metres 1) (metres 1)) (refused (at-end 9 P X))
-    ∷ row (cube 1) (placement (metres 0) (metres 1)) (point (metres 1) (next-above 1) (metres 1)) (refused (at-end 9 P Y))
-    ∷ row (cube 1) (placement (metres 0) (metres 1)) (point (metres 1) (metres 1) (next-above 1)) (refused (at-end 9 P Z))
-    ∷ row (cube 3) (placement (metres 0) (metres 1)) (point (next-below 3) (metres 3) (metres 3)) (cell-is 2 2 2)
-    ∷ row (cube 3) (placement (metres 0) (metres 1)) (point (metres 3) (next-below 3) (next-below 3)) (cell-is 2 2 2)
-    ∷ row (cube 3) (placement (metres 0) (metres 1)) (point (next-above 3) (metres 3) (metres 3)) (refused (at-end 9 P X))
-    ∷ row (cube 3) (placement (metres 0) (metres 1)) (point (metres 3) (next-above 3) (metres 3)) (refused (at-end 9 P Y))
-    ∷ row (cube 3) (placement (metres 0) (metres 1)) (point (metres 3) (metres 3) (next-above 3)) (refused (at-end 9 P Z))
-    ∷ row (cube 1024) (placement (metres 0) (metres 1)) (point (next-below 1024) (metres 1024) (metres 1024)) (cell-is 1023 1023 1023)
-    ∷ row (cube 1024) (placement (metres 0) (metres 1)) (point (metres 1024) (next-below 1024) (next-below 1024)) (cell-is 1023 1023 1023)
-    ∷ row (cube 1024) (placement (metres 0) (metres 1)) (point (next-above 1024) (metres 1024) (metres 1024)) (refused (at-end 9 P X))
-    ∷ row (cube 1024) (placement (metres 0) (metres 1)) (point (metres 1024) (next-above 1024) (metres 1024)) (refused (at-end 9 P Y))
-    ∷ row (cube 1024) (placement (metres 0) (metres 1)) (point (metres 1024) (metres 1024) (next-above 1024)) (refused (at-end 9 P Z))
+    row (cube 1) one-metre (point (next-below 1) (metres 1) (metres 1)) (cell-is 0 0 0)
+    ∷ row (cube 1) one-metre (point (metres 1) (next-below 1) (next-below 1)) (cell-is 0 0 0)
+    ∷ row (cube 1) one-metre (point (next-above 1) (metres 1) (metres 1)) (refused (at-end 9 P X))
+    ∷ row (cube 1) one-metre (point (metres 1) (next-above 1) (metres 1)) (refused (at-end 9 P Y))
+    ∷ row (cube 1) one-metre (point (metres 1) (metres 1) (next-above 1)) (refused (at-end 9 P Z))
+    ∷ row (cube 3) one-metre (point (next-below 3) (metres 3) (metres 3)) (cell-is 2 2 2)
+    ∷ row (cube 3) one-metre (point (metres 3) (next-below 3) (next-below 3)) (cell-is 2 2 2)
+    ∷ row (cube 3) one-metre (point (next-above 3) (metres 3) (metres 3)) (refused (at-end 9 P X))
+    ∷ row (cube 3) one-metre (point (metres 3) (next-above 3) (metres 3)) (refused (at-end 9 P Y))
+    ∷ row (cube 3) one-metre (point (metres 3) (metres 3) (next-above 3)) (refused (at-end 9 P Z))
+    ∷ row (cube 1024) one-metre (point (next-below 1024) (metres 1024) (metres 1024)) (cell-is 1023 1023 1023)
+    ∷ row (cube 1024) one-metre (point (metres 1024) (next-below 1024) (next-below 1024)) (cell-is 1023 1023 1023)
+    ∷ row (cube 1024) one-metre (point (next-above 1024) (metres 1024) (metres 1024)) (refused (at-end 9 P X))
+    ∷ row (cube 1024) one-metre (point (metres 1024) (next-above 1024) (metres 1024)) (refused (at-end 9 P Y))
+    ∷ row (cube 1024) one-metre (point (metres 1024) (metres 1024) (next-above 1024)) (refused (at-end 9 P Z))
     -- one wall alone, each
-    ∷ row (cube 4) (placement (metres 0) (metres 1)) (point (metres 4) (metres 0) (metres 0)) (cell-is 3 0 0)
-    ∷ row (cube 4) (placement (metres 0) (metres 1)) (point (metres 0) (metres 4) (metres 0)) (cell-is 0 3 0)
-    ∷ row (cube 4) (placement (metres 0) (metres 1)) (point (metres 0) (metres 0) (metres 4)) (cell-is 0 0 3)
+    ∷ row (cube 4) one-metre (point (metres 4) (metres 0) (metres 0)) (cell-is 3 0 0)
+    ∷ row (cube 4) one-metre (point (metres 0) (metres 4) (metres 0)) (cell-is 0 3 0)
+    ∷ row (cube 4) one-metre (point (metres 0) (metres 0) (metres 4)) (cell-is 0 0 3)
     -- the rounded q decides. Of the f64 nearest to these tenths, (0.9 - 0.1) / 0.2 is less than 4 and rounds to it, (1.1 - 0.1) / 0.2 is more than 5 and rounds
     -- to it; and (0.9 - 0.3) / 0.2 is 3, and rounds to more
     ∷ row (counts 4 5 3) (placement (tenths 1) (tenths 2)) (point (tenths 9) (tenths 11) (tenths 7)) (cell-is 3 4 2)
     ∷ row (counts 3 4 1) (placement (tenths 3) (tenths 2)) (point (tenths 9) (tenths 3) (tenths 3)) (refused (at-end 9 P X))
     -- the wall of x is passed, so that y is what is refused
-    ∷ row (cube 4) (placement (metres 0) (metres 1)) (point (metres 4) nan (metres 9)) (refused (at-end 8 P Y))
+    ∷ row (cube 4) one-metre (point (metres 4) nan (metres 9)) (refused (at-end 8 P Y))
     ∷ []
 
 -- accepted: 1.5 m at an edge of 1 m; 1,024 cells; minus zero; (0.7 - 0.1) / 0.2, which rounds to less than 3; a quotient that rounds to minus zero.
@@ -183,38 +187,38 @@ wall-rows =
 -- NaN (7); counts 0 and 1,025 (2), before 7.
 abbrev pub table : List Row
 table =
-    row (cube 4) (placement (metres 0) (metres 1)) (point (tenths 15) (metres 0) (tenths 39)) (cell-is 1 0 3)
-    ∷ row (cube 1024) (placement (metres 0) (metres 1)) (point (metres 1023) (metres 1) (metres 512)) (cell-is 1023 1 512)
-    ∷ row (cube 4) (placement (metres 0) (metres 1)) (point (neg (metres 0)) (metres 1) (metres 2)) (cell-is 0 1 2)
+    row (cube 4) one-metre (point (tenths 15) (metres 0) (tenths 39)) (cell-is 1 0 3)
+    ∷ row (cube 1024) one-metre (point (metres 1023) (metres 1) (metres 512)) (cell-is 1023 1 512)
+    ∷ row (cube 4) one-metre (point (neg (metres 0)) (metres 1) (metres 2)) (cell-is 0 1 2)
     ∷ row (cube 4) (placement (tenths 1) (tenths 2)) (point (tenths 7) (tenths 1) (tenths 3)) (cell-is 2 0 0)
     ∷ row (cube 4) (placement (metres 0) (metres 4)) (point (neg smallest) (metres 5) (metres 15)) (cell-is 0 1 3)
-    ∷ row (cube 4) (placement (metres 0) (metres 1)) (point (neg smallest) (metres 0) (metres 0)) (refused (at-end 9 P X))
-    ∷ row (cube 4) (placement (metres 0) (metres 1)) (point (metres 0) (metres 5) (metres 0)) (refused (at-end 9 P Y))
+    ∷ row (cube 4) one-metre (point (neg smallest) (metres 0) (metres 0)) (refused (at-end 9 P X))
+    ∷ row (cube 4) one-metre (point (metres 0) (metres 5) (metres 0)) (refused (at-end 9 P Y))
     ∷ row (cube 4) (placement (metres 0) smallest) (point (metres 0) (metres 1) (metres 0)) (refused (at-end 9 P Y))
-    ∷ row (cube 4) (placement (metres 0) (metres 1)) (point (metres 0) nan (metres 0)) (refused (at-end 8 P Y))
-    ∷ row (cube 4) (placement (metres 0) (metres 1)) (point (inf true) nan nan) (refused (at-end 8 P X))
-    ∷ row (cube 4) (placement (metres 0) (metres 1)) (point (metres 9) nan nan) (refused (at-end 9 P X))
+    ∷ row (cube 4) one-metre (point (metres 0) nan (metres 0)) (refused (at-end 8 P Y))
+    ∷ row (cube 4) one-metre (point (inf true) nan nan) (refused (at-end 8 P X))
+    ∷ row (cube 4) one-metre (point (metres 9) nan nan) (refused (at-end 9 P X))
     ∷ row (cube 4) (placement (metres 0) (metres 0)) (point nan nan nan) (placement-refused Edge)
     ∷ row (cube 4) (placement (metres 0) nan) (point (metres 0) (metres 0) (metres 0)) (placement-refused Edge)
     ∷ row (cube 4) (placement (metres 0) (inf false)) (point (metres 0) (metres 0) (metres 0)) (placement-refused Edge)
     ∷ row (cube 4) (placement (metres 0) (neg (metres 1))) (point (metres 0) (metres 0) (metres 0)) (placement-refused Edge)
     ∷ row (cube 4) (placement nan nan) (point (metres 0) (metres 0) (metres 0)) (placement-refused OriginX)
     ∷ row (cube 0) (placement nan nan) (point nan nan nan) (count-refused X)
-    ∷ row (cube 1025) (placement (metres 0) (metres 1)) (point (metres 0) (metres 0) (metres 0)) (count-refused X)
+    ∷ row (cube 1025) one-metre (point (metres 0) (metres 0) (metres 0)) (count-refused X)
     ∷ wall-rows
 
 -- ---- wrong answers that the contract rules out
 
 -- "always cell 0", and "refused always", at 1.5 m of 4 cells
 abbrev pub Found-there : Lookup → Type 0
-Found-there = LooksUp (cube 4) (placement (metres 0) (metres 1)) (point (tenths 15) (metres 0) (metres 0))
+Found-there = LooksUp (cube 4) one-metre (point (tenths 15) (metres 0) (metres 0))
 
 -- on the far wall of x, 4 m of 4 cells; and the next f64 behind it
 abbrev pub Found-on-wall : Lookup → Type 0
-Found-on-wall = LooksUp (cube 4) (placement (metres 0) (metres 1)) (point (metres 4) (metres 0) (metres 0))
+Found-on-wall = LooksUp (cube 4) one-metre (point (metres 4) (metres 0) (metres 0))
 
 abbrev pub Found-behind : Lookup → Type 0
-Found-behind = LooksUp (cube 4) (placement (metres 0) (metres 1)) (point (next-above 4) (metres 0) (metres 0))
+Found-behind = LooksUp (cube 4) one-metre (point (next-above 4) (metres 0) (metres 0))
 
 pub record Refuted : Type 0 where
   pub always-first-cell : Found-there (Cell (record { x = pos 0; y = pos 0; z = pos 0 })) → ⊥

@@ -33,7 +33,7 @@ use Rattle.sight.specs.declared.Block.{Block}
 use Rattle.sight.specs.declared.Sight.{Sight}
 use Rattle.sight.specs.declared.Sight.the-variants.{Clear, Blocked, Refused}
 use Rattle.sight.specs.Sight.{share-of, sight-of, Sees}
-use Rattle.claims.specs.Points.{metres, placement, point}
+use Rattle.claims.specs.Points.{metres, one-metre, point}
 use Rattle.claims.specs.Example.{example-counts, marked-cells}
 use Rattle.claims.specs.Starred.{halves}
 
@@ -95,29 +95,29 @@ module _ (how : Manner) (n : Counts) (l : List ℕ) (at : Placement) where
 
 abbrev pub Seen-there : Manner → Sight → Type 0
 Seen-there how =
-    Sees how example-counts marked-cells (placement (metres 0) (metres 1)) (point (halves 1) (halves 1) (halves 1))
+    Sees how example-counts marked-cells one-metre (point (halves 1) (halves 1) (halves 1))
     (point (halves 7) (halves 3) (halves 1))
 
 -- the same there exchanged: rule 2 meets the solid cell, rule 1 passes it
 abbrev pub Seen-back : Manner → Sight → Type 0
 Seen-back how =
-    Sees how example-counts marked-cells (placement (metres 0) (metres 1)) (point (halves 7) (halves 3) (halves 1))
+    Sees how example-counts marked-cells one-metre (point (halves 7) (halves 3) (halves 1))
     (point (halves 1) (halves 1) (halves 1))
 
 -- and from the solid cell itself, (1,1,0): a camera in its housing
 abbrev pub Housed : Manner → Sight → Type 0
 Housed how =
-    Sees how example-counts marked-cells (placement (metres 0) (metres 1)) (point (halves 3) (halves 3) (halves 1))
+    Sees how example-counts marked-cells one-metre (point (halves 3) (halves 3) (halves 1))
     (point (halves 7) (halves 3) (halves 1))
 
 -- the ball in the far corner of the box, (4, 2, 1), and the camera there: on the far walls of x, y and z
 abbrev pub Ball-on-walls : Manner → Sight → Type 0
 Ball-on-walls how =
-    Sees how example-counts marked-cells (placement (metres 0) (metres 1)) (point (halves 1) (halves 1) (halves 1)) (point (metres 4) (metres 2) (metres 1))
+    Sees how example-counts marked-cells one-metre (point (halves 1) (halves 1) (halves 1)) (point (metres 4) (metres 2) (metres 1))
 
 abbrev pub Camera-on-walls : Manner → Sight → Type 0
 Camera-on-walls how =
-    Sees how example-counts marked-cells (placement (metres 0) (metres 1)) (point (metres 4) (metres 2) (metres 1)) (point (halves 1) (halves 1) (halves 1))
+    Sees how example-counts marked-cells one-metre (point (metres 4) (metres 2) (metres 1)) (point (halves 1) (halves 1) (halves 1))
 
 -- 7. The far corner is seen as the middle of its cell, (3,1,0), in every manner.
 pub record FarCorner : Type 0 where

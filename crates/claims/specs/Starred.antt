@@ -37,7 +37,7 @@ use Rattle.survey.specs.declared.Point.{Point}
 use Rattle.survey.specs.Quotient.{as-f64}
 use Rattle.sight.specs.Sight as sights
 use Rattle.sight.specs.Sight.{sight, told-sight, blocked}
-use Rattle.claims.specs.Points.{metres, next-above, placement, point}
+use Rattle.claims.specs.Points.{metres, next-above, one-metre, point}
 use Rattle.claims.specs.Tables.{EachRow}
 use Rattle.claims.specs.Example.{counts, at, example-counts, example-cells, marked-cells}
 use Rattle.claims.specs.Rules.{low-post}
@@ -84,7 +84,7 @@ pub data Row : Type 0 where
   writes : List ℕ → List ℕ → Row
   sees : Manner → Counts → List ℕ → Placement → Point → Point → ℕ → Cell → ℕ → ℕ → Face → Row
   sees-clear : Manner → Counts → List ℕ → Placement → Point → Point → Row
-  sees-none : Manner → Counts → List ℕ → Placement → Point → Point → Told → Row
+  no-sight : Manner → Counts → List ℕ → Placement → Point → Point → Told → Row
 
 -- what a row says
 abbrev pub Holds : Row → Type 0
@@ -100,7 +100,7 @@ Holds (venue-part s cells) = venue-cells s ≡ cells
 Holds (sees how n l place camera ball share c code reads face) =
     told-sight (sight how n l place camera ball) ≡ inr (blocked (record { share = ofBits binary64 share; cell = c; code = code; reads = reads; face = face }))
 Holds (sees-clear how n l place camera ball) = told-sight (sight how n l place camera ball) ≡ inr sights.clear
-Holds (sees-none how n l place camera ball t) = told-sight (sight how n l place camera ball) ≡ inl t
+Holds (no-sight how n l place camera ball t) = told-sight (sight how n l place camera ball) ≡ inl t
 Holds (pair s p q rule) = told-pair (pair-read s) ≡ inr (p, q, rule)
 Holds (no-pair s t) = told-pair (pair-read s) ≡ inl t
 Holds (writes s out) = output s ≡ out
@@ -145,38 +145,38 @@ record-rows =
 -- the marked program's venue, its origin 0, its edge 1 metre, from the middle of (0,0,0) to the middle of (3,1,0): share 0.5
 abbrev pub sight-rows : List Row
 sight-rows =
-    sees tested-start example-counts marked-cells (placement (metres 0) (metres 1)) (point (halves 1) (halves 1) (halves 1))
+    sees tested-start example-counts marked-cells one-metre (point (halves 1) (halves 1) (halves 1))
     (point (halves 7) (halves 3) (halves 1)) 0x3fe0_0000_0000_0000 (at 1 1 0) 2 3 (Face.Plus Y)
     -- a place of 3 over 10, from the camera on
-    ∷ sees tested-start (counts 6 3 1) long-bytes (placement (metres 0) (metres 1)) (point (halves 1) (halves 1) (halves 1))
+    ∷ sees tested-start (counts 6 3 1) long-bytes one-metre (point (halves 1) (halves 1) (halves 1))
     (point (halves 11) (halves 5) (halves 1)) 0x3fd3_3333_3333_3333 (at 2 1 0) 2 3 (Face.Plus X)
     -- a camera in its housing, the solid cell (1,1,0), and the ball in (3,1,0): clear, and where the start is tested blocked at share 0
-    ∷ sees-clear usual example-counts marked-cells (placement (metres 0) (metres 1)) (point (halves 3) (halves 3) (halves 1))
+    ∷ sees-clear usual example-counts marked-cells one-metre (point (halves 3) (halves 3) (halves 1))
     (point (halves 7) (halves 3) (halves 1))
-    ∷ sees tested-start example-counts marked-cells (placement (metres 0) (metres 1)) (point (halves 3) (halves 3) (halves 1))
+    ∷ sees tested-start example-counts marked-cells one-metre (point (halves 3) (halves 3) (halves 1))
     (point (halves 7) (halves 3) (halves 1)) 0 (at 1 1 0) 2 1 Face.None
     -- and in a housing of two cells: the one beside it is in the way, at share 0.25
-    ∷ sees usual (counts 3 1 1) (2 ∷ 2 ∷ 0 ∷ []) (placement (metres 0) (metres 1)) (point (halves 1) (halves 1) (halves 1))
+    ∷ sees usual (counts 3 1 1) (2 ∷ 2 ∷ 0 ∷ []) one-metre (point (halves 1) (halves 1) (halves 1))
     (point (halves 5) (halves 1) (halves 1)) 0x3fd0_0000_0000_0000 (at 1 0 0) 2 2 (Face.Plus X)
     -- from the middle of (3,1,0) to the middle of (0,0,0): in the way by rule 2, and passed by rule 1
-    ∷ sees (tested-by Two) example-counts marked-cells (placement (metres 0) (metres 1)) (point (halves 7) (halves 3) (halves 1))
+    ∷ sees (tested-by Two) example-counts marked-cells one-metre (point (halves 7) (halves 3) (halves 1))
     (point (halves 1) (halves 1) (halves 1)) 0x3fe0_0000_0000_0000 (at 1 1 0) 2 3 (Face.Minus X)
-    ∷ sees-clear (tested-by One) example-counts marked-cells (placement (metres 0) (metres 1)) (point (halves 7) (halves 3) (halves 1))
+    ∷ sees-clear (tested-by One) example-counts marked-cells one-metre (point (halves 7) (halves 3) (halves 1))
     (point (halves 1) (halves 1) (halves 1))
     -- on the far walls, as from the middles of the last cells: the ball in the far corner, (3,1,0); the camera there; the camera on the wall of y alone,
     -- in its housing (1,1,0); the ball on the wall of z alone
-    ∷ sees tested-start example-counts marked-cells (placement (metres 0) (metres 1)) (point (halves 1) (halves 1) (halves 1))
+    ∷ sees tested-start example-counts marked-cells one-metre (point (halves 1) (halves 1) (halves 1))
     (point (metres 4) (metres 2) (metres 1)) 0x3fe0_0000_0000_0000 (at 1 1 0) 2 3 (Face.Plus Y)
-    ∷ sees (tested-by Two) example-counts marked-cells (placement (metres 0) (metres 1)) (point (metres 4) (metres 2) (metres 1))
+    ∷ sees (tested-by Two) example-counts marked-cells one-metre (point (metres 4) (metres 2) (metres 1))
     (point (halves 1) (halves 1) (halves 1)) 0x3fe0_0000_0000_0000 (at 1 1 0) 2 3 (Face.Minus X)
-    ∷ sees tested-start example-counts marked-cells (placement (metres 0) (metres 1)) (point (halves 3) (metres 2) (halves 1))
+    ∷ sees tested-start example-counts marked-cells one-metre (point (halves 3) (metres 2) (halves 1))
     (point (halves 7) (halves 3) (halves 1)) 0 (at 1 1 0) 2 1 Face.None
-    ∷ sees usual (counts 1 1 3) (0 ∷ 2 ∷ 0 ∷ []) (placement (metres 0) (metres 1)) (point (halves 1) (halves 1) (halves 1))
+    ∷ sees usual (counts 1 1 3) (0 ∷ 2 ∷ 0 ∷ []) one-metre (point (halves 1) (halves 1) (halves 1))
     (point (halves 1) (halves 1) (metres 3)) 0x3fd0_0000_0000_0000 (at 0 0 1) 2 2 (Face.Plus Z)
     -- the next f64 behind a wall: the camera's on z, though the ball's x is behind too; the ball's on y, from a camera in the far corner
-    ∷ sees-none usual example-counts marked-cells (placement (metres 0) (metres 1)) (point (metres 4) (metres 2) (next-above 1))
+    ∷ no-sight usual example-counts marked-cells one-metre (point (metres 4) (metres 2) (next-above 1))
     (point (next-above 4) (metres 2) (metres 1)) (at-end 9 P Z)
-    ∷ sees-none usual example-counts marked-cells (placement (metres 0) (metres 1)) (point (metres 4) (metres 2) (metres 1))
+    ∷ no-sight usual example-counts marked-cells one-metre (point (metres 4) (metres 2) (metres 1))
     (point (metres 4) (next-above 2) (metres 1)) (at-end 9 Q Y)
     ∷ record-rows
 

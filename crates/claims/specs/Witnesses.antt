@@ -52,7 +52,7 @@ use Rattle.claims.specs.Program.{Runs, example-input, example-output}
 use Rattle.claims.specs.Example.{counts, at, example-counts, example-cells, marked-cells}
 use Rattle.claims.specs.Lists.{lowest, highest, room}
 use Rattle.claims.specs.Rules.{ComesFirst, four-cells, by-xzy}
-use Rattle.claims.specs.Points.{Finite, InItsCell, cube, metres, tenths, placement, point}
+use Rattle.claims.specs.Points.{Finite, InItsCell, cube, metres, tenths, one-metre, point}
 use Rattle.claims.specs.FarWall.{look-up-before, on-wall}
 use Rattle.claims.specs.Records.{Right, RightPair, example-venue, example-pair, example-room, pair-by}
 use Rattle.claims.specs.ProgramRows.{no-cells}
@@ -134,22 +134,22 @@ pub record OfGrids : Type 0 where
   pub clear-start : solid (byte-of example-counts marked-cells (at 0 0 0)) ≡ false
 
 pub record OfPoints : Type 0 where
-  pub tested : PlacedGrid (cube 4) (placement (metres 0) (metres 1))
+  pub tested : PlacedGrid (cube 4) one-metre
   pub finite : Finite (point (tenths 15) (metres 0) (tenths 39))
-  pub in-its-cell : InItsCell (cube 4) (quotients (placement (metres 0) (metres 1)) (point (tenths 15) (metres 0) (tenths 39))) (at 1 0 3)
-  pub looked-up : LooksUp (cube 4) (placement (metres 0) (metres 1)) (point (tenths 15) (metres 0) (tenths 39)) (Lookup.Cell (at 1 0 3))
+  pub in-its-cell : InItsCell (cube 4) (quotients one-metre (point (tenths 15) (metres 0) (tenths 39))) (at 1 0 3)
+  pub looked-up : LooksUp (cube 4) one-metre (point (tenths 15) (metres 0) (tenths 39)) (Lookup.Cell (at 1 0 3))
   -- a point on the far walls; one on the first, which the half-open rule refused; and one behind it, which does not lie on it
-  pub in-last-cell : InItsCell (cube 4) (quotients (placement (metres 0) (metres 1)) (point (metres 4) (metres 4) (metres 4))) (at 3 3 3)
-  pub on-first : on-wall (cube 4) (placement (metres 0) (metres 1)) (point (metres 4) (metres 0) (metres 0)) X ≡ true
-  pub was-refused : look-up-before P (cube 4) (placement (metres 0) (metres 1)) (point (metres 4) (metres 0) (metres 0)) ≡ Lookup.Refused (OffSurvey P X)
-  pub behind-first : on-wall (cube 4) (placement (metres 0) (metres 1)) (point (metres 5) (metres 0) (metres 0)) X ≡ false
+  pub in-last-cell : InItsCell (cube 4) (quotients one-metre (point (metres 4) (metres 4) (metres 4))) (at 3 3 3)
+  pub on-first : on-wall (cube 4) one-metre (point (metres 4) (metres 0) (metres 0)) X ≡ true
+  pub was-refused : look-up-before P (cube 4) one-metre (point (metres 4) (metres 0) (metres 0)) ≡ Lookup.Refused (OffSurvey P X)
+  pub behind-first : on-wall (cube 4) one-metre (point (metres 5) (metres 0) (metres 0)) X ≡ false
   -- a camera behind the far wall has no cell
-  pub off-survey : look-up P (cube 4) (placement (metres 0) (metres 1)) (point (metres 5) (metres 0) (metres 0)) ≡ Lookup.Refused (OffSurvey P X)
+  pub off-survey : look-up P (cube 4) one-metre (point (metres 5) (metres 0) (metres 0)) ≡ Lookup.Refused (OffSurvey P X)
   -- a clear sight over complete marks
-  pub seen : Sees usual (counts 3 2 1) all-clear (placement (metres 0) (metres 1)) (point (halves 1) (halves 1) (halves 1))
+  pub seen : Sees usual (counts 3 2 1) all-clear one-metre (point (halves 1) (halves 1) (halves 1))
       (point (halves 5) (halves 3) (halves 1)) Sight.Clear
   -- a blocked one, in the program's venue, marked
-  pub blocked : Sees tested-start example-counts marked-cells (placement (metres 0) (metres 1)) (point (halves 1) (halves 1) (halves 1))
+  pub blocked : Sees tested-start example-counts marked-cells one-metre (point (halves 1) (halves 1) (halves 1))
       (point (halves 7) (halves 3) (halves 1))
       (Sight.Blocked (record { share = share-of 1 2; cell = at 1 1 0; code = 2; reads = 3; face = Face.Plus Y }))
 
