@@ -7,6 +7,7 @@ use native.Mathlib.Omega.{arith}
 use Rattle.cells.specs.declared.Refusal.{Refusal}
 use Rattle.cells.specs.declared.Verdict.{Verdict}
 use Rattle.cells.specs.declared.Verdict.the-variants.{Fine, Refused}
+use Rattle.cells.specs.Refusals.{told}
 use Rattle.cells.specs.Checks.{refuse-when, _then_, by-verdict}
 
 refused-not-fine : {A : Type 0} {r : Refusal} → Refused r ≡ Fine → A
@@ -31,6 +32,27 @@ each-fine v w h = (fine-first v w h, fine-rest v w h)
 pub then-same : (v : Verdict) {a b : Verdict} → (v ≡ Fine → a ≡ b) → (v then a) ≡ (v then b)
 then-same Fine h = h refl
 then-same (Refused r) h = refl
+
+-- three in a row, the first two together
+pub then-assoc : (u v w : Verdict) → ((u then v) then w) ≡ (u then v then w)
+then-assoc Fine v w = refl
+then-assoc (Refused r) v w = refl
+
+-- fine, or refused otherwise than by number k
+abbrev pub NotBy : ℕ → Verdict → Type 0
+NotBy k Fine = Unit {0}
+NotBy k (Refused r) = told r .number ≡ k → ⊥
+
+pub not-then : (k : ℕ) (v w : Verdict) → NotBy k v → NotBy k w → NotBy k (v then w)
+not-then k Fine w a b = b
+not-then k (Refused r) w a b = a
+
+pub not-when : (k : ℕ) (t : Bool) (r : Refusal) → (told r .number ≡ k → ⊥) → NotBy k (refuse-when t r)
+not-when k true r other = other
+not-when k false r other = tt
+
+pub not-first : (k : ℕ) (t : Bool) (r : Refusal) (w : Verdict) → (told r .number ≡ k → ⊥) → NotBy k w → NotBy k (refuse-when t r then w)
+not-first k t r w other rest = not-then k (refuse-when t r) w (not-when k t r other) rest
 
 -- four in a row, the last of them parted off
 pub then-four : (u v w x : Verdict) → (u then v then w then x) ≡ ((u then v then w) then x)

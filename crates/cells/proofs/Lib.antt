@@ -7,3 +7,4 @@ pub mod Conditions
 pub mod Tests
 pub mod Tabulate
 pub mod Held
+pub mod Fills

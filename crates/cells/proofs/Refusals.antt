@@ -9,7 +9,8 @@ use lib.Dec.{eqb}
 use Rattle.cells.specs.declared.Axis.{Axis}
 use Rattle.cells.specs.declared.End.{End}
 use Rattle.cells.specs.declared.Refusal.{Refusal}
-use Rattle.cells.specs.declared.Refusal.the-variants.{Limit, Count, Bytes, Layer, OffGrid, Room, Placement, NotFinite, OffSurvey, Record, Version, NoRule}
+use Rattle.cells.specs.declared.Refusal.the-variants.{Limit, Count, Bytes, Layer, OffGrid, Room, Placement, NotFinite, OffSurvey}
+use Rattle.cells.specs.declared.Refusal.the-variants.{Record, Version, NoRule, Stale, Corners}
 use Rattle.cells.specs.declared.Verdict.{Verdict}
 use Rattle.cells.specs.declared.Verdict.the-variants.{Fine, Refused}
 use Rattle.cells.specs.Refusals.{Told, told, told-verdict}
@@ -41,6 +42,8 @@ untold t =
     ∷ (10, some Record)
     ∷ (11, some Version)
     ∷ (12, some NoRule)
+    ∷ (13, some Stale)
+    ∷ (14, some Corners)
     ∷ [])
 
 pub told-back : (r : Refusal) → untold (told r) ≡ some r
@@ -57,6 +60,8 @@ told-back (OffSurvey e a) = refl
 told-back Record = refl
 told-back Version = refl
 told-back NoRule = refl
+told-back Stale = refl
+told-back Corners = refl
 
 -- a definition with a left inverse tells answers apart
 pub tells-apart : {A T : Type 0} (say : A → T) (unsay : T → Option A) → ((a : A) → unsay (say a) ≡ some a) → (a b : A) → say a ≡ say b → a ≡ b

@@ -58,14 +58,18 @@ when {C} {b} reads r = go b reads
     go true reads = record { follows = (reads .0 refl, refl) }
     go false reads = record { follows = λ c. false≢true (reads .1 c) }
 
--- two rows, the second where no test of the first holds
-pub next-if : {a b : Tests} {v w : Verdict} → Judges a v → (None a → Judges b w) → Judges (a else b) (v then w)
-next-if {a} {b} {v} {w} h k = go v w h k
+-- two rows, the second where the verdict on the first is fine
+pub next-fine : {a b : Tests} {v w : Verdict} → Judges a v → (v ≡ Fine → Judges b w) → Judges (a else b) (v then w)
+next-fine {a} {b} {v} {w} h k = go v w h k
   where
-    go : (v w : Verdict) → Judges a v → (None a → Judges b w) → Judges (a else b) (v then w)
+    go : (v w : Verdict) → Judges a v → (v ≡ Fine → Judges b w) → Judges (a else b) (v then w)
     go (Refused r) w h k = record { follows = inl (h .follows) }
-    go Fine Fine h k = record { follows = (h .follows, k (h .follows) .follows) }
-    go Fine (Refused r) h k = record { follows = inr (h .follows, k (h .follows) .follows) }
+    go Fine Fine h k = record { follows = (h .follows, k refl .follows) }
+    go Fine (Refused r) h k = record { follows = inr (h .follows, k refl .follows) }
+
+-- so where no test of the first holds
+pub next-if : {a b : Tests} {v w : Verdict} → Judges a v → (None a → Judges b w) → Judges (a else b) (v then w)
+next-if {a} {b} {v} {w} h k = next-fine h (λ e. k (subst (Follows a) e (h .follows)))
 
 infixr 20 _next_
 pub _next_ : {a b : Tests} {v w : Verdict} → Judges a v → Judges b w → Judges (a else b) (v then w)

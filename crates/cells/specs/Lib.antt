@@ -6,4 +6,5 @@ pub mod Faces
 pub mod Manners
 pub mod Small
 pub mod Tabulate
+pub mod Fills
 pub mod Parts

@@ -8,7 +8,8 @@ use Rattle.cells.specs.declared.Axis.{Axis}
 use Rattle.cells.specs.declared.End.{End}
 use Rattle.cells.specs.declared.Part.{Part}
 use Rattle.cells.specs.declared.Refusal.{Refusal}
-use Rattle.cells.specs.declared.Refusal.the-variants.{Limit, Count, Bytes, Layer, OffGrid, Room, Placement, NotFinite, OffSurvey, Record, Version, NoRule}
+use Rattle.cells.specs.declared.Refusal.the-variants.{Limit, Count, Bytes, Layer, OffGrid, Room, Placement, NotFinite, OffSurvey}
+use Rattle.cells.specs.declared.Refusal.the-variants.{Record, Version, NoRule, Stale, Corners}
 use Rattle.cells.specs.declared.Verdict.{Verdict}
 use Rattle.cells.specs.declared.Verdict.the-variants.{Fine, Refused}
 
@@ -49,6 +50,8 @@ told (OffSurvey e a) = at-end 9 e a
 told Record = alone 10
 told Version = alone 11
 told NoRule = alone 12
+told Stale = alone 13
+told Corners = alone 14
 
 -- the contract of the call that gives a refusal's number
 pub record NumberOf (r : Refusal) (n : ℕ) : Type 0 where

@@ -118,6 +118,10 @@ pub enum Refusal {
     Version,
     // 12: a number that names no rule
     NoRule,
+    // 13: a mask of a brick that holds a named cell is not that of the bytes, or a total that cannot be theirs
+    Stale,
+    // 14: a low corner above the high one
+    Corners,
 }
 
 // What the tests of a call's inputs come to.
@@ -143,6 +147,8 @@ pub fn number(r: Refusal) -> u32
         Refusal::Record => 10,
         Refusal::Version => 11,
         Refusal::NoRule => 12,
+        Refusal::Stale => 13,
+        Refusal::Corners => 14,
     }
 }
 

@@ -5,6 +5,7 @@ use mathlib.Core.List.{List}
 use native.Mathlib.Omega.{arith}
 use lib.IntN.{ℤ, pos, natAbs}
 use lib.ListN.{length, getD}
+use lib.Count.{ones}
 use Rattle.cells.specs.declared.Cell.{Cell}
 use Rattle.cells.specs.declared.Counts.{Counts}
 use Rattle.cells.specs.declared.Refusal.{Refusal}
@@ -20,7 +21,13 @@ use Rattle.lists.specs.declared.Listed.{Listed}
 use Rattle.lists.specs.declared.Listed.the-variants as Listed
 use Rattle.lists.specs.Lists.{list-check, filled, Line6}
 use Rattle.grids.specs.Grid.{shape, layer-part}
-use Rattle.grids.specs.Marks.{marked, complete, completeness}
+use Rattle.grids.specs.Marks.{marked, complete, completeness, any}
+use Rattle.bricks.specs.declared.Tally.the-variants as Tally
+use Rattle.bricks.specs.Sums.{sum}
+use Rattle.bricks.specs.Bricks.{mask-of, solids}
+use Rattle.bricks.specs.Builds.{bricks-check, built}
+use Rattle.refills.specs.Boxes.{corner}
+use Rattle.refills.specs.Refills.{refilled, remasked, moved, box-check, stale-check, ones-in, differs-in, stale}
 use Rattle.walks.specs.declared.Walker.{Walker}
 use Rattle.walks.specs.declared.FirstHit.{FirstHit}
 use Rattle.walks.specs.declared.FirstHit.the-variants as FirstHit
@@ -36,6 +43,7 @@ use Rattle.records.specs.Writing.{record-length, write-check, after-writing}
 use Rattle.oatmarten.specs.declared.inputs.OatManner.{OatManner}
 use Rattle.oatmarten.specs.declared.refusals.OatSaid.{OatSaid}
 use Rattle.oatmarten.specs.declared.line_calls.OatListed.{OatListed}
+use Rattle.oatmarten.specs.declared.brick_calls.OatTally.{OatTally}
 use Rattle.oatmarten.specs.declared.walk_calls.OatHit.{OatHit}
 use Rattle.oatmarten.specs.declared.sight_calls.OatSight.{OatSight}
 use Rattle.oatmarten.specs.Refusals.{accepted}
@@ -43,6 +51,7 @@ use Rattle.oatmarten.specs.Flattening.{Flattens, After}
 use Rattle.oatmarten.specs.Inputs.{as-start, as-manner}
 use Rattle.oatmarten.specs.LineCalls.{flat-listed, FlatLine6}
 use Rattle.oatmarten.specs.GridCalls.{flat-verdict, flat-complete, flat-part}
+use Rattle.oatmarten.specs.BrickCalls.{flat-tally, FlatRefills}
 use Rattle.oatmarten.specs.WalkCalls.{flat-hit, FlatFinds}
 use Rattle.oatmarten.specs.SightCalls.{flat-found, flat-sight, FlatSees}
 use Rattle.oatmarten.specs.RecordCalls.{rule-number, flat-venue, flat-pair, flat-written}
@@ -50,7 +59,7 @@ use Rattle.claims.proofs.Grids.{one}
 use Rattle.claims.proofs.Flattenings.{input-rows}
 use Rattle.claims.proofs.Refused.{after-says}
 use Rattle.claims.specs.Example.{at}
-use Rattle.claims.specs.Exports.{One, ExportsOnce, RefusedUntouched, WrongExports, ExportsAre, NoSuchRule}
+use Rattle.claims.specs.Exports.{One, OnePair, BothUntouched, ExportsOnce, RefusedUntouched, WrongExports, ExportsAre, NoSuchRule}
 use Rattle.claims.specs.Lists.{room}
 
 -- ---- one answer, one final memory
@@ -98,6 +107,13 @@ sight-says : (how : OatManner) (n : Counts) (cells : List ℕ) (at : Placement) 
     a ≡ by-verdict Sight.Refused (sight (as-manner how) n cells at camera ball) (rule-check (how .rule))
 sight-says how n cells at camera ball a = after-call Sight.Refused (rule-check (how .rule)) (λ m. m .says)
 
+one-refill : (n : Counts) (low high : Cell) (byte : ℕ) (l m : List ℕ) (total : ℕ) → OnePair (FlatRefills n low high byte l m total)
+one-refill n low high byte l m total r s exit last lent left h k = (
+  same-flat flat-tally (λ a m. m .says) (λ a m. m .says) h k,
+  one exit last (h .meets .bytes) (k .meets .bytes),
+  one lent left (h .meets .masks) (k .meets .masks),
+)
+
 pub exports-once : ExportsOnce
 exports-once =
     record {
@@ -111,6 +127,10 @@ exports-once =
           (same-flat flat-verdict (λ a m. m .says) (λ a m. m .says) h k, one exit last (h .meets .holds) (k .meets .holds));
       complete = λ n cells. flat-one flat-complete (λ a m. m .says);
       layer = λ n bytes z. flat-one flat-part (λ a m. m .says);
+      build = λ n cells entry r s exit last h k.
+          (same-flat flat-tally (λ a m. m .says) (λ a m. m .says) h k, one exit last (h .meets .holds) (k .meets .holds));
+      set = λ n cell. one-refill n cell cell;
+      refill = one-refill;
       walks = λ w how n cells p q. flat-one flat-hit (walk-says w how n cells p q);
       found = λ n at p. flat-one flat-found (λ a m. m .says);
       seen = λ how n cells at camera ball. flat-one flat-sight (sight-says how n cells at camera ball);
@@ -129,6 +149,19 @@ untouched : {F M : Type 0} (said : F → OatSaid) (flat : Verdict → F) (after 
 untouched said flat after fine kept Verdict.Fine e f refused = absurd (refused (ap (λ s. s .refusal) (ap said e ∙ fine)))
 untouched said flat after fine kept (Verdict.Refused x) e f refused = f ∙ kept x
 
+refill-untouched : (n : Counts) (low high : Cell) (byte : ℕ) (l m : List ℕ) (total : ℕ) → BothUntouched (FlatRefills n low high byte l m total) l m
+refill-untouched n low high byte l m total r l′ m′ h refused =
+    let lo = corner low in
+    let hi = corner high in
+    let bytes = refilled n lo hi byte l in
+    let anew = remasked n lo hi bytes m in
+    let v = box-check n (length l) (length m) low high then stale-check n lo hi l m total in
+    let flat : Verdict → OatTally = λ u. flat-tally (by-verdict Tally.Refused (Tally.Total (moved n lo hi m anew total)) u) in
+    let is : r ≡ flat v = h .flat ∙ ap flat-tally (h .meets .says) in (
+      untouched (λ f. f .said) flat (by-verdict (λ x. l) bytes) refl (λ x. refl) v is (h .meets .bytes) refused,
+      untouched (λ f. f .said) flat (by-verdict (λ x. m) anew) refl (λ x. refl) v is (h .meets .masks) refused,
+    )
+
 pub refused-untouched : RefusedUntouched
 refused-untouched =
     record {
@@ -144,6 +177,12 @@ refused-untouched =
       mark = λ n entry r exit h.
           untouched (λ f. f .said) flat-verdict (by-verdict (λ x. entry) (marked 3 n entry)) refl (λ x. refl) (shape n (length entry))
           (h .flat ∙ ap flat-verdict (h .meets .says)) (h .meets .holds);
+      build = λ n cells entry r exit h.
+          untouched (λ f. f .said) (λ v. flat-tally (by-verdict Tally.Refused (Tally.Total (solids cells)) v)) (by-verdict (λ x. entry)
+          (built n cells entry))
+          refl (λ x. refl) (bricks-check n (length cells) (length entry)) (h .flat ∙ ap flat-tally (h .meets .says)) (h .meets .holds);
+      set = λ n cell. refill-untouched n cell cell;
+      refill = refill-untouched;
       written = λ n cells entry r exit h.
           untouched (λ f. f .said) (λ v. flat-written (by-verdict Written.Refused (Written.Wrote (record-length n)) v))
           (by-verdict (λ x. entry) (after-writing n cells entry)) refl (λ x. refl)
@@ -158,7 +197,8 @@ idle-line Rule.One r h = let z : _≡_ {A = ℕ} 7 0 = ap (λ l. natAbs (getD l 
 idle-line Rule.Two r h = let z : _≡_ {A = ℕ} 7 0 = ap (λ l. natAbs (getD l 0 (pos 0))) (h .meets .holds) in omega arith
 
 pub wrong-exports : WrongExports
-unfolding shape marked complete completeness layer-part venue-head write-check rule-check
+unfolding shape marked complete completeness layer-part venue-head write-check rule-check bricks-check built mask-of sum box-check stale differs-in any
+    ones-in ones refilled
 wrong-exports =
     record {
       idle-line = idle-line;
@@ -169,6 +209,9 @@ wrong-exports =
           let z : r .said .refusal ≡ 0 = ap (λ f. f .said .refusal) (h .flat ∙ ap flat-verdict (h .meets .says)) in omega (arith, k);
       complete-always = λ r h k.
           let z : r .yes ≡ 0 = ap (λ f. f .yes) (h .flat ∙ ap flat-complete (h .meets .says)) in omega (arith, k);
+      idle-set = λ r masks h. let z : _≡_ {A = ℕ} 1 2 = ap (λ (l : List ℕ). getD l 0 0) (h .meets .bytes) in omega arith;
+      high-corner-left-out = λ r masks h. let z : _≡_ {A = ℕ} 1 2 = ap (λ (l : List ℕ). getD l 1 0) (h .meets .bytes) in omega arith;
+      idle-build = λ r h. let z : _≡_ {A = ℕ} 0 32 = ap (λ (l : List ℕ). getD l 0 0) (h .meets .holds) in omega arith;
       first-layer = λ r h k.
           let z : r .offset ≡ 2 = ap (λ f. f .offset) (h .flat ∙ ap flat-part (h .meets .says)) in omega (arith, k);
     }
@@ -205,6 +248,9 @@ exports-are =
       mark = λ n entry exit r h. (h .answer, h .meets, h .flat);
       complete = λ n cells r h. (h .answer, h .meets, h .flat);
       layer = λ n bytes z r h. (h .answer, h .meets, h .flat);
+      build = λ n cells entry exit r h. (h .answer, h .meets, h .flat);
+      set = λ n cell byte l m total l′ m′ r h. (h .answer, h .meets, h .flat);
+      refill = λ n low high byte l m total l′ m′ r h. (h .answer, h .meets, h .flat);
       walks = λ w s rule n cells p q. walk-is p q rule w s n cells;
       found = λ n at p r h. (h .answer, h .meets, h .flat);
       seen = λ s rule. sight-is rule s;

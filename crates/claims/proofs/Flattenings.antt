@@ -22,7 +22,8 @@ use Rattle.cells.specs.declared.Refusal.{Refusal}
 use Rattle.cells.specs.declared.Rule.{Rule}
 use Rattle.cells.specs.declared.Rule.the-variants.{One, Two}
 use Rattle.cells.specs.declared.Start.the-variants.{Untested, Tested}
-use Rattle.cells.specs.declared.Refusal.the-variants.{Limit, Count, Bytes, Layer, OffGrid, Room, Placement, NotFinite, OffSurvey, Record, Version, NoRule}
+use Rattle.cells.specs.declared.Refusal.the-variants.{Limit, Count, Bytes, Layer, OffGrid, Room, Placement, NotFinite, OffSurvey}
+use Rattle.cells.specs.declared.Refusal.the-variants.{Record, Version, NoRule, Stale, Corners}
 use Rattle.cells.specs.declared.Verdict.{Verdict}
 use Rattle.cells.specs.declared.Verdict.the-variants as Verdict
 use Rattle.cells.specs.Manners.{rule-of, rule-check}
@@ -76,6 +77,11 @@ use Rattle.oatmarten.specs.Refusals.{end-number, axis-number, part-number, acce
 use Rattle.oatmarten.specs.Faces.{face-number}
 use Rattle.oatmarten.specs.LineCalls.{flat-listed}
 use Rattle.oatmarten.specs.GridCalls.{flat-verdict, flat-complete, flat-part}
+use Rattle.bricks.specs.declared.Tally.{Tally}
+use Rattle.bricks.specs.declared.Tally.the-variants as Tally
+use Rattle.bricks.specs.Builds.{told-tally}
+use Rattle.oatmarten.specs.declared.brick_calls.OatTally.{OatTally}
+use Rattle.oatmarten.specs.BrickCalls.{flat-tally}
 use Rattle.oatmarten.specs.WalkCalls.{flat-hit, FlatFinds}
 use Rattle.oatmarten.specs.SightCalls.{flat-found, flat-sight}
 use Rattle.oatmarten.specs.RecordCalls.{rule-number, flat-venue, flat-pair, flat-written}
@@ -97,6 +103,8 @@ in-table (OffSurvey e a) = (omega arith, omega arith)
 in-table Record = (omega arith, omega arith)
 in-table Version = (omega arith, omega arith)
 in-table NoRule = (omega arith, omega arith)
+in-table Stale = (omega arith, omega arith)
+in-table Corners = (omega arith, omega arith)
 
 abbrev end-of : ℕ → Option End
 end-of k = numbered-of k ((1, some P) ∷ (2, some Q) ∷ [])
@@ -149,6 +157,8 @@ meant-told (OffSurvey e a) = rw (end-back e, axis-back a)
 meant-told Record = refl
 meant-told Version = refl
 meant-told NoRule = refl
+meant-told Stale = refl
+meant-told Corners = refl
 
 refusal-back : (r : Refusal) → untold (meant (flat-refusal r)) ≡ some r
 refusal-back r = ap untold (meant-told r) ∙ told-back r
@@ -182,6 +192,8 @@ said-numbers =
       no-record = refl;
       version = refl;
       no-rule = refl;
+      stale = refl;
+      corners = refl;
       in-table = in-table;
       apart = tells-apart flat-refusal (λ s. untold (meant s)) refusal-back;
       q-off-y = q-off-y;
@@ -257,6 +269,13 @@ part-values f = LayerPart.Part (f .offset) (f .length)
 part-case : (a : LayerPart) → Case told-part flat-part (λ f. f .said) LayerPart.Refused part-values a
 part-case (LayerPart.Part start many) = fine (start, many) refl refl refl
 part-case (LayerPart.Refused r) = refused r refl refl refl
+
+abbrev tally-values : OatTally → Tally
+tally-values f = Tally.Total (f .total)
+
+tally-case : (a : Tally) → Case told-tally flat-tally (λ f. f .said) Tally.Refused tally-values a
+tally-case (Tally.Total many) = fine many refl refl refl
+tally-case (Tally.Refused r) = refused r refl refl refl
 
 -- the face that a number means
 abbrev face-of : ℤ → Face
@@ -369,6 +388,7 @@ flattenings =
       mark = flattened verdict-case;
       complete = flattened complete-case;
       layer = flattened part-case;
+      tallies = flattened tally-case;
       walks = flattened hit-case;
       found = flattened found-case;
       seen = flattened sight-case;
@@ -391,6 +411,8 @@ flat-rows =
       complete-refused = λ r. refl;
       part = λ start many. refl;
       part-refused = λ r. refl;
+      tally = λ many. refl;
+      tally-refused = λ r. refl;
       hit = λ x y z code num den f reads. refl;
       walk-clear = λ reads. refl;
       walk-refused = λ r. refl;

@@ -1,16 +1,17 @@
--- The three demands, from the claims. Assumes nothing.
-use Rattle.claims.specs.Headline.{TakesAnything, AreThePapers, TellOneStory}
+-- The three demands and the kept counts, from the claims. Assumes nothing.
+use Rattle.claims.specs.Headline.{TakesAnything, AreThePapers, TellOneStory, KeepsCounts}
 use Rattle.lines.specs.Preference.{by-rule}
 use Rattle.lines.specs.Lines.{differences}
 use Rattle.claims.proofs.Ties.{asks-nothing, promised}
 use Rattle.claims.proofs.ExportTies.{exports-promised, exports-ask-nothing}
-use Rattle.claims.proofs.Refused.{lines-told, grids-told, points-told, records-told, rules-told}
+use Rattle.claims.proofs.Refused.{lines-told, grids-told, tallies-told, points-told, records-told, rules-told}
 use Rattle.claims.proofs.Exports.{exports-are, exports-once, refused-untouched, no-such-rule}
 use Rattle.claims.proofs.Flattenings.{flattenings}
 use Rattle.claims.proofs.Words.{one-number}
 use Rattle.claims.proofs.Lists.{listed-once, cells-listed}
 use Rattle.claims.proofs.Lines.{one-place, six-line-holds, each-cell-touched, no-cell-missing, line-26-holds}
 use Rattle.claims.proofs.Grids as grids
+use Rattle.claims.proofs.Kept.{kept-once, masks, refill-means, set-means, from-a-build-on, keeping}
 use Rattle.claims.proofs.Points as points
 use Rattle.claims.proofs.Records as records
 use Rattle.claims.proofs.Sights.{seen-once, nothing-in-sight}
@@ -29,11 +30,13 @@ takes-anything =
       grid-calls = grids.one-answer;
       marking = grids.marked-call;
       walks = hit-once;
+      counts = kept-once;
       cells = points.one-answer;
       sights = seen-once;
       record-calls = records.one-answer;
       list-refusals = lines-told;
       grid-refusals = grids-told;
+      count-refusals = tallies-told;
       point-refusals = points-told;
       record-refusals = records-told;
       for-c = (exports-ask-nothing, exports-promised, exports-are, flattenings, exports-once, refused-untouched);
@@ -69,3 +72,6 @@ tell-one-story =
       starts = two-starts;
       both-ways = both-ways;
     }
+
+pub keeps-counts : KeepsCounts
+keeps-counts = record { by-bits = masks; build-on = from-a-build-on; kept-by = keeping; refills = refill-means; sets = set-means }

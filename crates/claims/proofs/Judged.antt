@@ -2,14 +2,14 @@
 use Prim.Native.Nat.{ℕ, _+_, _-_, _*_, _<_}
 use native.Mathlib.Nat.{lt-of-not-le}
 use native.Mathlib.Omega.{arith}
-use mathlib.Core.Path.{_≡_, refl}
-use mathlib.Core.Bool.{Bool, true, false, cond, not, _||_, false≢true}
+use mathlib.Core.Path.{_≡_, refl, ap, _∙_}
+use mathlib.Core.Bool.{Bool, true, false, cond, not, _&&_, _||_, false≢true}
 use mathlib.Core.List.{List}
 use mathlib.Core.Logic.{_↔_, _⊎_, inl, inr, ⊎-elim, Iff·rfl, Iff·trans, Iff·not}
 use lib.Dec.{eqb}
 use lib.IntN.{ℤ, pos, negℤ}
 use lib.Signed.{_<ℤ_, _≤ℤ_}
-use lib.ListN.{getD}
+use lib.ListN.{length, getD}
 use lib.Ieee.{Float, lt}
 use lib.Ieee.Scale.{finite}
 use borrow.Author.Tests.{eqb-true, eqb-false}
@@ -21,14 +21,26 @@ use Rattle.cells.specs.declared.End.{End}
 use Rattle.cells.specs.declared.End.the-variants.{P, Q}
 use Rattle.cells.specs.declared.Part.the-variants.{OriginX, OriginY, OriginZ, Edge}
 use Rattle.cells.specs.declared.Refusal.the-variants as Refusal
-use Rattle.cells.specs.Checks.{refuse-when}
+use Rattle.cells.specs.declared.Verdict.the-variants.{Fine}
+use Rattle.cells.specs.declared.Verdict.{Verdict}
+use Rattle.cells.specs.Checks.{refuse-when, _then_}
+use Rattle.cells.specs.Refusals.{alone}
+use Rattle.cells.specs.Tests.{_gives_}
 use Rattle.cells.specs.Manners.{names-rule, rule-check}
 use Rattle.cells.proofs.Conditions.{ltb-means, eqb-means, zero-means, not-eqb-means, ltZ-means, leZ-means, leZ-fails, not-means, or-means, not-and-means}
-use Rattle.cells.proofs.Tests.{Judges, when, _next_, next-if}
+use Rattle.cells.proofs.Signed.{le-ltZ}
+use Rattle.cells.proofs.Tests.{Judges, when, _next_, next-if, next-fine}
 use Rattle.lines.specs.Lines.{in-limit}
 use Rattle.lists.specs.Lists.{end-check, list-check}
 use Rattle.grids.specs.Grid.{bad-count, size, count-check, shape, layer-check}
 use Rattle.grids.specs.Inside.{off-axis, grid-check, walk-check}
+use Rattle.cells.proofs.Touching.{and-both}
+use Rattle.grids.specs.Marks.{any}
+use Rattle.grids.proofs.Any.{any-some, any-which}
+use Rattle.bricks.specs.Bricks.{bricks, mask-at}
+use Rattle.bricks.specs.Builds.{bricks-check}
+use Rattle.refills.specs.Boxes.{corner}
+use Rattle.refills.specs.Refills.{holds-named, ones-in, crossed, box-check, differs, differs-in, stale, stale-check}
 use Rattle.survey.specs.declared.Lookup.the-variants.{Cell}
 use Rattle.survey.specs.declared.Placement.{Placement}
 use Rattle.survey.specs.declared.Point.{Point}
@@ -39,6 +51,9 @@ use Rattle.records.specs.Heads.{whole-check}
 use Rattle.records.specs.Venues.{venue-version, venue-head, venue-check}
 use Rattle.records.specs.Pairs.{pair-version, pair-length, rule-byte, pair-check}
 use Rattle.records.specs.Writing.{write-check}
+use Rattle.claims.specs.Kept.{HoldsNamed}
+use Rattle.claims.proofs.Kept.{holds-is, is-holds}
+use Rattle.claims.specs.Refused.{bricks-tests, corner-tests, Disagrees, box-tests, set-tests}
 use Rattle.claims.specs.Refused.{limit-tests, line-tests, count-tests, shape-tests, layer-tests, grid-tests, walk-tests, placement-tests}
 use Rattle.claims.specs.Refused.{value-tests, point-tests, whole-tests, version-test, counts-in, venue-tests, pair-tests, write-tests, rule-test}
 
@@ -85,6 +100,81 @@ grid-judged e n c =
 pub walk-judged : (n : Counts) (bytes : ℕ) (p q : cell.Cell) → Judges (walk-tests n bytes p q) (walk-check n bytes p q)
 unfolding walk-check
 walk-judged n bytes p q = shape-judged n bytes next grid-judged P n p next grid-judged Q n q
+
+-- ---- solid counts
+
+pub bricks-judged : (n : Counts) (bytes lent : ℕ) → Judges (bricks-tests n bytes lent) (bricks-check n bytes lent)
+unfolding bricks-check
+bricks-judged n bytes lent = shape-judged n bytes next when (ltb-means lent (size (bricks n))) Refusal.Room
+
+crossed-means : (low high : cell.Cell) → (crossed low high ≡ true) ↔ ((high .x <ℤ low .x) ⊎ ((high .y <ℤ low .y) ⊎ (high .z <ℤ low .z)))
+crossed-means low high = or-means (ltZ-means (high .x) (low .x)) (or-means (ltZ-means (high .y) (low .y)) (ltZ-means (high .z) (low .z)))
+
+corners-judged : (n : Counts) (bytes lent : ℕ) (low high : cell.Cell) → Judges (corner-tests n bytes lent low high) (box-check n bytes lent low high)
+unfolding box-check
+corners-judged n bytes lent low high =
+    bricks-judged n bytes lent next grid-judged P n low next grid-judged Q n high next when (crossed-means low high) Refusal.Corners
+
+-- a mask that differs, in a brick that holds a cell of the box
+module _ (n : Counts) (l m : List ℕ) (low high : cell.Cell) (fine : box-check n (length l) (length m) low high ≡ Fine) where
+  abbrev holds : ℕ → Bool
+  holds k = holds-named n (corner low) (corner high) k
+
+  differs-means :
+      (differs-in n (corner low) (corner high) l m ≡ true) ↔ ((k : ℕ) × HoldsNamed n low high k × (¬ (getD m k 0 ≡ mask-at n l k)))
+  unfolding differs-in
+  differs-means = (down, up)
+    where
+      down : any (λ k. holds k && differs n l m k) (size (bricks n)) ≡ true → (k : ℕ) × HoldsNamed n low high k × (¬ (getD m k 0 ≡ mask-at n l k))
+      down e =
+          let (k, _, t) = any-which (λ k. holds k && differs n l m k) (size (bricks n)) e in
+          let (named, wrong) = and-both (holds k) _ t in
+          (k, is-holds n (length l) (length m) low high fine k named, not-eqb-means (getD m k 0) (mask-at n l k) .0 wrong)
+
+      up : (k : ℕ) × HoldsNamed n low high k × (¬ (getD m k 0 ≡ mask-at n l k)) → any (λ k. holds k && differs n l m k) (size (bricks n)) ≡ true
+      up (k, there, wrong) =
+          let (named, lt) = holds-is n (length l) (length m) low high fine k there in
+          any-some (λ k. holds k && differs n l m k) (size (bricks n)) k lt (rw named (not-eqb-means (getD m k 0) (mask-at n l k) .1 wrong))
+
+  stale-judged : (total : ℕ) → Judges (Disagrees n l m total low high gives alone 13) (stale-check n (corner low) (corner high) l m total)
+  unfolding stale
+  stale-judged total =
+      when (or-means differs-means (or-means (ltb-means total (ones-in n (corner low) (corner high) m)) (ltb-means (size n) total))) Refusal.Stale
+
+pub box-judged :
+    (n : Counts) (l m : List ℕ) (total : ℕ) (low high : cell.Cell) →
+    Judges (box-tests n l m total low high) (box-check n (length l) (length m) low high then stale-check n (corner low) (corner high) l m total)
+box-judged n l m total low high =
+    next-fine (corners-judged n (length l) (length m) low high) (λ fine. stale-judged n l m low high fine total)
+
+-- a box of one cell: what is tested of its high corner was tested of its low one
+module _ (n : Counts) (bytes lent : ℕ) (c : cell.Cell) where
+  twice : (bx by bz w : Bool) → w ≡ false →
+      ((refuse-when bx (Refusal.OffGrid P X) then refuse-when by (Refusal.OffGrid P Y) then refuse-when bz (Refusal.OffGrid P Z)) then
+      (refuse-when bx (Refusal.OffGrid Q X) then refuse-when by (Refusal.OffGrid Q Y) then refuse-when bz (Refusal.OffGrid Q Z)) then
+      refuse-when w Refusal.Corners)
+      ≡ (refuse-when bx (Refusal.OffGrid P X) then refuse-when by (Refusal.OffGrid P Y) then refuse-when bz (Refusal.OffGrid P Z))
+  twice true by bz w e = refl
+  twice false true bz w e = refl
+  twice false false true w e = refl
+  twice false false false w e = rw e refl
+
+  uncrossed : crossed c c ≡ false
+  uncrossed =
+      rw (le-ltZ (c .x) (c .x) (omega arith), le-ltZ (c .y) (c .y) (omega arith), le-ltZ (c .z) (c .z) (omega arith)) refl
+
+  pub one-corner : box-check n bytes lent c c ≡ (bricks-check n bytes lent then grid-check P n c)
+  unfolding box-check
+  one-corner =
+      ap (λ (v : Verdict). bricks-check n bytes lent then v) (twice (off-axis (c .x) (n .nx)) (off-axis (c .y) (n .ny)) (off-axis (c .z)
+      (n .nz)) _ uncrossed)
+
+pub set-judged :
+    (n : Counts) (l m : List ℕ) (total : ℕ) (c : cell.Cell) →
+    Judges (set-tests n l m total c) ((bricks-check n (length l) (length m) then grid-check P n c) then stale-check n (corner c) (corner c) l m total)
+set-judged n l m total c =
+    next-fine (bricks-judged n (length l) (length m) next grid-judged P n c)
+    (λ fine. stale-judged n l m c c (one-corner n (length l) (length m) c ∙ fine) total)
 
 -- ---- surveyed points
 

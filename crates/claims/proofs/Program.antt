@@ -9,6 +9,7 @@ use lib.ListN.{length, take, drop, replicate, length-drop}
 use lib.Dec.{ltb, eqb}
 use lib.Seq.{take-at}
 use borrow.Author.Tests.{eqb-true, eq-eqb, ne-eqb, le-ltb, not-false}
+use Rattle.cells.proofs.Checks.{NotBy, not-then, not-first, not-when}
 use Rattle.cells.specs.declared.Axis.{Axis}
 use Rattle.cells.specs.declared.Axis.the-variants.{X, Y, Z}
 use Rattle.cells.specs.declared.Cell.{Cell}
@@ -296,36 +297,20 @@ five-or-lines bytes given t v e =
 
 -- ---- a pair of no rule
 
--- fine, or refused otherwise than by 12
-abbrev NotTwelve : Verdict → Type 0
-NotTwelve Fine = Unit {0}
-NotTwelve (Refused r) = told r .number ≡ 12 → ⊥
-
-other-then : (v w : Verdict) → NotTwelve v → NotTwelve w → NotTwelve (v then w)
-other-then Fine w a b = b
-other-then (Refused r) w a b = a
-
-ten-when : (t : Bool) → NotTwelve (refuse-when t Record)
-ten-when true = λ e. omega (arith, e)
-ten-when false = tt
-
-eleven-when : (t : Bool) → NotTwelve (refuse-when t Version)
-eleven-when true = λ e. omega (arith, e)
-eleven-when false = tt
-
 -- the tests of the head
-head-other : (t : List ℕ) (known misfit : Bool) → NotTwelve (head-tests t known misfit)
+head-other : (t : List ℕ) (known misfit : Bool) → NotBy 12 (head-tests t known misfit)
 unfolding whole-check
 head-other t known misfit =
     let short : Bool = ltb (length t) length-field in
     let empty : Bool = eqb (announced t) 0 in
     let cut : Bool = ltb (length t) (length-field + announced t) in
-    other-then (whole-check t) _
-    (other-then (refuse-when short Record) _ (ten-when short) (other-then (refuse-when empty Record) _ (ten-when empty) (ten-when cut)))
-    (other-then (refuse-when (not known) Version) _ (eleven-when (not known)) (ten-when misfit))
+    not-then 12 (whole-check t) _
+    (not-first 12 short Record _ (λ e. omega (arith, e)) (not-first 12 empty Record _ (λ e. omega (arith, e)) (not-when 12 cut Record (λ e. omega
+    (arith, e)))))
+    (not-first 12 (not known) Version _ (λ e. omega (arith, e)) (not-when 12 misfit Record (λ e. omega (arith, e))))
 
 -- so where a pair is refused 12 they are passed
-head-passed : (v w : Verdict) (e : Pair) → NotTwelve v → by-verdict PairRead.Refused (PairRead.Read e) (v then w) ≡ PairRead.Refused NoRule → v ≡ Fine
+head-passed : (v w : Verdict) (e : Pair) → NotBy 12 v → by-verdict PairRead.Refused (PairRead.Read e) (v then w) ≡ PairRead.Refused NoRule → v ≡ Fine
 head-passed Fine w e other is = refl
 head-passed (Refused r) w e other is = absurd (let same : r ≡ NoRule = cc in other (ap (λ u. told u .number) same))
 

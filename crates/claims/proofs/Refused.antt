@@ -35,6 +35,12 @@ use Rattle.grids.specs.Inside.{walk-check}
 use Rattle.grids.specs.Marks.{complete, yes-or-no, completeness, told-completeness}
 use Rattle.grids.proofs.Layers.{layer-empty}
 use Rattle.grids.proofs.Shapes.{shape-counts}
+use Rattle.bricks.specs.declared.Tally.{Tally}
+use Rattle.bricks.specs.declared.Tally.the-variants as Tally
+use Rattle.bricks.specs.Bricks.{solids}
+use Rattle.bricks.specs.Builds.{told-tally}
+use Rattle.refills.specs.Boxes.{corner}
+use Rattle.refills.specs.Refills.{refilled, remasked, moved, stale-check, Refills, Sets}
 use Rattle.walks.specs.declared.Walker.{Walker}
 use Rattle.walks.specs.declared.Walker.the-variants.{Adaptive}
 use Rattle.walks.specs.declared.Hit.{Hit}
@@ -62,10 +68,12 @@ use Rattle.records.specs.Pairs.{pair-in, pair-read, told-pair}
 use Rattle.records.specs.Writing.{record-length, told-written}
 use Rattle.oatmarten.specs.Flattening.{After}
 use Rattle.oatmarten.specs.Inputs.{as-manner}
+use Rattle.claims.specs.Refused.{box-tests, set-tests, TalliesTold}
 use Rattle.claims.specs.Refused.{line-tests, LinesTold, layer-tests, GridsTold, cell-tests, sight-tests, PointsTold, venue-tests, RecordsTold, RulesTold}
 use Rattle.claims.proofs.Records.{the-part}
 use Rattle.claims.proofs.Judged.{line-judged, counts-judged, shape-judged, layer-judged, walk-judged, placement-judged}
-use Rattle.claims.proofs.Judged.{point-judged, rule-judged, venue-judged, pair-judged, write-judged}
+use Rattle.claims.proofs.Judged.{bricks-judged, box-judged, one-corner, set-judged, point-judged, rule-judged}
+use Rattle.claims.proofs.Judged.{venue-judged, pair-judged, write-judged}
 
 -- ---- line lists
 
@@ -209,6 +217,34 @@ module _ (how : Manner) (n : Counts) (l : List ℕ) (at : Placement) (camera bal
   see-told : (r : Sight) → Sees how n l at camera ball r → ByTests (sight-tests n (length l) at camera ball) (told-sight r)
   see-told r c =
       answered told-sight (by-verdict Sight.Refused (sight-of (first-hit Adaptive how n l from to))) (λ r. refl) sight-judged sight-is (c .says ∙ sight-by)
+
+pub tallies-told : (n : Counts) (l m : List ℕ) → TalliesTold n l m
+tallies-told n l m =
+    record {
+      build = λ r m′ c.
+          answered told-tally (by-verdict Tally.Refused (Tally.Total (solids l))) (λ r. refl) (bricks-judged n (length l) (length m))
+          (λ fine. (_, refl)) (c .says);
+      refill = refill-told;
+      set = set-told;
+    }
+  where
+    refill-told : (low high : cell.Cell) (byte total : ℕ) (r : Tally) (l′ m′ : List ℕ) → Refills n low high byte l m total r l′ m′ →
+        ByTests (box-tests n l m total low high) (told-tally r)
+    refill-told low high byte total r l′ m′ c =
+        let lo = corner low in
+        let hi = corner high in
+        let t = moved n lo hi m (remasked n lo hi (refilled n lo hi byte l) m) total in
+        answered told-tally (by-verdict Tally.Refused (Tally.Total t)) (λ r. refl) (box-judged n l m total low high) (λ fine. (t, refl)) (c .says)
+
+    set-told : (cell : cell.Cell) (byte total : ℕ) (r : Tally) (l′ m′ : List ℕ) → Sets n cell byte l m total r l′ m′ →
+        ByTests (set-tests n l m total cell) (told-tally r)
+    set-told cell byte total r l′ m′ c =
+        let at = corner cell in
+        let t = moved n at at m (remasked n at at (refilled n at at byte l) m) total in
+        let says = by-verdict Tally.Refused (Tally.Total t) in
+        answered told-tally says (λ r. refl) (set-judged n l m total cell) (λ fine. (t, refl))
+        (c .says ∙ ap (λ (v : Verdict). by-verdict Tally.Refused (Tally.Total t) (v then stale-check n at at l m total)) (one-corner n (length l)
+        (length m) cell))
 
 pub points-told : (n : Counts) (at : Placement) → PointsTold n at
 points-told n at = record { cell-of = cell-told n at; see = λ how l. see-told how n l at }

@@ -11,15 +11,22 @@ use lib.ListN.{getD}
 use borrow.Author.Tests.{ltb-true}
 use Rattle.cells.specs.declared.Axis.{Axis}
 use Rattle.cells.specs.declared.Axis.the-variants.{X, Y, Z}
-use Rattle.cells.specs.declared.Refusal.the-variants.{Bytes}
+use Rattle.cells.specs.declared.Refusal.the-variants.{Bytes, Corners}
 use Rattle.cells.specs.declared.Verdict.the-variants as Verdict
 use Rattle.lines.specs.Steps.{same}
 use Rattle.lines.specs.Lines.{differences, six-line, line-26}
 use Rattle.lines.specs.Preference.{y-z-x, order-of}
 use Rattle.lines.proofs.Cells.{centre-inside}
 use Rattle.grids.specs.Grid.{count-check, shape, layer-part, layer}
-use Rattle.grids.specs.Marks.{marked, complete, completeness}
+use Rattle.grids.specs.Marks.{any, touches-solid, marked-byte, marked, complete, completeness}
 use Rattle.cells.specs.Manners.{rule-of, rule-check}
+use Rattle.bricks.specs.declared.Tally.the-variants as Tally
+use lib.Count.{ones}
+use Rattle.cells.proofs.Signed.{≤ℤ-is}
+use Rattle.bricks.specs.Sums.{sum}
+use Rattle.bricks.specs.Bricks.{mask-of, solids}
+use Rattle.bricks.specs.Builds.{bricks-check, built}
+use Rattle.refills.specs.Refills.{refilled, remasked, ones-in, box-check, differs-in, stale}
 use Rattle.walks.specs.declared.Walker.the-variants.{Plain, Adaptive}
 use Rattle.walks.specs.Answers.{first-hit}
 use Rattle.walks.proofs.Modes.{as-usual}
@@ -29,9 +36,12 @@ use Rattle.records.specs.Heads.{whole-check}
 use Rattle.records.specs.Venues.{venue-version, venue-head, venue-check, venue-read, venue-cells}
 use Rattle.records.specs.Pairs.{signed, pair-version, pair-length, rule-byte, pair-check, pair-read}
 use Rattle.records.specs.Writing.{write-check}
-use Rattle.claims.specs.Example.{counts, at, example-counts, marked-cells}
+use Rattle.bricks.specs.Kept.{Kept}
+use Rattle.claims.specs.Example.{counts, at, example-counts, marked-cells, set-cells, all-solid}
+use Rattle.claims.specs.Kept.{Set, then-one, nothing, Mark, Refill, Build}
+use Rattle.claims.proofs.Kept.{keeping}
 use Rattle.claims.specs.Story.{all-clear}
-use Rattle.claims.specs.Witnesses.{steps-there, OfLines, OfGrids, OfPoints, OfRecords, OfPrograms}
+use Rattle.claims.specs.Witnesses.{steps-there, OfLines, OfGrids, OfCounts, OfPoints, OfRecords, OfPrograms}
 use Rattle.claims.specs.Records.{example-venue, example-pair}
 use Rattle.claims.proofs.Records.{accepted}
 use Rattle.claims.proofs.Lines.{one-place, entered}
@@ -100,6 +110,71 @@ of-grids =
       passed = λ w. elim w [ Plain ↦ record { says = refl } | Adaptive ↦ record { says = refl } ];
       not-passed = λ w. elim w [ Plain ↦ record { says = refl } | Adaptive ↦ record { says = refl } ];
       clear-start = refl;
+    }
+
+kept-example : Kept example-counts marked-cells (32 ∷ []) 1
+unfolding bricks-check shape count-check built mask-of sum solids
+kept-example = keeping example-counts marked-cells (0 ∷ []) .built 1 (32 ∷ []) (record { says = refl; holds = refl })
+
+pub of-counts : OfCounts
+unfolding bricks-check shape count-check built mask-of sum solids box-check stale differs-in any ones-in refilled remasked ones marked touches-solid
+    marked-byte
+of-counts =
+    record {
+      built = record { says = refl; holds = refl };
+      not-built = record { says = refl; holds = refl };
+      kept = kept-example;
+      was-set = record { says = refl; bytes = refl; masks = refl };
+      not-set = record { says = refl; bytes = refl; masks = refl };
+      refilled = record { says = refl; bytes = refl; masks = refl };
+      crossed = record { says = refl; bytes = refl; masks = refl };
+      holds = (
+        0,
+        0,
+        0,
+        (
+          (≤ℤ-is _ _ .1 (omega arith), ≤ℤ-is _ _ .1 (omega arith)),
+          (≤ℤ-is _ _ .1 (omega arith), ≤ℤ-is _ _ .1 (omega arith)),
+          (≤ℤ-is _ _ .1 (omega arith), ≤ℤ-is _ _ .1 (omega arith)),
+        ),
+        refl,
+      );
+      holds-none = λ (x, y, z, named, e).
+          let dx = ≤ℤ-is _ _ .0 (named .0 .1) in
+          let dy = ≤ℤ-is _ _ .0 (named .1 .1) in
+          let dz = ≤ℤ-is _ _ .0 (named .2 .1) in
+          omega (arith, e);
+      no-cell = λ x y z h there b. omega (arith, h .0, h .1, h .2);
+      session =
+          then-one {t = record { bytes = marked-cells; masks = 32 ∷ 7 ∷ []; total = 1 }} {op = Mark} (
+            Verdict.Fine,
+            record { says = refl; holds = refl },
+            refl,
+            refl,
+          )
+          (then-one {t = record { bytes = set-cells; masks = 33 ∷ 7 ∷ []; total = 2 }} {op = Set (at 0 0 0) 2} (
+            Tally.Total 2,
+            record { says = refl; bytes = refl; masks = refl },
+            refl,
+          )
+          (then-one {t = record { bytes = set-cells; masks = 33 ∷ 7 ∷ []; total = 2 }} {op = Refill (at 3 1 0) (at 0 0 0) 2} (
+            Tally.Refused Corners,
+            record { says = refl; bytes = refl; masks = refl },
+            refl,
+          )
+          (then-one {t = record { bytes = all-solid; masks = 255 ∷ 7 ∷ []; total = 8 }} {op = Refill (at 0 0 0) (at 3 1 0) 2} (
+            Tally.Total 8,
+            record { says = refl; bytes = refl; masks = refl },
+            refl,
+          )
+          (then-one {t = record { bytes = all-solid; masks = 255 ∷ 7 ∷ []; total = 8 }} {op = Build} (
+            Tally.Total 8,
+            record { says = refl; holds = refl },
+            refl,
+            refl,
+          )
+          (nothing _)))));
+      all-right = keeping example-counts marked-cells (32 ∷ []) .right 1 kept-example;
     }
 
 pub of-points : OfPoints

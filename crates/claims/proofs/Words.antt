@@ -5,6 +5,7 @@ use Rattle.cells.specs.declared.Refusal.{Refusal}
 use Rattle.cells.proofs.Refusals.{told-one, told-verdict-one}
 use Rattle.lists.proofs.Told.{told-listed-one}
 use Rattle.grids.proofs.Told.{told-part-one, told-completeness-one}
+use Rattle.bricks.proofs.Told.{told-tally-one}
 use Rattle.walks.proofs.Told.{told-hit-one}
 use Rattle.survey.proofs.Told.{told-lookup-one}
 use Rattle.sight.proofs.Told.{told-sight-one}
@@ -19,6 +20,7 @@ told-apart =
       listed = told-listed-one;
       part = told-part-one;
       completeness = told-completeness-one;
+      tally = told-tally-one;
       hit = told-hit-one;
       lookup = told-lookup-one;
       sight = told-sight-one;
@@ -32,7 +34,12 @@ one-number r = record { one = λ m n e f. e .says ∙ sym (f .says) }
 
 pub wrong-numbers : WrongNumbers
 wrong-numbers =
-    record { off-grid-nine = λ e. omega (arith, e); version-as-record = λ e. omega (arith, e); rule-as-version = λ e. omega (arith, e) }
+    record {
+      off-grid-nine = λ e. omega (arith, e);
+      version-as-record = λ e. omega (arith, e);
+      rule-as-version = λ e. omega (arith, e);
+      corners-as-stale = λ e. omega (arith, e);
+    }
 
 pub the-table : TheTable
 the-table =
@@ -49,4 +56,6 @@ the-table =
       ten = refl;
       eleven = refl;
       twelve = refl;
+      thirteen = refl;
+      fourteen = refl;
     }

@@ -23,3 +23,10 @@ example-cells = 0 ∷ 0 ∷ 0 ∷ 0 ∷ 0 ∷ 2 ∷ 0 ∷ 0 ∷ []
 -- SCOPE T14: the same cells, marked
 abbrev pub marked-cells : List ℕ
 marked-cells = 1 ∷ 1 ∷ 1 ∷ 0 ∷ 1 ∷ 2 ∷ 1 ∷ 0 ∷ []
+
+-- SCOPE E25: these with (0,0,0) set to 2, and all set to 2
+abbrev pub set-cells : List ℕ
+set-cells = 2 ∷ 1 ∷ 1 ∷ 0 ∷ 1 ∷ 2 ∷ 1 ∷ 0 ∷ []
+
+abbrev pub all-solid : List ℕ
+all-solid = 2 ∷ 2 ∷ 2 ∷ 2 ∷ 2 ∷ 2 ∷ 2 ∷ 2 ∷ []

@@ -1,10 +1,11 @@
--- The contracts of which Exports speaks are those that the sources of the twelve calls for C state, as Ties has it of the calls themselves: a call
+-- The contracts of which Exports speaks are those that the sources of the fifteen calls for C state, as Ties has it of the calls themselves: a call
 -- for C asks for nothing, and promises the record of its name, over what C's structs mean. Assumes nothing.
 use lib.ListN.{length}
 use Rattle.walks.specs.declared.Walker.the-variants.{Plain, Adaptive}
 use Rattle.oatmarten.specs.Inputs.{as-cell, as-counts, as-placement, as-point}
 use Rattle.oatmarten.specs.LineCalls.{FlatLine6, FlatLine26}
 use Rattle.oatmarten.specs.GridCalls.{FlatMarks, FlatCompletes, FlatGivesLayerPart}
+use Rattle.oatmarten.specs.BrickCalls.{FlatBuilds, FlatSets, FlatRefills}
 use Rattle.oatmarten.specs.WalkCalls.{FlatFinds}
 use Rattle.oatmarten.specs.SightCalls.{FlatLooksUp, FlatSees}
 use Rattle.oatmarten.specs.RecordCalls.{FlatReadsVenue, FlatReadsPair, FlatWritesVenue}
@@ -13,6 +14,9 @@ use Rattle.oatmarten.proofs.oat_line26.Reads as line26
 use Rattle.oatmarten.proofs.oat_mark.Reads as mark
 use Rattle.oatmarten.proofs.oat_complete.Reads as complete
 use Rattle.oatmarten.proofs.oat_layer.Reads as layer
+use Rattle.oatmarten.proofs.oat_build.Reads as build
+use Rattle.oatmarten.proofs.oat_set.Reads as set
+use Rattle.oatmarten.proofs.oat_refill.Reads as refill
 use Rattle.oatmarten.proofs.oat_plain.Reads as plain
 use Rattle.oatmarten.proofs.oat_adaptive.Reads as adaptive
 use Rattle.oatmarten.proofs.oat_cell_of.Reads as cell-of
@@ -30,6 +34,15 @@ pub record ExportsPromised : Type 1 where
   pub of-mark : (κs : _) (a : _) (r : _) (e : _) → mark.Post κs a r e → FlatMarks (as-counts (a .0)) (a .1 .0 .now) r (e .1 .0 .now)
   pub of-complete : (κs : _) (a : _) (r : _) (e : _) → complete.Post κs a r e → FlatCompletes (as-counts (a .0)) (a .1 .0 .now) r
   pub of-layer : (κs : _) (a : _) (r : _) (e : _) → layer.Post κs a r e → FlatGivesLayerPart (as-counts (a .0)) (length (a .1 .0 .now)) (a .1 .1 .0) r
+  pub of-build : (κs : _) (a : _) (r : _) (e : _) → build.Post κs a r e → FlatBuilds (as-counts (a .0)) (a .1 .0 .now) (a .1 .1 .0 .now) r
+      (e .1 .1 .0 .now)
+  pub of-set : (κs : _) (a : _) (r : _) (e : _) → set.Post κs a r e →
+      FlatSets (as-counts (a .0)) (as-cell (a .1 .1 .1 .1 .0)) (a .1 .1 .1 .1 .1 .0) (a .1 .0 .now) (a .1 .1 .0 .now) (a .1 .1 .1 .0) r (e .1 .0 .now)
+      (e .1 .1 .0 .now)
+  pub of-refill : (κs : _) (a : _) (r : _) (e : _) → refill.Post κs a r e →
+      FlatRefills (as-counts (a .0)) (as-cell (a .1 .1 .1 .1 .0)) (as-cell (a .1 .1 .1 .1 .1 .0)) (a .1 .1 .1 .1 .1 .1 .0) (a .1 .0 .now)
+      (a .1 .1 .0 .now)
+      (a .1 .1 .1 .0) r (e .1 .0 .now) (e .1 .1 .0 .now)
   pub of-plain : (κs : _) (a : _) (r : _) (e : _) → plain.Post κs a r e →
       FlatFinds Plain (a .1 .1 .1 .1 .0) (as-counts (a .0)) (a .1 .0 .now) (as-cell (a .1 .1 .0)) (as-cell (a .1 .1 .1 .0)) r
   pub of-adaptive : (κs : _) (a : _) (r : _) (e : _) → adaptive.Post κs a r e →
@@ -50,6 +63,9 @@ pub record ExportsAskNothing : Type 1 where
   pub mark-asks : (κs : _) (a : _) → mark.Pre κs a
   pub complete-asks : (κs : _) (a : _) → complete.Pre κs a
   pub layer-asks : (κs : _) (a : _) → layer.Pre κs a
+  pub build-asks : (κs : _) (a : _) → build.Pre κs a
+  pub set-asks : (κs : _) (a : _) → set.Pre κs a
+  pub refill-asks : (κs : _) (a : _) → refill.Pre κs a
   pub plain-asks : (κs : _) (a : _) → plain.Pre κs a
   pub adaptive-asks : (κs : _) (a : _) → adaptive.Pre κs a
   pub cell-of-asks : (κs : _) (a : _) → cell-of.Pre κs a

@@ -1,7 +1,7 @@
--- What is claimed of the calls for C, by the contracts of the twelve exports (ExportTies: they are the sources' own). Assumes nothing.
+-- What is claimed of the calls for C, by the contracts of the fifteen exports (ExportTies: they are the sources' own). Assumes nothing.
 use Prim.Native.Nat.{ℕ, _≤_}
 use mathlib.Core.Path.{_≡_}
-use mathlib.Core.List.{List}
+use mathlib.Core.List.{List, [], _∷_}
 use lib.IntN.{ℤ, pos}
 use Rattle.cells.specs.declared.Cell.{Cell}
 use Rattle.cells.specs.declared.Counts.{Counts}
@@ -13,6 +13,9 @@ use Rattle.grids.specs.declared.LayerPart.{LayerPart}
 use Rattle.grids.specs.declared.Completeness.{Completeness}
 use Rattle.grids.specs.Grid.{GivesLayerPart}
 use Rattle.grids.specs.Marks.{Marks, Completes}
+use Rattle.bricks.specs.declared.Tally.{Tally}
+use Rattle.bricks.specs.Builds.{Builds}
+use Rattle.refills.specs.Refills.{Refills, Sets}
 use Rattle.walks.specs.declared.Walker.{Walker}
 use Rattle.walks.specs.declared.FirstHit.{FirstHit}
 use Rattle.walks.specs.Answers.{Finds}
@@ -35,6 +38,7 @@ use Rattle.oatmarten.specs.declared.line_calls.OatListed.{OatListed}
 use Rattle.oatmarten.specs.declared.grid_calls.OatVerdict.{OatVerdict}
 use Rattle.oatmarten.specs.declared.grid_calls.OatComplete.{OatComplete}
 use Rattle.oatmarten.specs.declared.grid_calls.OatPart.{OatPart}
+use Rattle.oatmarten.specs.declared.brick_calls.OatTally.{OatTally}
 use Rattle.oatmarten.specs.declared.walk_calls.OatHit.{OatHit}
 use Rattle.oatmarten.specs.declared.sight_calls.OatFound.{OatFound}
 use Rattle.oatmarten.specs.declared.sight_calls.OatSight.{OatSight}
@@ -44,10 +48,11 @@ use Rattle.oatmarten.specs.declared.record_calls.OatWritten.{OatWritten}
 use Rattle.oatmarten.specs.Inputs.{as-start}
 use Rattle.oatmarten.specs.LineCalls.{flat-listed, FlatLine6, FlatLine26}
 use Rattle.oatmarten.specs.GridCalls.{flat-verdict, flat-complete, flat-part, FlatMarks, FlatCompletes, FlatGivesLayerPart}
+use Rattle.oatmarten.specs.BrickCalls.{flat-tally, FlatBuilds, FlatSets, FlatRefills}
 use Rattle.oatmarten.specs.WalkCalls.{flat-hit, FlatFinds}
 use Rattle.oatmarten.specs.SightCalls.{flat-found, flat-sight, FlatLooksUp, FlatSees}
 use Rattle.oatmarten.specs.RecordCalls.{rule-number, flat-venue, flat-pair, flat-written, FlatReadsVenue, FlatReadsPair, FlatWritesVenue}
-use Rattle.claims.specs.Example.{at, example-counts, example-cells}
+use Rattle.claims.specs.Example.{at, example-counts, example-cells, marked-cells, set-cells}
 use Rattle.claims.specs.Lists.{room}
 use Rattle.claims.specs.Grids.{two-layers}
 use Rattle.claims.specs.Records.{example-room}
@@ -60,6 +65,11 @@ One {F} Contract = (r s : F) → Contract r → Contract s → r ≡ s
 abbrev pub OneEach : {F M : Type 0} → (F → M → Type 0) → Type 0
 OneEach {F} {M} Contract = (r s : F) (exit last : M) → Contract r exit → Contract s last → (r ≡ s) × (exit ≡ last)
 
+-- and one that admits one struct and one final memory of two kinds, bytes and masks
+abbrev pub OnePair : {F M N : Type 0} → (F → M → N → Type 0) → Type 0
+OnePair {F} {M} {N} Contract =
+    (r s : F) (exit last : M) (lent left : N) → Contract r exit lent → Contract s last left → (r ≡ s) × (exit ≡ last) × (lent ≡ left)
+
 -- 1. One answer and one final memory for each input, whatever number names the rule. `walks` is of oat_plain and oat_adaptive.
 pub record ExportsOnce : Type 0 where
   pub line6 : (rule : ℕ) (p q : Cell) (entry : List ℤ) → OneEach (FlatLine6 rule p q entry)
@@ -67,6 +77,9 @@ pub record ExportsOnce : Type 0 where
   pub mark : (n : Counts) (entry : List ℕ) → OneEach (FlatMarks n entry)
   pub complete : (n : Counts) (cells : List ℕ) → One (FlatCompletes n cells)
   pub layer : (n : Counts) (bytes : ℕ) (z : ℤ) → One (FlatGivesLayerPart n bytes z)
+  pub build : (n : Counts) (cells entry : List ℕ) → OneEach (FlatBuilds n cells entry)
+  pub set : (n : Counts) (cell : Cell) (byte : ℕ) (l m : List ℕ) (total : ℕ) → OnePair (FlatSets n cell byte l m total)
+  pub refill : (n : Counts) (low high : Cell) (byte : ℕ) (l m : List ℕ) (total : ℕ) → OnePair (FlatRefills n low high byte l m total)
   pub walks : (w : Walker) (how : OatManner) (n : Counts) (cells : List ℕ) (p q : Cell) → One (FlatFinds w how n cells p q)
   pub found : (n : Counts) (at : Placement) (p : Point) → One (FlatLooksUp n at p)
   pub seen : (how : OatManner) (n : Counts) (cells : List ℕ) (at : Placement) (camera ball : Point) → One (FlatSees how n cells at camera ball)
@@ -78,15 +91,22 @@ pub record ExportsOnce : Type 0 where
 abbrev pub Untouched : {F M : Type 0} → (F → OatSaid) → (F → M → Type 0) → M → Type 0
 Untouched {F} {M} said Contract entry = (r : F) (exit : M) → Contract r exit → (said r .refusal ≡ 0 → ⊥) → exit ≡ entry
 
+-- and so of bytes and masks
+abbrev pub BothUntouched : (OatTally → List ℕ → List ℕ → Type 0) → List ℕ → List ℕ → Type 0
+BothUntouched Contract l m = (r : OatTally) (l′ m′ : List ℕ) → Contract r l′ m′ → (r .said .refusal ≡ 0 → ⊥) → (l′ ≡ l) × (m′ ≡ m)
+
 -- 2. A refusal writes nothing, 12 included: of the calls that write.
 pub record RefusedUntouched : Type 0 where
   pub line6 : (rule : ℕ) (p q : Cell) (entry : List ℤ) → Untouched (λ f. f .said) (FlatLine6 rule p q entry) entry
   pub line26 : (p q : Cell) (entry : List ℤ) → Untouched (λ f. f .said) (FlatLine26 p q entry) entry
   pub mark : (n : Counts) (entry : List ℕ) → Untouched (λ f. f .said) (FlatMarks n entry) entry
+  pub build : (n : Counts) (cells entry : List ℕ) → Untouched (λ f. f .said) (FlatBuilds n cells entry) entry
+  pub set : (n : Counts) (cell : Cell) (byte : ℕ) (l m : List ℕ) (total : ℕ) → BothUntouched (FlatSets n cell byte l m total) l m
+  pub refill : (n : Counts) (low high : Cell) (byte : ℕ) (l m : List ℕ) (total : ℕ) → BothUntouched (FlatRefills n low high byte l m total) l m
   pub written : (n : Counts) (cells entry : List ℕ) → Untouched (λ f. f .said) (FlatWritesVenue n cells entry) entry
 
--- 3. Wrong answers that the contracts shut out, on named inputs: a 6-line by either rule, a marking and a venue's record that leave the memory as it
--- was, whatever the struct says; a walk in a manner of zeros, with any answer but 12; a marking that refuses the program's venue; marks of it that are
+-- 3. Wrong answers that the contracts shut out, on named inputs: a 6-line by either rule, a marking, a build, a set and a venue's record that leave the
+-- memory as it was, whatever the struct says; a refill without its high corner; a walk in a manner of zeros, with any answer but 12; a marking that refuses the program's venue; marks of it that are
 -- complete; the first layer for the second.
 pub record WrongExports : Type 0 where
   pub idle-line : (rule : Rule) (r : OatListed) → FlatLine6 (rule-number rule) (at 0 0 0) (at 2 1 0) room r room → ⊥
@@ -96,6 +116,10 @@ pub record WrongExports : Type 0 where
   pub idle-writer : (r : OatWritten) → FlatWritesVenue example-counts example-cells example-room r example-room → ⊥
   pub refusing-marker : (r : OatVerdict) (exit : List ℕ) → FlatMarks example-counts example-cells r exit → 1 ≤ r .said .refusal → ⊥
   pub complete-always : (r : OatComplete) → FlatCompletes example-counts example-cells r → r .yes ≡ 1 → ⊥
+  pub idle-build : (r : OatTally) → FlatBuilds example-counts example-cells (0 ∷ []) r (0 ∷ []) → ⊥
+  pub idle-set : (r : OatTally) (masks : List ℕ) → FlatSets example-counts (at 0 0 0) 2 marked-cells (32 ∷ []) 1 r marked-cells masks → ⊥
+  pub high-corner-left-out : (r : OatTally) (masks : List ℕ) →
+      FlatRefills example-counts (at 0 0 0) (at 1 0 0) 2 marked-cells (32 ∷ []) 1 r set-cells masks → ⊥
   pub first-layer : (r : OatPart) → FlatGivesLayerPart two-layers 4 (pos 1) r → r .offset ≡ 0 → ⊥
 
 -- 4. Each call for C gives what the call of the engine gives: its struct is the flattening of an answer that meets that call's own contract (Ties: it
@@ -110,6 +134,12 @@ pub record ExportsAre : Type 0 where
   pub complete : (n : Counts) (cells : List ℕ) (r : OatComplete) → FlatCompletes n cells r → (a : Completeness) × Completes n cells a × (r ≡ flat-complete a)
   pub layer : (n : Counts) (bytes : ℕ) (z : ℤ) (r : OatPart) → FlatGivesLayerPart n bytes z r →
       (a : LayerPart) × GivesLayerPart n bytes z a × (r ≡ flat-part a)
+  pub build : (n : Counts) (cells entry exit : List ℕ) (r : OatTally) → FlatBuilds n cells entry r exit →
+      (a : Tally) × Builds n cells entry a exit × (r ≡ flat-tally a)
+  pub set : (n : Counts) (cell : Cell) (byte : ℕ) (l m : List ℕ) (total : ℕ) (l′ m′ : List ℕ) (r : OatTally) →
+      FlatSets n cell byte l m total r l′ m′ → (a : Tally) × Sets n cell byte l m total a l′ m′ × (r ≡ flat-tally a)
+  pub refill : (n : Counts) (low high : Cell) (byte : ℕ) (l m : List ℕ) (total : ℕ) (l′ m′ : List ℕ) (r : OatTally) →
+      FlatRefills n low high byte l m total r l′ m′ → (a : Tally) × Refills n low high byte l m total a l′ m′ × (r ≡ flat-tally a)
   pub walks : (w : Walker) (s : ℕ) (rule : Rule) (n : Counts) (cells : List ℕ) (p q : Cell) (r : OatHit) →
       FlatFinds w (record { start = s; rule = rule-number rule }) n cells p q r →
       (a : FirstHit) × Finds w (record { start = as-start s; rule = rule }) n cells p q a × (r ≡ flat-hit a)

@@ -48,6 +48,9 @@ use Rattle.oatmarten.specs.Faces.{face-number}
 use Rattle.oatmarten.specs.Inputs.{as-cell, as-counts, as-manner, as-placement, as-point}
 use Rattle.oatmarten.specs.LineCalls.{flat-listed}
 use Rattle.oatmarten.specs.GridCalls.{flat-verdict, flat-complete, flat-part}
+use Rattle.bricks.specs.declared.Tally.the-variants as Tally
+use Rattle.bricks.specs.Builds.{told-tally}
+use Rattle.oatmarten.specs.BrickCalls.{flat-tally}
 use Rattle.oatmarten.specs.WalkCalls.{flat-hit, FlatFinds}
 use Rattle.oatmarten.specs.SightCalls.{flat-found, flat-sight}
 use Rattle.oatmarten.specs.RecordCalls.{rule-number, flat-venue, flat-pair, flat-written}
@@ -68,6 +71,7 @@ pub record Flattenings : Type 0 where
   pub mark : Flattened told-verdict flat-verdict (λ f. f .said)
   pub complete : Flattened told-completeness flat-complete (λ f. f .said)
   pub layer : Flattened told-part flat-part (λ f. f .said)
+  pub tallies : Flattened told-tally flat-tally (λ f. f .said)
   pub walks : Flattened told-hit flat-hit (λ f. f .said)
   pub found : Flattened told-lookup flat-found (λ f. f .said)
   pub seen : Flattened told-sight flat-sight (λ f. f .said)
@@ -75,9 +79,9 @@ pub record Flattenings : Type 0 where
   pub pair : Flattened told-pair flat-pair (λ f. f .said)
   pub written : Flattened told-written flat-written (λ f. f .said)
 
--- SCOPE's table has the numbers 1 to 12
+-- SCOPE's table has the numbers 1 to 14
 abbrev pub InTable : ℕ → Type 0
-InTable k = (1 ≤ k) × (k ≤ 12)
+InTable k = (1 ≤ k) × (k ≤ 14)
 
 -- the three numbers of `said`
 abbrev pub three : (refusal end axis : ℕ) → OatSaid
@@ -107,6 +111,8 @@ pub record SaidNumbers : Type 0 where
   pub no-record : flat-refusal Refusal.Record ≡ three 10 0 0
   pub version : flat-refusal Refusal.Version ≡ three 11 0 0
   pub no-rule : flat-refusal Refusal.NoRule ≡ three 12 0 0
+  pub stale : flat-refusal Refusal.Stale ≡ three 13 0 0
+  pub corners : flat-refusal Refusal.Corners ≡ three 14 0 0
   pub in-table : (r : Refusal) → InTable (flat-refusal r .refusal)
   pub apart : (r s : Refusal) → flat-refusal r ≡ flat-refusal s → r ≡ s
   pub q-off-y : (start : ℕ) (rule : Rule) (r : OatHit) →
@@ -128,6 +134,9 @@ pub record FlatRows : Type 0 where
   -- a layer's part: `offset` is where it starts, `length` how long it is
   pub part : (start many : ℕ) → flat-part (LayerPart.Part start many) ≡ record { said = three 0 0 0; offset = start; length = many }
   pub part-refused : (r : Refusal) → flat-part (LayerPart.Refused r) ≡ record { said = flat-refusal r; offset = 0; length = 0 }
+  -- a build, a set or a refill: `total` is the number of solid cells
+  pub tally : (many : ℕ) → flat-tally (Tally.Total many) ≡ record { said = three 0 0 0; total = many }
+  pub tally-refused : (r : Refusal) → flat-tally (Tally.Refused r) ≡ record { said = flat-refusal r; total = 0 }
   -- a walk: `hit` is 1 where it hit, with the cell, its code, the place num over den, the face, and the reads; 0 where it is clear, with the reads
   pub hit : (x y z : ℤ) (code num den : ℕ) (f : Face) (reads : ℕ) →
       flat-hit (FirstHit.Hit

@@ -33,13 +33,14 @@ use Rattle.records.specs.Venues.{ReadsVenue, GivesCells}
 use Rattle.records.specs.Writing.{WritesVenue}
 use Rattle.claims.specs.Ties.{AsksNothing, Promised}
 use Rattle.claims.specs.ExportTies.{ExportsAskNothing, ExportsPromised}
-use Rattle.claims.specs.Refused.{LinesTold, GridsTold, PointsTold, RecordsTold, RulesTold}
+use Rattle.claims.specs.Refused.{LinesTold, GridsTold, TalliesTold, PointsTold, RecordsTold, RulesTold}
 use Rattle.claims.specs.Exports.{ExportsAre, NoSuchRule, ExportsOnce, RefusedUntouched}
 use Rattle.claims.specs.Flattenings.{Flattenings}
 use Rattle.claims.specs.Words.{OneNumber}
 use Rattle.claims.specs.Lists.{ListedOnce, CellsListed}
 use Rattle.claims.specs.Lines.{OnePlace, SixLine, TwentySixLine}
 use Rattle.claims.specs.Grids as grids
+use Rattle.claims.specs.Kept.{KeptOnce, Masks, RefillMeans, SetMeans, FromABuildOn, Keeping}
 use Rattle.claims.specs.Points as points
 use Rattle.claims.specs.Records as records
 use Rattle.claims.specs.Sights.{SeenOnce, OpenWay}
@@ -58,11 +59,13 @@ pub record TakesAnything : Type 1 where
   pub grid-calls : grids.OneAnswer
   pub marking : (n : Counts) (l : List ℕ) → grids.MarkedCall n l
   pub walks : (how : Manner) (n : Counts) (l : List ℕ) (p q : Cell) → HitOnce how n l p q
+  pub counts : KeptOnce
   pub cells : (n : Counts) (at : Placement) (p : Point) → points.OneAnswer n at p
   pub sights : (how : Manner) (n : Counts) (l : List ℕ) (at : Placement) (camera ball : Point) → SeenOnce how n l at camera ball
   pub record-calls : records.OneAnswer
   pub list-refusals : (p q : Cell) (entry exit : List ℤ) (r : Listed) → LinesTold p q entry exit r
   pub grid-refusals : (n : Counts) (l : List ℕ) → GridsTold n l
+  pub count-refusals : (n : Counts) (l m : List ℕ) → TalliesTold n l m
   pub point-refusals : (n : Counts) (at : Placement) → PointsTold n at
   pub record-refusals : RecordsTold
   pub for-c : ExportsAskNothing × ExportsPromised × ExportsAre × Flattenings × ExportsOnce × RefusedUntouched
@@ -110,3 +113,14 @@ pub record TellOneStory : Type 0 where
   pub faces : (how : Manner) (n : Counts) (l : List ℕ) (p q : Cell) → HitFace how n l p q
   pub starts : (n : Counts) (l : List ℕ) (p q : Cell) → TwoStarts n l p q
   pub both-ways : (n : Counts) (l : List ℕ) (p q : Cell) → BothWays n l p q
+
+-- 4. SCOPE K: the solid counts that are kept. The bits of a mask are the solid cells of its brick, so its ones are as many, and
+-- the ones of all masks as many as the solid bytes. From an accepted build on, after any builds, sets, refills and markings with the same counts, each
+-- total handed on, this holds and the total is a fresh count; and no set or refill is refused 13. A set or refill changes just the bytes of its cells
+-- and the masks of their bricks, and moves the total as these masks' ones move, and so as a fresh count moves.
+pub record KeepsCounts : Type 0 where
+  pub by-bits : (n : Counts) (l : List ℕ) → Masks n l
+  pub build-on : (n : Counts) (l m : List ℕ) (t : ℕ) (m′ : List ℕ) → FromABuildOn n l m t m′
+  pub kept-by : (n : Counts) (l m : List ℕ) → Keeping n l m
+  pub refills : (n : Counts) (low high : Cell) (byte : ℕ) (l m : List ℕ) (total t : ℕ) (l′ m′ : List ℕ) → RefillMeans n low high byte l m total t l′ m′
+  pub sets : (n : Counts) (cell : Cell) (byte : ℕ) (l m : List ℕ) (total t : ℕ) (l′ m′ : List ℕ) → SetMeans n cell byte l m total t l′ m′

@@ -6,6 +6,7 @@ pub mod Starred
 pub mod Lines
 pub mod Lists
 pub mod Grids
+pub mod Kept
 pub mod Story
 pub mod Starts
 pub mod Rules

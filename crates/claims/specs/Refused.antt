@@ -1,6 +1,6 @@
 -- SCOPE, R and O: for each public call its tests in order, each in plain inequalities on the call's inputs and with the
 -- number and details that it gives; and the claim that every answer that meets the call's contract is given by them. Assumes nothing.
-use Prim.Native.Nat.{ℕ, _+_, _*_, _<_}
+use Prim.Native.Nat.{ℕ, _+_, _*_, _/_, _<_}
 use mathlib.Core.Path.{_≡_}
 use mathlib.Core.Bool.{true, false}
 use mathlib.Core.List.{List, []}
@@ -33,6 +33,11 @@ use Rattle.grids.specs.declared.Completeness.{Completeness}
 use Rattle.grids.specs.Grid.{Shapes, GivesLayerPart, GivesLayer, told-part}
 use Rattle.grids.specs.Inside.{count-on}
 use Rattle.grids.specs.Marks.{Marks, Completes, told-completeness}
+use Rattle.bricks.specs.declared.Tally.{Tally}
+use Rattle.bricks.specs.Bricks.{mask-at}
+use Rattle.bricks.specs.Builds.{Builds, told-tally}
+use Rattle.refills.specs.Boxes.{corner}
+use Rattle.refills.specs.Refills.{ones-in, Refills, Sets}
 use Rattle.walks.specs.declared.Walker.{Walker}
 use Rattle.walks.specs.declared.FirstHit.{FirstHit}
 use Rattle.walks.specs.Answers.{Finds, told-hit}
@@ -57,6 +62,7 @@ use Rattle.oatmarten.specs.declared.sight_calls.OatSight.{OatSight}
 use Rattle.oatmarten.specs.LineCalls.{flat-listed, FlatLine6}
 use Rattle.oatmarten.specs.WalkCalls.{flat-hit, FlatFinds}
 use Rattle.oatmarten.specs.SightCalls.{flat-sight, FlatSees}
+use Rattle.claims.specs.Kept.{HoldsNamed}
 
 -- ---- line lists
 
@@ -93,6 +99,35 @@ grid-tests e n c = each-axis λ a. ((on c a <ℤ pos 0) ⊎ (pos (count-on n a) 
 -- 2, 3, then 5 (P before Q)
 abbrev pub walk-tests : (n : Counts) (bytes : ℕ) (p q : Cell) → Tests
 walk-tests n bytes p q = shape-tests n bytes else grid-tests P n p else grid-tests Q n q
+
+-- ---- solid counts
+
+-- 2, 3, then 6, SCOPE O9: fewer masks lent than there are bricks
+abbrev pub bricks-tests : (n : Counts) (bytes lent : ℕ) → Tests
+bricks-tests n bytes lent = shape-tests n bytes else (lent < (n .nx + 3) / 4 * ((n .ny + 3) / 4) * ((n .nz + 3) / 4)) gives alone 6
+
+-- 2, 3, 6, then 5 (the low corner is P, the high one Q), then 14, SCOPE R14: the high corner is below the low one on some axis
+abbrev pub corner-tests : (n : Counts) (bytes lent : ℕ) (low high : Cell) → Tests
+corner-tests n bytes lent low high =
+    bricks-tests n bytes lent else grid-tests P n low else grid-tests Q n high else
+    ((high .x <ℤ low .x) ⊎ ((high .y <ℤ low .y) ⊎ (high .z <ℤ low .z))) gives alone 14
+
+-- SCOPE R13: a mask of a brick that holds a cell of the box is not that of the bytes, or the total is below the ones of those masks, or above the
+-- number of cells
+abbrev pub Disagrees : (n : Counts) (l m : List ℕ) (total : ℕ) (low high : Cell) → Type 0
+Disagrees n l m total low high =
+    ((k : ℕ) × HoldsNamed n low high k × (¬ (getD m k 0 ≡ mask-at n l k)))
+    ⊎ ((total < ones-in n (corner low) (corner high) m) ⊎ (n .nx * n .ny * n .nz < total))
+
+-- 2, 3, 6, 5, 14, then 13
+abbrev pub box-tests : (n : Counts) (l m : List ℕ) (total : ℕ) (low high : Cell) → Tests
+box-tests n l m total low high =
+    corner-tests n (length l) (length m) low high else Disagrees n l m total low high gives alone 13
+
+-- of a set: 2, 3, 6, 5 (its cell is P), then 13; never Q, and never 14
+abbrev pub set-tests : (n : Counts) (l m : List ℕ) (total : ℕ) (cell : Cell) → Tests
+set-tests n l m total cell =
+    (bricks-tests n (length l) (length m) else grid-tests P n cell) else Disagrees n l m total cell cell gives alone 13
 
 -- ---- metres
 
@@ -190,6 +225,14 @@ pub record GridsTold (n : Counts) (l : List ℕ) : Type 0 where
   pub layer : (z : ℤ) (cells part : RefT (List ℕ)) → GivesLayer n cells z part →
       (part .now ≡ []) ↔ ((t : Told) × First (layer-tests n (length (cells .now)) z) t)
   pub first-hit : (k : Walker) (how : Manner) (p q : Cell) (r : FirstHit) → Finds k how n l p q r → ByTests (walk-tests n (length l) p q) (told-hit r)
+
+-- calls that keep counts; a set is the refill of its cell
+pub record TalliesTold (n : Counts) (l m : List ℕ) : Type 0 where
+  pub build : (r : Tally) (m′ : List ℕ) → Builds n l m r m′ → ByTests (bricks-tests n (length l) (length m)) (told-tally r)
+  pub refill : (low high : Cell) (byte total : ℕ) (r : Tally) (l′ m′ : List ℕ) → Refills n low high byte l m total r l′ m′ →
+      ByTests (box-tests n l m total low high) (told-tally r)
+  pub set : (cell : Cell) (byte total : ℕ) (r : Tally) (l′ m′ : List ℕ) → Sets n cell byte l m total r l′ m′ →
+      ByTests (set-tests n l m total cell) (told-tally r)
 
 -- surveyed points
 pub record PointsTold (n : Counts) (at : Placement) : Type 0 where

@@ -1,8 +1,9 @@
 -- SCOPE, E: the starred cases, as one table. Assumes nothing.
 use Prim.Native.Nat.{ℕ, _-_}
 use mathlib.Core.Path.{_≡_}
+use mathlib.Core.Bool.{Bool, true, false}
 use mathlib.Core.List.{List, [], _∷_, _++_}
-use mathlib.Core.Logic.{_⊎_, inl, inr}
+use mathlib.Core.Logic.{_⊎_, inl, inr, _↔_}
 use lib.IntN.{pos, negℤ}
 use lib.Ieee.{Float, binary64, div, ofBits}
 use lib.ListN.{length}
@@ -15,7 +16,8 @@ use Rattle.cells.specs.declared.End.the-variants.{P, Q}
 use Rattle.cells.specs.declared.Face.{Face}
 use Rattle.cells.specs.declared.Face.the-variants as Face
 use Rattle.cells.specs.declared.Manner.{Manner}
-use Rattle.cells.specs.Checks.{by-verdict}
+use Rattle.cells.specs.declared.Refusal.the-variants.{OffGrid, Room, Stale, Corners}
+use Rattle.cells.specs.Checks.{_then_, by-verdict}
 use Rattle.cells.specs.Manners.{usual, tested-by, tested-start}
 use Rattle.cells.specs.Refusals.{Told, alone, at-end}
 use Rattle.lines.specs.declared.Order.{Order}
@@ -24,7 +26,13 @@ use Rattle.lines.specs.Preference.{order-of, by-rule}
 use Rattle.lines.specs.Lines.{six-line, line-26}
 use Rattle.lists.specs.declared.Listed.the-variants as Listed
 use Rattle.lists.specs.Lists.{list-check, told-listed}
-use Rattle.grids.specs.Marks.{marked}
+use Rattle.grids.specs.Marks.{marked, completeness, told-completeness}
+use Rattle.bricks.specs.declared.Tally.{Tally}
+use Rattle.bricks.specs.declared.Tally.the-variants as Tally
+use Rattle.bricks.specs.Bricks.{solids}
+use Rattle.bricks.specs.Builds.{bricks-check, built, Builds}
+use Rattle.refills.specs.Boxes.{corner}
+use Rattle.refills.specs.Refills.{refilled, remasked, moved, box-check, stale-check, Refills, Sets}
 use Rattle.records.specs.Venues.{venue-read, venue-cells, told-venue}
 use Rattle.records.specs.Pairs.{pair-read, told-pair}
 use Rattle.program.specs.Program.{output}
@@ -39,7 +47,7 @@ use Rattle.sight.specs.Sight as sights
 use Rattle.sight.specs.Sight.{sight, told-sight, blocked}
 use Rattle.claims.specs.Points.{metres, next-above, one-metre, point}
 use Rattle.claims.specs.Tables.{EachRow}
-use Rattle.claims.specs.Example.{counts, at, example-counts, example-cells, marked-cells}
+use Rattle.claims.specs.Example.{counts, at, example-counts, example-cells, marked-cells, set-cells, all-solid}
 use Rattle.claims.specs.Rules.{low-post}
 use Rattle.claims.specs.Story.{long-bytes}
 use Rattle.claims.specs.Records.{example-venue, example-pair, minus-one-pair}
@@ -65,8 +73,32 @@ clear reads = inr (said.clear reads)
 abbrev pub halves : ℕ → Float
 halves k = div binary64 (as-f64 k) (as-f64 2)
 
+-- what a build answers, and the masks after it; what a refill answers, and bytes and masks after it: as their contracts have it (`RowsMeant`)
+abbrev pub after-build : Counts → (bytes masks : List ℕ) → Tally × List ℕ
+after-build n l m =
+    let v = bricks-check n (length l) (length m) in (by-verdict Tally.Refused (Tally.Total (solids l)) v, by-verdict (λ r. m) (built n l m) v)
+
+abbrev pub after-refill : Counts → Cell → Cell → ℕ → (bytes masks : List ℕ) → ℕ → Tally × List ℕ × List ℕ
+after-refill n low high byte l m total =
+    let lo = corner low in
+    let hi = corner high in
+    let v = box-check n (length l) (length m) low high then stale-check n lo hi l m total in
+    let l′ = refilled n lo hi byte l in
+    let m′ = remasked n lo hi l′ m in
+    (by-verdict Tally.Refused (Tally.Total (moved n lo hi m m′ total)) v, by-verdict (λ r. l) l′ v, by-verdict (λ r. m) m′ v)
+
+-- the contracts of the calls ask for just that
+pub record RowsMeant : Type 0 where
+  pub build : (n : Counts) (l m : List ℕ) (r : Tally) (m′ : List ℕ) → Builds n l m r m′ ↔ (after-build n l m ≡ (r, m′))
+  pub refill : (n : Counts) (low high : Cell) (byte : ℕ) (l m : List ℕ) (total : ℕ) (r : Tally) (l′ m′ : List ℕ) →
+      Refills n low high byte l m total r l′ m′ ↔ (after-refill n low high byte l m total ≡ (r, l′, m′))
+  pub set : (n : Counts) (cell : Cell) (byte : ℕ) (l m : List ℕ) (total : ℕ) (r : Tally) (l′ m′ : List ℕ) →
+      Sets n cell byte l m total r l′ m′ ↔ (after-refill n cell cell byte l m total ≡ (r, l′, m′))
+
 -- a row: the ends P and Q and the cells of the line between them, of the 6-line by a rule; two ends and the order of rule 2 between them; the ends,
--- room for so many numbers, and what the 6-line's call answers; counts, bytes, and the bytes marked; a walk, its manner, its grid and ends, and what
+-- room for so many numbers, and what the 6-line's call answers; counts, bytes, and the bytes marked, or whether their marks are complete; counts, bytes and
+-- lent masks, what a build answers, and the masks after it; a cell or two corners, a byte, bytes, masks and total, what a set or refill answers, and
+-- bytes and masks after it; a walk, its manner, its grid and ends, and what
 -- it finds; a venue's record, its counts and its cells; a pair's record, P, Q and the rule, or what is said of its refusal; the program's whole
 -- input and output; or a manner, a grid, its placement, camera and ball, and the 64 bits of the share, the cell, code, reads and entry face of what
 -- is in the way, or that nothing is, or what is said of its refusal
@@ -76,6 +108,10 @@ pub data Row : Type 0 where
   twenty-six : Cell → Cell → List Cell → Row
   lists : Cell → Cell → ℕ → Told ⊎ ℕ → Row
   marks : Counts → List ℕ → List ℕ → Row
+  complete-is : Counts → List ℕ → Bool → Row
+  builds : Counts → (bytes masks : List ℕ) → Tally → List ℕ → Row
+  sets : Counts → Cell → ℕ → (bytes masks : List ℕ) → ℕ → Tally → (bytes masks : List ℕ) → Row
+  refills : Counts → Cell → Cell → ℕ → (bytes masks : List ℕ) → ℕ → Tally → (bytes masks : List ℕ) → Row
   finds : Walker → Manner → Counts → List ℕ → Cell → Cell → Told ⊎ WalkSaid → Row
   venue : List ℕ → Counts → List ℕ → Row
   venue-part : List ℕ → List ℕ → Row
@@ -94,6 +130,10 @@ Holds (twenty-six p q l) = line-26 p q ≡ l
 Holds (lists p q room says) = told-listed
     (by-verdict Listed.Refused (Listed.Cells (length (six-line (by-rule One p q) p q))) (list-check p q (length (six-line (by-rule One p q) p q)) room)) ≡ says
 Holds (marks n l m) = marked 3 n l ≡ m
+Holds (complete-is n l whether) = told-completeness (completeness n l) ≡ inr whether
+Holds (builds n l m r m′) = after-build n l m ≡ (r, m′)
+Holds (sets n cell byte l m total r l′ m′) = after-refill n cell cell byte l m total ≡ (r, l′, m′)
+Holds (refills n low high byte l m total r l′ m′) = after-refill n low high byte l m total ≡ (r, l′, m′)
 Holds (finds w how n l p q says) = told-hit (first-hit w how n l p q) ≡ says
 Holds (venue s n cells) = told-venue (venue-read s) ≡ inr (n, length s - length cells, length cells)
 Holds (venue-part s cells) = venue-cells s ≡ cells
@@ -252,6 +292,42 @@ start-rows =
     ∷ finds Adaptive tested-start example-counts marked-cells (at 1 1 0) (at 1 1 0) (hit (at 1 1 0) 2 0 1 Face.None 1)
     ∷ rule-rows
 
+-- masks, ones and totals
+abbrev pub count-rows : List Row
+count-rows =
+    builds example-counts example-cells (0 ∷ []) (Tally.Total 1) (32 ∷ [])
+    -- surplus masks stay; and one mask too few
+    ∷ builds example-counts example-cells (9 ∷ 7 ∷ []) (Tally.Total 1) (32 ∷ 7 ∷ [])
+    ∷ builds example-counts example-cells [] (Tally.Refused Room) []
+    -- bit x + 4y + 16z; counts that are no multiples of 4: the fifth cell is in a brick of its own
+    ∷ builds (counts 5 1 1) (2 ∷ 2 ∷ 2 ∷ 0 ∷ 9 ∷ []) (0 ∷ 0 ∷ []) (Tally.Total 4) (7 ∷ 1 ∷ [])
+    ∷ builds (counts 1 5 1) (2 ∷ 2 ∷ 2 ∷ 0 ∷ 9 ∷ []) (0 ∷ 0 ∷ []) (Tally.Total 4) (273 ∷ 1 ∷ [])
+    ∷ builds (counts 1 1 5) (2 ∷ 2 ∷ 0 ∷ 0 ∷ 9 ∷ []) (0 ∷ 0 ∷ []) (Tally.Total 3) (65537 ∷ 1 ∷ [])
+    -- one cell more; another code for a solid cell; all cells of the box
+    ∷ sets example-counts (at 0 0 0) 2 marked-cells (32 ∷ []) 1 (Tally.Total 2) set-cells (33 ∷ [])
+    ∷ sets example-counts (at 1 1 0) 7 marked-cells (32 ∷ []) 1 (Tally.Total 1) (1 ∷ 1 ∷ 1 ∷ 0 ∷ 1 ∷ 7 ∷ 1 ∷ 0 ∷ []) (32 ∷ [])
+    ∷ refills example-counts (at 0 0 0) (at 3 1 0) 2 marked-cells (32 ∷ []) 1 (Tally.Total 8) all-solid (255 ∷ [])
+    ∷ refills example-counts (at 1 0 0) (at 2 1 0) 1 marked-cells (32 ∷ []) 1 (Tally.Total 0) (1 ∷ 1 ∷ 1 ∷ 0 ∷ 1 ∷ 1 ∷ 1 ∷ 0 ∷ []) (0 ∷ [])
+    -- 13: a bit of another cell of the brick, a bit of no cell, a total below the ones or above the cells; before "changes nothing"
+    ∷ sets example-counts (at 0 0 0) 1 marked-cells (33 ∷ []) 2 (Tally.Refused Stale) marked-cells (33 ∷ [])
+    ∷ sets example-counts (at 0 0 0) 1 marked-cells (288 ∷ []) 2 (Tally.Refused Stale) marked-cells (288 ∷ [])
+    ∷ sets example-counts (at 0 0 0) 1 marked-cells (32 ∷ []) 0 (Tally.Refused Stale) marked-cells (32 ∷ [])
+    ∷ sets example-counts (at 0 0 0) 1 marked-cells (32 ∷ []) 9 (Tally.Refused Stale) marked-cells (32 ∷ [])
+    ∷ sets example-counts (at 0 0 0) 1 marked-cells (32 ∷ []) 8 (Tally.Total 8) marked-cells (32 ∷ [])
+    -- 14 before 13; 5 before 14, of the low corner before the high one; 6 before 5
+    ∷ refills example-counts (at 3 1 0) (at 0 1 0) 2 marked-cells (0 ∷ []) 1 (Tally.Refused Corners) marked-cells (0 ∷ [])
+    ∷ refills example-counts (at 4 1 0) (at 0 2 0) 2 marked-cells (32 ∷ []) 1 (Tally.Refused (OffGrid P X)) marked-cells (32 ∷ [])
+    ∷ refills example-counts (at 3 1 0) (at 0 2 0) 2 marked-cells (32 ∷ []) 1 (Tally.Refused (OffGrid Q Y)) marked-cells (32 ∷ [])
+    ∷ refills example-counts (at 4 1 0) (at 0 0 0) 2 marked-cells [] 1 (Tally.Refused Room) marked-cells []
+    -- complete marks that a set makes incomplete, until they are made again; the mask and the total stay right
+    ∷ complete-is (counts 3 1 1) (0 ∷ 0 ∷ 0 ∷ []) true
+    ∷ sets (counts 3 1 1) (at 0 0 0) 2 (0 ∷ 0 ∷ 0 ∷ []) (0 ∷ []) 0 (Tally.Total 1) (2 ∷ 0 ∷ 0 ∷ []) (1 ∷ [])
+    ∷ complete-is (counts 3 1 1) (2 ∷ 0 ∷ 0 ∷ []) false
+    ∷ marks (counts 3 1 1) (2 ∷ 0 ∷ 0 ∷ []) (2 ∷ 1 ∷ 0 ∷ [])
+    ∷ complete-is (counts 3 1 1) (2 ∷ 1 ∷ 0 ∷ []) true
+    ∷ builds (counts 3 1 1) (2 ∷ 1 ∷ 0 ∷ []) (0 ∷ []) (Tally.Total 1) (1 ∷ [])
+    ∷ start-rows
+
 -- every case; where a row says nothing else, the start is tested and ties go by rule 1
 abbrev pub table : List Row
 table =
@@ -318,4 +394,4 @@ table =
     -- missing marks: the adaptive walk is clear and reads more than the plain one
     ∷ finds Plain tested-start (counts 3 2 1) (0 ∷ 0 ∷ 0 ∷ 0 ∷ 2 ∷ 0 ∷ []) (at 0 1 0) (at 2 0 0) (hit (at 1 1 0) 2 1 4 (Face.Plus X) 2)
     ∷ finds Adaptive tested-start (counts 3 2 1) (0 ∷ 0 ∷ 0 ∷ 0 ∷ 2 ∷ 0 ∷ []) (at 0 1 0) (at 2 0 0) (clear 3)
-    ∷ start-rows
+    ∷ count-rows

@@ -16,6 +16,11 @@ use Rattle.grids.proofs.layer_part.Reads as layer-part
 use Rattle.grids.proofs.layer.Reads as layer
 use Rattle.marks.proofs.mark.Reads as mark
 use Rattle.marks.proofs.complete.Reads as complete
+use Rattle.bricks.specs.Builds.{Builds}
+use Rattle.bricks.proofs.build.Reads as build
+use Rattle.refills.specs.Refills.{Refills, Sets}
+use Rattle.refills.proofs.set.Reads as set
+use Rattle.refills.proofs.refill.Reads as refill
 use Rattle.lists.specs.Lists.{Line6, Line26}
 use Rattle.lists.proofs.line6.Reads as line6
 use Rattle.lists.proofs.line26.Reads as line26
@@ -51,6 +56,12 @@ pub record Promised : Type 1 where
   pub of-layer : (κs : _) (a : _) (r : _) (e : _) → layer.Post κs a r e → GivesLayer (a .0) (a .1 .0) (a .1 .1 .0) r
   pub of-mark : (κs : _) (a : _) (r : _) (e : _) → mark.Post κs a r e → Marks (a .0) (a .1 .0 .now) r (e .1 .0 .now)
   pub of-complete : (κs : _) (a : _) (r : _) (e : _) → complete.Post κs a r e → Completes (a .0) (a .1 .0 .now) r
+  pub of-build : (κs : _) (a : _) (r : _) (e : _) → build.Post κs a r e → Builds (a .0) (a .1 .0 .now) (a .1 .1 .0 .now) r (e .1 .1 .0 .now)
+  pub of-set : (κs : _) (a : _) (r : _) (e : _) → set.Post κs a r e →
+      Sets (a .0) (a .1 .1 .1 .1 .0) (a .1 .1 .1 .1 .1 .0) (a .1 .0 .now) (a .1 .1 .0 .now) (a .1 .1 .1 .0) r (e .1 .0 .now) (e .1 .1 .0 .now)
+  pub of-refill : (κs : _) (a : _) (r : _) (e : _) → refill.Post κs a r e →
+      Refills (a .0) (a .1 .1 .1 .1 .0) (a .1 .1 .1 .1 .1 .0) (a .1 .1 .1 .1 .1 .1 .0) (a .1 .0 .now) (a .1 .1 .0 .now) (a .1 .1 .1 .0) r (e .1 .0 .now)
+      (e .1 .1 .0 .now)
   pub of-plain : (κs : _) (a : _) (r : _) (e : _) → plain.Post κs a r e →
       Finds Plain (a .1 .1 .1 .1 .0) (a .0) (a .1 .0 .now) (a .1 .1 .0) (a .1 .1 .1 .0) r
   pub of-adaptive : (κs : _) (a : _) (r : _) (e : _) → adaptive.Post κs a r e →
@@ -82,6 +93,9 @@ pub record AsksNothing : Type 1 where
   pub layer-asks : (κs : _) (a : _) → layer.Pre κs a
   pub mark-asks : (κs : _) (a : _) → mark.Pre κs a
   pub complete-asks : (κs : _) (a : _) → complete.Pre κs a
+  pub build-asks : (κs : _) (a : _) → build.Pre κs a
+  pub set-asks : (κs : _) (a : _) → set.Pre κs a
+  pub refill-asks : (κs : _) (a : _) → refill.Pre κs a
   pub plain-asks : (κs : _) (a : _) → plain.Pre κs a
   pub adaptive-asks : (κs : _) (a : _) → adaptive.Pre κs a
   pub cell-of-asks : (κs : _) (a : _) → cell-of.Pre κs a

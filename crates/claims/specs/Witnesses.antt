@@ -7,9 +7,11 @@ use mathlib.Core.List.{List, [], _∷_, _++_}
 use lib.IntN.{pos}
 use lib.ListN.{length}
 use denote.Ref.{RefT}
+use Rattle.bricks.specs.Bricks.{brick-there, bit-there}
+use Rattle.claims.specs.Grids.{Inside}
 use Rattle.buffers.specs.Numbers.{AllBytes}
 use Rattle.cells.specs.declared.Face.the-variants as Face
-use Rattle.cells.specs.declared.Refusal.the-variants.{Bytes, Room, OffSurvey, Record, NoRule}
+use Rattle.cells.specs.declared.Refusal.the-variants.{Bytes, Room, OffSurvey, Record, NoRule, Stale, Corners}
 use Rattle.cells.specs.declared.Axis.the-variants.{X, Y}
 use Rattle.cells.specs.declared.End.the-variants.{P}
 use Rattle.cells.specs.declared.Verdict.the-variants as Verdict
@@ -30,6 +32,10 @@ use Rattle.grids.specs.declared.Completeness.the-variants.{Yes, No}
 use Rattle.grids.specs.declared.LayerPart.the-variants.{Part}
 use Rattle.grids.specs.Grid.{size, count-check, byte-of, solid, Shapes, GivesLayerPart, GivesLayer}
 use Rattle.grids.specs.Marks.{complete, Marks, Completes}
+use Rattle.bricks.specs.declared.Tally.the-variants as Tally
+use Rattle.bricks.specs.Builds.{Builds}
+use Rattle.bricks.specs.Kept.{Kept}
+use Rattle.refills.specs.Refills.{Refills, Sets}
 use Rattle.walks.specs.declared.Walker.{Walker}
 use Rattle.walks.specs.declared.Walker.the-variants.{Plain, Adaptive}
 use Rattle.walks.specs.declared.Hit.{Hit}
@@ -49,8 +55,9 @@ use Rattle.records.specs.Writing.{WritesVenue}
 use Rattle.texts.specs.Text.{decimal, Puts}
 use Rattle.oatmarten.specs.GridCalls.{FlatMarks, FlatCompletes}
 use Rattle.claims.specs.Program.{Runs, example-input, example-output}
-use Rattle.claims.specs.Example.{counts, at, example-counts, example-cells, marked-cells}
+use Rattle.claims.specs.Example.{counts, at, example-counts, example-cells, marked-cells, set-cells, all-solid}
 use Rattle.claims.specs.Lists.{lowest, highest, room}
+use Rattle.claims.specs.Kept.{HoldsNamed, Session, Set, AllRight, Mark, Refill, Build}
 use Rattle.claims.specs.Rules.{ComesFirst, four-cells, by-xzy}
 use Rattle.claims.specs.Points.{Finite, InItsCell, cube, metres, tenths, one-metre, point}
 use Rattle.claims.specs.FarWall.{look-up-before, on-wall}
@@ -132,6 +139,25 @@ pub record OfGrids : Type 0 where
   pub not-passed : (w : Walker) → Finds w tested-start example-counts marked-cells (at 1 1 0) (at 3 1 0) (FirstHit.Hit the-start)
   -- and a start that is not solid
   pub clear-start : solid (byte-of example-counts marked-cells (at 0 0 0)) ≡ false
+
+-- the program's venue, its one mask and its total; a cell set there, a box refilled; and calls one after another, from a build on
+pub record OfCounts : Type 0 where
+  pub built : Builds example-counts example-cells (0 ∷ 7 ∷ []) (Tally.Total 1) (32 ∷ 7 ∷ [])
+  pub not-built : Builds example-counts example-cells [] (Tally.Refused Room) []
+  pub kept : Kept example-counts marked-cells (32 ∷ []) 1
+  pub was-set : Sets example-counts (at 0 0 0) 2 marked-cells (32 ∷ []) 1 (Tally.Total 2) set-cells (33 ∷ [])
+  pub not-set : Sets example-counts (at 0 0 0) 2 marked-cells (33 ∷ []) 1 (Tally.Refused Stale) marked-cells (33 ∷ [])
+  pub refilled : Refills example-counts (at 0 0 0) (at 3 1 0) 2 marked-cells (32 ∷ []) 1 (Tally.Total 8) all-solid (255 ∷ [])
+  pub crossed : Refills example-counts (at 3 1 0) (at 0 0 0) 2 marked-cells (32 ∷ []) 1 (Tally.Refused Corners) marked-cells (32 ∷ [])
+  -- a brick that holds a cell of a box, and one that holds none; a bit of no cell
+  pub holds : HoldsNamed example-counts (at 0 0 0) (at 3 1 0) 0
+  pub holds-none : HoldsNamed (counts 5 1 1) (at 0 0 0) (at 3 0 0) 1 → ⊥
+  pub no-cell : (x y z : ℕ) → Inside example-counts x y z → brick-there example-counts x y z ≡ 0 → bit-there x y z ≡ 63 → ⊥
+  -- from `built` on: each call once, and a refill that is refused 14
+  pub session : Session example-counts (record { bytes = example-cells; masks = 32 ∷ 7 ∷ []; total = 1 })
+      (Mark ∷ Set (at 0 0 0) 2 ∷ Refill (at 3 1 0) (at 0 0 0) 2 ∷ Refill (at 0 0 0) (at 3 1 0) 2 ∷ Build ∷ [])
+      (record { bytes = all-solid; masks = 255 ∷ 7 ∷ []; total = 8 })
+  pub all-right : AllRight example-counts marked-cells (32 ∷ []) 1
 
 pub record OfPoints : Type 0 where
   pub tested : PlacedGrid (cube 4) one-metre

@@ -9,7 +9,8 @@ use Rattle.cells.specs.declared.End.{End}
 use Rattle.cells.specs.declared.End.the-variants.{P}
 use Rattle.cells.specs.declared.Part.{Part}
 use Rattle.cells.specs.declared.Refusal.{Refusal}
-use Rattle.cells.specs.declared.Refusal.the-variants.{Limit, Count, Bytes, Layer, OffGrid, Room, Placement, NotFinite, OffSurvey, Record, Version, NoRule}
+use Rattle.cells.specs.declared.Refusal.the-variants.{Limit, Count, Bytes, Layer, OffGrid, Room, Placement, NotFinite, OffSurvey}
+use Rattle.cells.specs.declared.Refusal.the-variants.{Record, Version, NoRule, Stale, Corners}
 use Rattle.cells.specs.declared.Verdict.{Verdict}
 use Rattle.cells.specs.Refusals.{told, NumberOf, told-verdict}
 use Rattle.lists.specs.declared.Listed.{Listed}
@@ -18,6 +19,8 @@ use Rattle.grids.specs.declared.LayerPart.{LayerPart}
 use Rattle.grids.specs.declared.Completeness.{Completeness}
 use Rattle.grids.specs.Grid.{told-part}
 use Rattle.grids.specs.Marks.{told-completeness}
+use Rattle.bricks.specs.declared.Tally.{Tally}
+use Rattle.bricks.specs.Builds.{told-tally}
 use Rattle.walks.specs.declared.FirstHit.{FirstHit}
 use Rattle.walks.specs.Answers.{told-hit}
 use Rattle.survey.specs.declared.Lookup.{Lookup}
@@ -37,6 +40,7 @@ pub record ToldApart : Type 0 where
   pub listed : (r s : Listed) → told-listed r ≡ told-listed s → r ≡ s
   pub part : (r s : LayerPart) → told-part r ≡ told-part s → r ≡ s
   pub completeness : (r s : Completeness) → told-completeness r ≡ told-completeness s → r ≡ s
+  pub tally : (r s : Tally) → told-tally r ≡ told-tally s → r ≡ s
   pub hit : (r s : FirstHit) → told-hit r ≡ told-hit s → r ≡ s
   pub lookup : (r s : Lookup) → told-lookup r ≡ told-lookup s → r ≡ s
   pub sight : (r s : Sight) → told-sight r ≡ told-sight s → r ≡ s
@@ -62,9 +66,13 @@ pub record TheTable : Type 0 where
   pub ten : told Record ≡ record { number = 10; end = none; axis = none; part = none }
   pub eleven : told Version ≡ record { number = 11; end = none; axis = none; part = none }
   pub twelve : told NoRule ≡ record { number = 12; end = none; axis = none; part = none }
+  pub thirteen : told Stale ≡ record { number = 13; end = none; axis = none; part = none }
+  pub fourteen : told Corners ≡ record { number = 14; end = none; axis = none; part = none }
 
--- wrong numbers: an end outside the grid called 9, another version called a record cut short, a number that names no rule called another version
+-- wrong numbers: an end outside the grid called 9, another version called a record cut short, a number that names no rule called another version, crossed corners
+-- called stale
 pub record WrongNumbers : Type 0 where
   pub off-grid-nine : told (OffGrid P X) .number ≡ 9 → ⊥
   pub version-as-record : told Version .number ≡ told Record .number → ⊥
   pub rule-as-version : told NoRule .number ≡ told Version .number → ⊥
+  pub corners-as-stale : told Corners .number ≡ told Stale .number → ⊥

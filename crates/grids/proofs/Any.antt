@@ -34,6 +34,11 @@ pub or-either : (s t : Bool) → s || t ≡ true → (s ≡ true) ⊎ (t ≡ tru
 or-either true t h = inl refl
 or-either false t h = inr h
 
+-- neither of two tests holds
+pub or-neither : (s t : Bool) → s || t ≡ false → (s ≡ false) × (t ≡ false)
+or-neither true t h = absurd (true≢false h)
+or-neither false t h = (refl, h)
+
 -- ---- some number below n
 
 pub any-some : (p : ℕ → Bool) (n k : ℕ) → k < n → p k ≡ true → any p n ≡ true

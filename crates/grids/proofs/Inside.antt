@@ -1,6 +1,6 @@
 -- What lies inside a grid: its coordinates and bytes, and that just the ends inside pass refusal 5. Assumes nothing.
 use mathlib.Core.Path.{_≡_, refl, sym, _∙_, subst}
-use mathlib.Core.Bool.{Bool, true, false, _||_}
+use mathlib.Core.Bool.{Bool, true, false}
 use Prim.Native.Nat.{ℕ, _^_, _≤_, _<_}
 use native.Mathlib.Omega.{arith}
 use lib.Dec.{T}
@@ -24,11 +24,8 @@ use Rattle.cells.proofs.Machine.{held, fits32}
 use Rattle.cells.proofs.Held.{held-nat, cast-32}
 use Rattle.grids.specs.Grid.{shape, index, cell-at, byte-index}
 use Rattle.grids.specs.Inside.{count-on, off-axis, InGrid, grid-check, walk-check, Good, Shaped}
+use Rattle.grids.proofs.Any.{or-neither}
 use Rattle.grids.proofs.Places.{cell-at-index, index-below}
-
-or-false : (s t : Bool) → (s || t) ≡ false → (s ≡ false) × (t ≡ false)
-or-false true t h = (h, absurd (let z : _≡_ {A = ℕ} 0 1 = cc in omega arith))
-or-false false t h = (refl, h)
 
 -- ---- the test of a coordinate that is not below 0 by what is left of it without the count
 
@@ -51,7 +48,7 @@ rest-test v count = go (leZ (pos count) v) refl
 -- a coordinate inside an axis, by parts
 pub inside-parts : (z : ℤ) (count : ℕ) → off-axis z count ≡ false → (dn z ≡ 0) × (up z < count)
 inside-parts z count h =
-    let (lo, hi) = or-false (ltZ z (pos 0)) (leZ (pos count) z) h in
+    let (lo, hi) = or-neither (ltZ z (pos 0)) (leZ (pos count) z) h in
     let o = one-sided z in
     let a = ltZ-false z (pos 0) lo in
     let b = leZ-false (pos count) z hi in

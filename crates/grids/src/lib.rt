@@ -139,7 +139,7 @@ fn check_end(e: End, n: Counts, c: Cell) -> Verdict
 }
 
 // Both ends, P before Q.
-fn check_ends(n: Counts, p: Cell, q: Cell) -> Verdict
+pub fn check_ends(n: Counts, p: Cell, q: Cell) -> Verdict
     requires { ⌜ Counted n ⌝ }
     ensures { λ r. ⌜ r ≡ (grid-check P n p then grid-check Q n q) ⌝ }
 {

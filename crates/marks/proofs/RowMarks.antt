@@ -11,7 +11,8 @@ use borrow.Author.Tests.{eqb-true, le-ltb}
 use Rattle.cells.specs.declared.Counts.{Counts}
 use Rattle.grids.specs.Grid.{cell-at, clear, solid}
 use Rattle.grids.specs.Marks.{any, touches-solid, marked-byte, complete}
-use Rattle.marks.specs.Rows.{in-column, Filled, Shows, Framed, beside, mark-for, put-byte, gap-by, gap}
+use Rattle.cells.specs.Fills.{Filled}
+use Rattle.marks.specs.Rows.{in-column, Shows, Framed, beside, mark-for, put-byte, gap-by, gap}
 use Rattle.grids.proofs.Any.{same-test, any-same, any-some, any-which, any-false}
 use Rattle.grids.specs.Inside.{Shaped}
 use Rattle.grids.proofs.Beside.{touches-beside, beside-touches}

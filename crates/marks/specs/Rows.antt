@@ -44,13 +44,6 @@ in-rows l rows x = of-three (λ from. solid (getD l (from + x) 0)) (rows .low) (
 unfoldable pub in-column : Counts → List ℕ → ℕ → ℕ → Bool
 in-column n l r x = nearby (λ z. nearby (λ y. solid (getD l (index n x y z) 0)) (r % n .ny) (n .ny)) (r / n .ny) (n .nz)
 
--- the bytes from .. to - 1 are now f's, the others as they were
-pub record Filled (f : ℕ → ℕ) (from to : ℕ) (entry exit : List ℕ) : Type 0 where
-  pub long : length exit ≡ length entry
-  pub inside : (k : ℕ) → from ≤ k → k < to → getD exit k 0 ≡ f k
-  pub before : (k : ℕ) → k < from → getD exit k 0 ≡ getD entry k 0
-  pub after : (k : ℕ) → to ≤ k → getD exit k 0 ≡ getD entry k 0
-
 -- a window has a solid byte for x exactly where p x holds, and is as it was past both ends of the row
 pub record Shows (p : ℕ → Bool) (nx : ℕ) (entry exit : List ℕ) : Type 0 where
   pub long : length exit ≡ length entry

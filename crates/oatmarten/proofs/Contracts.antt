@@ -1,10 +1,11 @@
--- What the sources of the twelve calls promise is the record of each one's name: `Post` is a call's `ensures` as the toolchain reads it, of the call's
+-- What the sources of the fifteen calls promise is the record of each one's name: `Post` is a call's `ensures` as the toolchain reads it, of the call's
 -- inputs a, its answer r and the memory at exit e. A weaker `ensures` fails here, in its own crate. Assumes nothing.
 use lib.ListN.{length}
 use Rattle.walks.specs.declared.Walker.the-variants.{Plain, Adaptive}
 use Rattle.oatmarten.specs.Inputs.{as-cell, as-counts, as-placement, as-point}
 use Rattle.oatmarten.specs.LineCalls.{FlatLine6, FlatLine26}
 use Rattle.oatmarten.specs.GridCalls.{FlatMarks, FlatCompletes, FlatGivesLayerPart}
+use Rattle.oatmarten.specs.BrickCalls.{FlatBuilds, FlatSets, FlatRefills}
 use Rattle.oatmarten.specs.WalkCalls.{FlatFinds}
 use Rattle.oatmarten.specs.SightCalls.{FlatLooksUp, FlatSees}
 use Rattle.oatmarten.specs.RecordCalls.{FlatReadsVenue, FlatReadsPair, FlatWritesVenue}
@@ -13,6 +14,9 @@ use Rattle.oatmarten.proofs.line_calls.oat_line26.Reads as line26
 use Rattle.oatmarten.proofs.grid_calls.oat_mark.Reads as mark
 use Rattle.oatmarten.proofs.grid_calls.oat_complete.Reads as complete
 use Rattle.oatmarten.proofs.grid_calls.oat_layer.Reads as layer
+use Rattle.oatmarten.proofs.brick_calls.oat_build.Reads as build
+use Rattle.oatmarten.proofs.brick_calls.oat_set.Reads as set
+use Rattle.oatmarten.proofs.brick_calls.oat_refill.Reads as refill
 use Rattle.oatmarten.proofs.walk_calls.oat_plain.Reads as plain
 use Rattle.oatmarten.proofs.walk_calls.oat_adaptive.Reads as adaptive
 use Rattle.oatmarten.proofs.sight_calls.oat_cell_of.Reads as cell-of
@@ -36,6 +40,19 @@ of-complete κs a r e h = h
 
 pub of-layer : (κs : _) (a : _) (r : _) (e : _) → layer.Post κs a r e → FlatGivesLayerPart (as-counts (a .0)) (length (a .1 .0 .now)) (a .1 .1 .0) r
 of-layer κs a r e h = h
+
+pub of-build : (κs : _) (a : _) (r : _) (e : _) → build.Post κs a r e → FlatBuilds (as-counts (a .0)) (a .1 .0 .now) (a .1 .1 .0 .now) r (e .1 .1 .0 .now)
+of-build κs a r e h = h
+
+pub of-set : (κs : _) (a : _) (r : _) (e : _) → set.Post κs a r e →
+    FlatSets (as-counts (a .0)) (as-cell (a .1 .1 .1 .1 .0)) (a .1 .1 .1 .1 .1 .0) (a .1 .0 .now) (a .1 .1 .0 .now) (a .1 .1 .1 .0) r (e .1 .0 .now)
+    (e .1 .1 .0 .now)
+of-set κs a r e h = h
+
+pub of-refill : (κs : _) (a : _) (r : _) (e : _) → refill.Post κs a r e →
+    FlatRefills (as-counts (a .0)) (as-cell (a .1 .1 .1 .1 .0)) (as-cell (a .1 .1 .1 .1 .1 .0)) (a .1 .1 .1 .1 .1 .1 .0) (a .1 .0 .now) (a .1 .1 .0 .now)
+    (a .1 .1 .1 .0) r (e .1 .0 .now) (e .1 .1 .0 .now)
+of-refill κs a r e h = h
 
 pub of-plain : (κs : _) (a : _) (r : _) (e : _) → plain.Post κs a r e →
     FlatFinds Plain (a .1 .1 .1 .1 .0) (as-counts (a .0)) (a .1 .0 .now) (as-cell (a .1 .1 .0)) (as-cell (a .1 .1 .1 .0)) r

@@ -7,3 +7,4 @@ pub mod GridCalls
 pub mod WalkCalls
 pub mod SightCalls
 pub mod RecordCalls
+pub mod BrickCalls

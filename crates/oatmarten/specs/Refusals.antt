@@ -40,13 +40,17 @@ abbrev pub which : Option Axis → Option Part → ℕ
 which none p = or-0 part-number p
 which (some a) p = axis-number a
 
+-- a number, and those of an end and an axis
+abbrev pub said-at : (number end axis : ℕ) → OatSaid
+said-at number end axis = record { refusal = number; end = end; axis = axis }
+
 -- accepted: nothing is said
 abbrev pub accepted : OatSaid
-accepted = record { refusal = 0; end = 0; axis = 0 }
+accepted = said-at 0 0 0
 
 -- what SCOPE says of a refusal, as numbers
 abbrev pub flat-told : Told → OatSaid
-flat-told t = record { refusal = t .number; end = or-0 end-number (t .end); axis = which (t .axis) (t .part) }
+flat-told t = said-at (t .number) (or-0 end-number (t .end)) (which (t .axis) (t .part))
 
 abbrev pub flat-refusal : Refusal → OatSaid
 flat-refusal r = flat-told (told r)

@@ -2,12 +2,17 @@
 mod refusals; // what every answer begins with: a refusal as three numbers
 mod faces; // an entry face as one number
 mod inputs; // the structs that go into a call
+mod brick_calls;
 mod grid_calls;
 mod line_calls;
 mod record_calls;
 mod sight_calls;
 mod walk_calls;
 
+pub use brick_calls::OatTally;
+pub use brick_calls::oat_build;
+pub use brick_calls::oat_refill;
+pub use brick_calls::oat_set;
 pub use grid_calls::OatComplete;
 pub use grid_calls::OatPart;
 pub use grid_calls::OatVerdict;

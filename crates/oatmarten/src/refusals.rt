@@ -1,6 +1,6 @@
 // What every answer for C begins with: a refusal as three numbers.
 ghost use mathlib.Core.Path.{_≡_};
-ghost use Rattle.oatmarten.specs.Refusals.{end-number, axis-number, part-number, flat-refusal};
+ghost use Rattle.oatmarten.specs.Refusals.{end-number, axis-number, part-number, said-at, flat-refusal};
 use cells::Axis;
 use cells::End;
 use cells::Part;
@@ -52,56 +52,47 @@ fn part_code(p: Part) -> u32
     }
 }
 
-// The end that a refusal names.
-fn end_of(r: Refusal) -> u32
-    ensures { λ n. ⌜ n ≡ flat-refusal r .end ⌝ }
+// Of a refusal that names an end and an axis.
+fn at_end(number: u32, e: End, a: Axis) -> OatSaid
+    ensures { λ s. ⌜ s ≡ said-at number (end-number e) (axis-number a) ⌝ }
 {
-    match r {
-        Refusal::Limit(e, _) => end_code(e),
-        Refusal::Count(_) => 0,
-        Refusal::Bytes => 0,
-        Refusal::Layer => 0,
-        Refusal::OffGrid(e, _) => end_code(e),
-        Refusal::Room => 0,
-        Refusal::Placement(_) => 0,
-        Refusal::NotFinite(e, _) => end_code(e),
-        Refusal::OffSurvey(e, _) => end_code(e),
-        Refusal::Record => 0,
-        Refusal::Version => 0,
-        Refusal::NoRule => 0,
+    OatSaid {
+        refusal: number,
+        end: end_code(e),
+        axis: axis_code(a),
     }
 }
 
-// The axis, or the part of a placement, that it names.
-fn axis_of(r: Refusal) -> u32
-    ensures { λ n. ⌜ n ≡ flat-refusal r .axis ⌝ }
+// Of one that names no end: its axis, or part of a placement, by number, 0 for none.
+fn at_axis(number: u32, axis: u32) -> OatSaid
+    ensures { λ s. ⌜ s ≡ said-at number 0 axis ⌝ }
 {
-    match r {
-        Refusal::Limit(_, a) => axis_code(a),
-        Refusal::Count(a) => axis_code(a),
-        Refusal::Bytes => 0,
-        Refusal::Layer => 0,
-        Refusal::OffGrid(_, a) => axis_code(a),
-        Refusal::Room => 0,
-        Refusal::Placement(p) => part_code(p),
-        Refusal::NotFinite(_, a) => axis_code(a),
-        Refusal::OffSurvey(_, a) => axis_code(a),
-        Refusal::Record => 0,
-        Refusal::Version => 0,
-        Refusal::NoRule => 0,
+    OatSaid {
+        refusal: number,
+        end: 0,
+        axis: axis,
     }
 }
 
-// Of a call that was refused.
+// Of a call that was refused. One match for end and axis: with two, what is made of it is too long to stand within the calls for C.
 pub(crate) fn flatten(r: Refusal) -> OatSaid
     ensures { λ s. ⌜ s ≡ flat-refusal r ⌝ }
 {
     let number = cells::number(r);
-    let end = end_of(r);
-    let axis = axis_of(r);
-    OatSaid {
-        refusal: number,
-        end: end,
-        axis: axis,
+    match r {
+        Refusal::Limit(e, a) => at_end(number, e, a),
+        Refusal::Count(a) => at_axis(number, axis_code(a)),
+        Refusal::Bytes => at_axis(number, 0),
+        Refusal::Layer => at_axis(number, 0),
+        Refusal::OffGrid(e, a) => at_end(number, e, a),
+        Refusal::Room => at_axis(number, 0),
+        Refusal::Placement(p) => at_axis(number, part_code(p)),
+        Refusal::NotFinite(e, a) => at_end(number, e, a),
+        Refusal::OffSurvey(e, a) => at_end(number, e, a),
+        Refusal::Record => at_axis(number, 0),
+        Refusal::Version => at_axis(number, 0),
+        Refusal::NoRule => at_axis(number, 0),
+        Refusal::Stale => at_axis(number, 0),
+        Refusal::Corners => at_axis(number, 0),
     }
 }

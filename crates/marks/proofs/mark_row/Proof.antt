@@ -6,7 +6,7 @@ use denote.Ref.{now}
 use borrow.Author.Needs.{needs}
 use Rattle.grids.proofs.Shapes.{shaped, row-within}
 use Rattle.marks.specs.Rows.{Framed}
-use Rattle.marks.proofs.Fills.{filled-as}
+use Rattle.cells.proofs.Fills.{filled-as}
 use Rattle.marks.proofs.Windows.{shows-framed}
 use Rattle.marks.proofs.RowMarks.{put-marks}
 use Rattle.marks.proofs.mark_row.Statement.{statement}

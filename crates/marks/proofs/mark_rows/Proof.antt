@@ -9,9 +9,10 @@ use lib.ListN.{length}
 use denote.Ref.{now}
 use borrow.Author.Needs.{needs}
 use Rattle.grids.specs.Marks.{marked-byte, marked}
-use Rattle.marks.specs.Rows.{Filled, Framed}
+use Rattle.cells.specs.Fills.{Filled}
+use Rattle.marks.specs.Rows.{Framed}
 use Rattle.grids.proofs.Shapes.{shaped}
-use Rattle.marks.proofs.Fills.{filled-none, filled-then, filled-whole}
+use Rattle.cells.proofs.Fills.{filled-none, filled-then, filled-whole}
 use Rattle.grids.proofs.Marking.{marked-byte-same}
 use Rattle.marks.proofs.RowMarks.{filled-same}
 use Rattle.marks.proofs.mark_rows.Statement.{statement}

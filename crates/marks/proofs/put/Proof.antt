@@ -6,8 +6,9 @@ use native.Mathlib.Omega.{arith}
 use mathlib.Core.Path.{_≡_, _∙_}
 use denote.Ref.{now}
 use borrow.Author.Needs.{needs}
-use Rattle.marks.specs.Rows.{Filled, put-byte}
-use Rattle.marks.proofs.Fills.{filled-none, filled-more}
+use Rattle.cells.specs.Fills.{Filled}
+use Rattle.marks.specs.Rows.{put-byte}
+use Rattle.cells.proofs.Fills.{filled-none, filled-more}
 use Rattle.marks.proofs.put.Statement.{statement}
 use Rattle.marks.proofs.put.Tie as tie
 

@@ -1,4 +1,4 @@
--- A list filled in part, from one index to another. Assumes nothing.
+-- Laws of `Filled`, a list filled in part. Assumes nothing.
 use Prim.Native.Nat.{ℕ, _+_, _≤_, _<_}
 use native.Mathlib.Nat.{le-refl, ne-of-lt, ne-of-gt}
 use native.Mathlib.Omega.{arith}
@@ -7,16 +7,17 @@ use mathlib.Core.Path.{_≡_, refl, _∙_}
 use mathlib.Core.List.{List}
 use lib.ListN.{length, getD, set, length-set}
 use lib.Seq.{getD-set-same, getD-set-other}
 use Rattle.cells.specs.Tabulate.{tabulate}
-use Rattle.marks.specs.Rows.{Filled}
+use Rattle.cells.specs.Fills.{Filled}
 use Rattle.cells.proofs.Tabulate.{is-tabulate}
 
 pub filled-none : (f : ℕ → ℕ) (from to : ℕ) (l : List ℕ) → to ≤ from → Filled f from to l l
 filled-none f from to l none = record { long = refl; inside = λ k ge lt. absurd (omega arith); before = λ k h. refl; after = λ k h. refl }
 
 -- filled up to b, then from b to c by a function that is f there
 pub filled-then :
-    (f g : ℕ → ℕ) (a b c : ℕ) (l m r : List ℕ) → a ≤ b → b ≤ c → ((k : ℕ) → b ≤ k → k < c → g k ≡ f k) → Filled f a b l m → Filled g b c m r → Filled f a c l r
+    (f g : ℕ → ℕ) (a b c : ℕ) (l m r : List ℕ) → a ≤ b → b ≤ c → ((k : ℕ) → b ≤ k → k < c → g k ≡ f k) → Filled f a b l m → Filled g b c m r →
+    Filled f a c l r
 filled-then f g a b c l m r ab bc same h k =
     record {
       long = k .long ∙ h .long;

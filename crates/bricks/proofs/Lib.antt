@@ -1,0 +1,10 @@
+pub mod Sums
+pub mod Boxes
+pub mod Totals
+pub mod Words
+pub mod Rows
+pub mod Bricked
+pub mod Building
+pub mod Told
+pub mod BrickRows
+pub mod CellBits

@@ -1,0 +1,5 @@
+pub mod Sums
+pub mod Bricks
+pub mod Rows
+pub mod Builds
+pub mod Kept

@@ -1,0 +1,10 @@
+pub mod Boxes
+pub mod BoxRows
+pub mod Moves
+pub mod Agreeing
+pub mod Bits
+pub mod Keeping
+pub mod Single
+pub mod Changing
+pub mod Checked
+pub mod Accepted

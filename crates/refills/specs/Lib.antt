@@ -1,0 +1,3 @@
+pub mod Boxes
+pub mod Refills
+pub mod Rows
