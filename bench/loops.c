@@ -210,3 +210,69 @@ uint64_t loop_complete(complete_call *call, size_t rounds, uint32_t nx, uint32_t
     }
     return sum;
 }
+
+/* Solid counts that are kept: from revision 7 on. A loop that changes cells leaves them as it found them, so that every turn of every engine does the
+   same work; a sum leaves them changed, so that they can be compared. */
+#if OAT_REVISION >= 7
+typedef __typeof__(oat_build) build_call;
+typedef __typeof__(oat_set) set_call;
+typedef __typeof__(oat_refill) refill_call;
+
+/* what a caller keeps; a cell with the byte that it has; a box by its corners */
+typedef struct { uint8_t *cells; uint64_t *masks, total; } kept;
+typedef struct { oat_cell cell; uint32_t byte; } place;
+typedef struct { oat_cell low, high; } box;
+
+enum { MADE_SOLID = 200 };
+
+#define KEPT uint32_t nx, uint32_t ny, uint32_t nz, kept *held
+#define KEPT_WORDS (oat_counts){nx, ny, nz}, held->cells, (size_t)nx * ny * nz, held->masks, OAT_MASKS(nx, ny, nz)
+
+/* the answer's total is the next call's */
+INLINE uint64_t keep(uint64_t sum, kept *held, oat_tally t) {
+    held->total = t.total;
+    return mixed(sum, REFUSAL(t) + (t.total << 32));
+}
+
+uint64_t loop_build(build_call *call, size_t rounds, KEPT) {
+    uint64_t sum = 0;
+    while (rounds--) sum = keep(sum, held, call(KEPT_WORDS));
+    return sum;
+}
+
+/* every place is made solid, or clear where it was solid */
+uint64_t sum_sets(set_call *call, KEPT, const place *places, size_t many) {
+    uint64_t sum = 0;
+    for (size_t p = 0; p < many; p++)
+        sum = keep(sum, held, call(KEPT_WORDS, held->total, places[p].cell, places[p].byte < OAT_SOLID_LEAST ? MADE_SOLID : OAT_CLEAR));
+    return sum;
+}
+
+/* and then every one is what it was */
+uint64_t loop_sets(set_call *call, size_t rounds, KEPT, const place *places, size_t many) {
+    uint64_t sum = 0;
+    while (rounds--) {
+        sum = mixed(sum, sum_sets(call, nx, ny, nz, held, places, many));
+        for (size_t p = 0; p < many; p++) sum = keep(sum, held, call(KEPT_WORDS, held->total, places[p].cell, (uint8_t)places[p].byte));
+    }
+    return sum;
+}
+
+/* every box is made solid and then empty: it is to be empty before */
+uint64_t loop_refills(refill_call *call, size_t rounds, KEPT, const box *boxes, size_t many) {
+    uint64_t sum = 0;
+    while (rounds--) for (size_t b = 0; b < many; b++) {
+        sum = keep(sum, held, call(KEPT_WORDS, held->total, boxes[b].low, boxes[b].high, MADE_SOLID));
+        sum = keep(sum, held, call(KEPT_WORDS, held->total, boxes[b].low, boxes[b].high, OAT_CLEAR));
+    }
+    return sum;
+}
+
+/* every third one is made clear, the others are of some material */
+uint64_t sum_refills(refill_call *call, KEPT, const box *boxes, size_t many) {
+    uint64_t sum = 0;
+    for (size_t b = 0; b < many; b++)
+        sum = keep(sum, held, call(KEPT_WORDS, held->total, boxes[b].low, boxes[b].high, b % 3 ? (uint8_t)(OAT_SOLID_LEAST + b % 200) : OAT_CLEAR));
+    return sum;
+}
+#endif

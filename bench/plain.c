@@ -1,5 +1,6 @@
 /* The library's calls as plain C, to be held against it: the same algorithms written for speed, with the signatures of the header. Inputs are
-   trusted, not tested, and there is room: refused calls are not timed. BY(x) names the compiler's copy of x. */
+   trusted, not tested, and there is room: refused calls are not timed. But masks and totals are tested, as the library does: that is most of what a
+   set does. BY(x) names the compiler's copy of x. */
 
 #include "../include/oatmarten.h"
 
@@ -10,6 +11,9 @@ __typeof__(oat_adaptive) BY(adaptive);
 __typeof__(oat_sight) BY(sight);
 __typeof__(oat_mark) BY(mark);
 __typeof__(oat_complete) BY(complete);
+__typeof__(oat_build) BY(build);
+__typeof__(oat_set) BY(set);
+__typeof__(oat_refill) BY(refill);
 
 typedef struct { int a, b, c, x, y, z; } way; /* differences; one cell towards q on each axis */
 
@@ -262,4 +266,84 @@ oat_complete_answer BY(complete)(oat_counts n, const uint8_t *cells, size_t byte
             if (gap_in_row(cells + (z * n.ny + y) * n.nx, r.rows, n.nx)) return (oat_complete_answer){.yes = 0};
         }
     return (oat_complete_answer){.yes = 1};
+}
+
+/* ---- solid counts that are kept: the mask of a brick is made of its sixteen rows of four bytes, four bits each */
+
+/* Neither compiler may take the processor's instruction for plain x86-64, and gcc calls a function instead that is not linked. */
+static inline uint64_t ones(uint64_t m) {
+    m -= m >> 1 & 0x5555555555555555u;
+    m = (m & 0x3333333333333333u) + (m >> 2 & 0x3333333333333333u);
+    return ((m + (m >> 4)) & 0x0F0F0F0F0F0F0F0Fu) * 0x0101010101010101u >> 56;
+}
+
+static inline uint64_t solid(uint8_t byte) { return byte >= OAT_SOLID_LEAST; }
+
+static inline uint64_t four_bits(const uint8_t *row) { return solid(row[0]) | solid(row[1]) << 1 | solid(row[2]) << 2 | solid(row[3]) << 3; }
+
+static inline size_t bricks(uint32_t count) { return ((size_t)count + 3) / 4; }
+
+/* a brick that reaches beyond the grid: the cells that are there */
+static uint64_t BY(part_mask)(oat_counts n, const uint8_t *cells, size_t x0, size_t y0, size_t z0) {
+    uint64_t mask = 0;
+    for (size_t z = z0; z < z0 + 4 && z < n.nz; z++)
+        for (size_t y = y0; y < y0 + 4 && y < n.ny; y++)
+            for (size_t x = x0; x < x0 + 4 && x < n.nx; x++)
+                mask |= solid(cells[x + n.nx * (y + n.ny * z)]) << (x - x0 + 4 * (y - y0) + 16 * (z - z0));
+    return mask;
+}
+
+static inline uint64_t mask_of(oat_counts n, const uint8_t *cells, size_t bx, size_t by, size_t bz) {
+    size_t x = 4 * bx, y = 4 * by, z = 4 * bz, nx = n.nx, layer = nx * n.ny;
+    if (x + 4 > n.nx || y + 4 > n.ny || z + 4 > n.nz) return BY(part_mask)(n, cells, x, y, z);
+    const uint8_t *brick = cells + x + nx * y + layer * z;
+    uint64_t mask = 0;
+    for (size_t row = 0; row < 16; row++) mask |= four_bits(brick + nx * (row % 4) + layer * (row / 4)) << 4 * row;
+    return mask;
+}
+
+oat_tally BY(build)(oat_counts n, const uint8_t *cells, size_t bytes, uint64_t *masks, size_t lent) {
+    (void)bytes, (void)lent;
+    uint64_t total = 0;
+    for (size_t z = 0; z < bricks(n.nz); z++)
+        for (size_t y = 0; y < bricks(n.ny); y++)
+            for (size_t x = 0; x < bricks(n.nx); x++) total += ones(*masks++ = mask_of(n, cells, x, y, z));
+    return (oat_tally){.total = total};
+}
+
+static const oat_tally stale = {.said = {.refusal = OAT_REFUSED_STALE}};
+
+/* one bit of the mask changes, or none */
+oat_tally BY(set)(oat_counts n, uint8_t *cells, size_t bytes, uint64_t *masks, size_t lent, uint64_t total, oat_cell cell, uint8_t byte) {
+    (void)lent;
+    size_t x = (size_t)cell.x, y = (size_t)cell.y, z = (size_t)cell.z;
+    uint64_t *mask = masks + x / 4 + bricks(n.nx) * (y / 4 + bricks(n.ny) * (z / 4)), was = *mask, before = ones(was);
+    if (was != mask_of(n, cells, x / 4, y / 4, z / 4) || total < before || total > bytes) return stale;
+    uint64_t bit = 1ull << (x % 4 + 4 * (y % 4) + 16 * (z % 4)), now = byte >= OAT_SOLID_LEAST ? was | bit : was & ~bit;
+    cells[x + n.nx * (y + n.ny * z)] = byte;
+    *mask = now;
+    return (oat_tally){.total = total - before + ones(now)};
+}
+
+/* all masks of the box are tested, its rows are filled, and the masks are made anew */
+oat_tally BY(refill)(oat_counts n, uint8_t *cells, size_t bytes, uint64_t *masks, size_t lent, uint64_t total, oat_cell low, oat_cell high,
+                     uint8_t byte) {
+    (void)lent;
+    size_t x0 = (size_t)low.x, y0 = (size_t)low.y, z0 = (size_t)low.z, x1 = (size_t)high.x, y1 = (size_t)high.y, z1 = (size_t)high.z;
+    size_t across = bricks(n.nx), along = bricks(n.ny);
+    uint64_t before = 0, after = 0;
+    for (size_t z = z0 / 4; z <= z1 / 4; z++)
+        for (size_t y = y0 / 4; y <= y1 / 4; y++)
+            for (size_t x = x0 / 4; x <= x1 / 4; x++) {
+                uint64_t mask = masks[x + across * (y + along * z)];
+                if (mask != mask_of(n, cells, x, y, z)) return stale;
+                before += ones(mask);
+            }
+    if (total < before || total > bytes) return stale;
+    for (size_t z = z0; z <= z1; z++)
+        for (size_t y = y0; y <= y1; y++) __builtin_memset(cells + x0 + n.nx * (y + n.ny * z), byte, x1 - x0 + 1);
+    for (size_t z = z0 / 4; z <= z1 / 4; z++)
+        for (size_t y = y0 / 4; y <= y1 / 4; y++)
+            for (size_t x = x0 / 4; x <= x1 / 4; x++) after += ones(masks[x + across * (y + along * z)] = mask_of(n, cells, x, y, z));
+    return (oat_tally){.total = total - before + after};
 }

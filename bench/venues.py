@@ -1,9 +1,23 @@
-"""What is asked: the made-up stadium of stadium.c in a grid, marked, with its segments."""
+"""What is asked: the made-up stadium of stadium.c in a grid, marked, with its segments; and not marked, with masks and a total, with cells to set and
+boxes to refill."""
 import ctypes
+import math
+import random
 
 SEGMENTS = 2000
+# cells to set, all over the grid and within a region that is so many cells wide; how wide boxes are, and how many there are
+ALL_OVER, REGION, IN_REGION, BOXES = 10_000, 16, 1000, {2: 500, 8: 100, 32: 8}
 
-Cell = type("Cell", (ctypes.Structure,), {"_fields_": [(axis, ctypes.c_int32) for axis in "xyz"]})
+
+def struct(name, *fields):
+    """a struct of loops.c"""
+    return type(name, (ctypes.Structure,), {"_fields_": fields})
+
+
+Cell = struct("Cell", *[(axis, ctypes.c_int32) for axis in "xyz"])
+Place = struct("Place", ("cell", Cell), ("byte", ctypes.c_uint32))
+Box = struct("Box", ("low", Cell), ("high", Cell))
+Held = struct("Held", ("cells", ctypes.c_void_p), ("masks", ctypes.c_void_p), ("total", ctypes.c_uint64))
 
 
 class Venue:
@@ -18,6 +32,12 @@ class Venue:
         engine.ask("loop_mark", "mark", 1, *self.grid(self.cells))
         self.bytes = memoryview(self.cells).cast("B")
         self.segments = {"camera to ball": self.ends(self.camera, self.ball), "random ends": self.ends(self.anywhere, self.anywhere)}
+        # one with cells to set, and one with boxes to refill, which are empty from the first turn on
+        self.set_in, self.refill_in = Kept(self.raw, counts), Kept(self.raw, counts)
+        for kept in (self.set_in, self.refill_in):
+            engine.ask("loop_build", "build", 1, *kept.words())
+        for boxes in self.refill_in.boxes.values():
+            engine.ask("loop_refills", "refill", 1, *self.refill_in.words(boxes))
 
     def copy(self):
         return (ctypes.c_uint8 * self.many).from_buffer_copy(self.raw)
@@ -60,3 +80,35 @@ class Venue:
         """the words of each chunk of the segments, for a loop; so few that a chunk takes some tenths of a millisecond"""
         chunk = 32_000 // max(self.counts)
         return [(ctypes.addressof(ends) + 2 * start * ctypes.sizeof(Cell), min(chunk, SEGMENTS - start)) for start in range(0, SEGMENTS, chunk)]
+
+
+class Kept:
+    """a grid of these counts, of as many of the cells as it takes, with room for its masks and a total; cells to set, with their bytes, and boxes to
+    refill"""
+
+    def __init__(self, cells, counts):
+        self.counts, many, rng = counts, math.prod(counts), random.Random(math.prod(counts))
+        self.cells = (ctypes.c_uint8 * many).from_buffer_copy(cells)
+        self.masks = (ctypes.c_uint64 * math.prod((n + 3) // 4 for n in counts))()
+        self.held = Held(ctypes.addressof(self.cells), ctypes.addressof(self.masks), 0)
+        corner = [rng.randrange(n - REGION + 1) for n in counts]
+        self.places = {"cells all over the grid": self.places_at(ALL_OVER, lambda: [rng.randrange(n) for n in counts]),
+                       f"cells of one {name_of(REGION)} region": self.places_at(IN_REGION, lambda: [at + rng.randrange(REGION) for at in corner])}
+        self.boxes = {f"boxes of {name_of(wide)}": self.boxes_at(many, lambda: [rng.randrange(n - wide + 1) for n in counts], wide)
+                      for wide, many in BOXES.items()}
+
+    def places_at(self, many, cell):
+        bytes_of, (nx, ny, _) = memoryview(self.cells).cast("B"), self.counts
+        cells = [cell() for _ in range(many)]
+        return (Place * many)(*[Place(Cell(x, y, z), bytes_of[x + nx * (y + ny * z)]) for x, y, z in cells])
+
+    def boxes_at(self, many, corner, wide):
+        return (Box * many)(*[Box(Cell(*low), Cell(*[at + wide - 1 for at in low])) for low in (corner() for _ in range(many))])
+
+    def words(self, asked=None):
+        """the words of a loop: the grid, what is kept, and cells or boxes"""
+        return *self.counts, ctypes.addressof(self.held), *([ctypes.addressof(asked), len(asked)] if asked else [])
+
+
+def name_of(wide):
+    return f"{wide} x {wide} x {wide}"

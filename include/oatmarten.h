@@ -1,4 +1,4 @@
-/* Oatmarten: exact sight lines through a voxel grid. The C interface, revision 6 (OAT_REVISION).
+/* Oatmarten: exact sight lines through a voxel grid. The C interface, revision 7 (OAT_REVISION).
 
    Link with liboatmarten.a (x86-64 Linux). docs/C.md has a whole program, docs/SCOPE.md the exact rules, docs/TRUST.md says what is proved
    and what is not.
@@ -12,8 +12,8 @@
 
    Lent memory is a pointer and the number of elements behind it. The pointer must not be null, also where the number is 0, must be aligned
    for its element type, and so many elements must be readable (writable where it is not const) until the call returns. The library keeps
-   no pointer. Memory that a call writes must not overlap other memory lent to the same call: this matters for oat_write_venue alone.
-   Memory that is only read may be shared by any number of calls.
+   no pointer. Memory that a call writes must not overlap other memory lent to the same call: this matters for oat_write_venue, and for
+   oat_build, oat_set and oat_refill, which are lent cells and masks. Memory that is only read may be shared by any number of calls.
 
    Threads: the library has no state, takes no lock, allocates nothing and needs under 8 KiB of stack. Calls may run at the same time in any
    threads, as long as no memory that one of them writes is lent to another. Of the C library it calls at most memset, memcpy and memmove. */
@@ -28,7 +28,7 @@ extern "C" {
 #endif
 
 /* Grows by one when a struct, a call or a number of this header changes, or what a call answers. */
-#define OAT_REVISION 6
+#define OAT_REVISION 7
 
 /* The field `refusal`, with what it names. Where more than one applies, each call below says the order of its tests; ends are looked at P
    before Q, axes in the order x, y, z. */
@@ -38,17 +38,20 @@ enum oat_refusal {
     OAT_REFUSED_COUNT = 2,      /* a count outside 1 to OAT_COUNT_MOST: axis */
     OAT_REFUSED_BYTES = 3,      /* the number of cell bytes is not nx*ny*nz */
     OAT_REFUSED_LAYER = 4,      /* layer z below 0 or not below nz */
-    OAT_REFUSED_OFF_GRID = 5,   /* an end outside the grid: end and axis */
-    OAT_REFUSED_ROOM = 6,       /* too little room for the answer */
+    OAT_REFUSED_OFF_GRID = 5,   /* an end, a cell or a corner outside the grid: end and axis */
+    OAT_REFUSED_ROOM = 6,       /* too little room for the answer, or fewer masks than bricks */
     OAT_REFUSED_PLACEMENT = 7,  /* an origin value or the edge not finite, or the edge not above 0: axis, or OAT_AXIS_EDGE */
     OAT_REFUSED_NOT_FINITE = 8, /* a surveyed value not finite: end and axis */
     OAT_REFUSED_OFF_SURVEY = 9, /* a surveyed value outside the grid (its far faces are not outside): end and axis */
     OAT_REFUSED_RECORD = 10,    /* a record cut short or of the wrong length */
     OAT_REFUSED_VERSION = 11,   /* a record's version byte: of a venue not 1, of a pair neither 1 nor 2 */
-    OAT_REFUSED_RULE = 12       /* a rule that is neither 1 nor 2: a number given to a call, or the last byte of a pair record of version 2 */
+    OAT_REFUSED_RULE = 12,      /* a rule that is neither 1 nor 2: a number given to a call, or the last byte of a pair record of version 2 */
+    OAT_REFUSED_STALE = 13,     /* among the bricks with a named cell one whose mask is not what the bytes give, or a total that cannot be right */
+    OAT_REFUSED_CORNERS = 14    /* a box's low corner above its high one on some axis */
 };
 
-/* The field `end`. In oat_sight P is the camera and Q the ball; in oat_cell_of the point is P. */
+/* The field `end`. In oat_sight P is the camera and Q the ball; in oat_cell_of the point is P. In oat_set the cell is P; in oat_refill the low
+   corner is P and the high one Q. */
 enum oat_end { OAT_END_NONE = 0, OAT_END_P = 1, OAT_END_Q = 2 };
 
 /* The field `axis`; OAT_AXIS_EDGE only with OAT_REFUSED_PLACEMENT. */
@@ -94,6 +97,9 @@ enum oat_rule {
 #define OAT_VENUE_HEAD 11            /* bytes of a venue record before its cells */
 #define OAT_PAIR_BYTES 17            /* bytes of a pair record of version 1 */
 #define OAT_PAIR_BYTES_2 18          /* bytes of a pair record of version 2, which ends with its rule */
+
+/* The number of bricks of a grid, so of masks to lend: at most 16,777,216, for counts that are accepted. */
+#define OAT_MASKS(nx, ny, nz) ((((size_t)(nx) + 3) / 4) * (((size_t)(ny) + 3) / 4) * (((size_t)(nz) + 3) / 4))
 
 /* ---- what the calls take */
 
@@ -164,6 +170,12 @@ typedef struct {
 typedef struct {
     oat_said said;
 } oat_verdict;
+
+/* Of oat_build, oat_set and oat_refill. */
+typedef struct {
+    oat_said said;
+    uint64_t total; /* solid cells of the grid, as they are kept */
+} oat_tally;
 
 /* Of oat_complete. */
 typedef struct {
@@ -278,6 +290,50 @@ oat_hit oat_plain(oat_counts n, const uint8_t *cells, size_t bytes, oat_cell p, 
    side by which that 6-line enters it. Where the marks are complete it gives the answer that oat_plain gives for the same `how`, with no
    more reads; where they are not, it may miss a solid cell, and never makes one up. */
 oat_hit oat_adaptive(oat_counts n, const uint8_t *cells, size_t bytes, oat_cell p, oat_cell q, oat_manner how);
+
+/* ---- solid counts that are kept: refusals 2, 3, 6; of oat_set and oat_refill then 5, 14 (oat_refill alone), 13. `bytes` is the number of bytes at
+   `cells`, `lent` that of masks at `masks`, OAT_MASKS(nx, ny, nz) or more; masks behind these stay as they are. Cells and masks must not overlap.
+
+   Cells are taken in bricks, four a side. For each brick one number of 64 bits, its mask, has a bit for each of its cells: bit x + 4*y + 16*z, the
+   coordinates counted within the brick, is 1 where that cell is solid. Bricks at the far faces may reach beyond the grid: the bits of cells there are 0.
+   Masks lie as bytes do, x fastest, then y, then z: with bx = (nx + 3) / 4 and by = (ny + 3) / 4 the mask of cell (x, y, z) is number
+   x/4 + bx*(y/4 + by*(z/4)).
+
+   Build once, then keep: the masks and the total that the last accepted call answered go into the next one, with the same counts. As long as nothing
+   else writes a mask or changes which cells are solid, after every accepted call each mask says which cells of its brick are solid, and the total is
+   the number of solid cells. Where something else did, refusal 13 may tell, and may not: it knows only of the bricks that are looked at. Build anew
+   then.
+
+   An editor's loop. next_stroke is the editor's own; for a single cell oat_set goes in the place of oat_refill:
+
+       oat_tally now = oat_build(n, cells, bytes, masks, lent);
+       if (now.said.refusal != OAT_ACCEPTED) return;
+       uint64_t total = now.total;
+       while (next_stroke(&low, &high, &byte)) {
+           now = oat_refill(n, cells, bytes, masks, lent, total, low, high, byte);
+           if (now.said.refusal == OAT_ACCEPTED) total = now.total; // else nothing was written, and the total stays
+       }
+       oat_mark(n, cells, bytes); // before the next sight
+
+   Refusal 13: among the bricks with a named cell there is one whose mask is not what the bytes give, if only in one of its 64 bits; or the total is
+   smaller than the masks of those bricks together have ones, or larger than nx*ny*nz. Named are the cell of oat_set, and all cells of the box of
+   oat_refill. It comes before anything is changed, also where the byte is there already.
+
+   Marks are not kept. A cell that becomes solid does not mark the cells that it touches, and one that is cleared leaves their marks: marks may be
+   incomplete afterwards. So oat_mark comes before the next adaptive walk or sight. It changes no solid byte and makes none, so masks and total stay
+   true. */
+
+/* Writes the mask of every brick at the front of `masks`, whatever was there, and answers the number of solid cells. */
+oat_tally oat_build(oat_counts n, const uint8_t *cells, size_t bytes, uint64_t *masks, size_t lent);
+
+/* Gives a cell a byte, writes the mask of its brick, and answers `total` less the ones of that mask as it was, and with those that it has now. Where
+   the cell has that byte already nothing changes. A refusal 5 names P. */
+oat_tally oat_set(oat_counts n, uint8_t *cells, size_t bytes, uint64_t *masks, size_t lent, uint64_t total, oat_cell cell, uint8_t byte);
+
+/* The same for every cell of a box, with both its corners: gives each the byte, writes the masks of the bricks that hold one, and answers `total`
+   less the ones of these masks as they were, and with those that they have now. Refusal 5 looks at the low corner as P, then at the high one as Q. */
+oat_tally oat_refill(oat_counts n, uint8_t *cells, size_t bytes, uint64_t *masks, size_t lent, uint64_t total, oat_cell low, oat_cell high,
+                     uint8_t byte);
 
 /* ---- surveyed points */
 

@@ -165,6 +165,20 @@ static slice lend_numbers(size count, i32 value) {
     return s;
 }
 
+/* so many masks, each holding this value */
+static slice lend_masks(size count, u64 value) {
+    slice s = lend(count * sizeof(u64));
+    for (size n = 0; n < count; n++) ((u64 *)s.at)[n] = value;
+    return s;
+}
+
+/* an array of masks of the line: its length, then its members */
+static slice lend_given_masks(void) {
+    slice s = lend_masks(take_length(), 0);
+    for (size n = 0; n < s.bytes / sizeof(u64); n++) ((u64 *)s.at)[n] = take_u64();
+    return s;
+}
+
 /* the final memory of a lent slice behind the answer; the slice is taken back */
 static void say_bytes(slice s) {
     say(" ;");
@@ -175,6 +189,12 @@ static void say_bytes(slice s) {
 static void say_numbers(slice s) {
     say(" ;");
     for (size n = 0; n < s.bytes / sizeof(i32); n++) say(" %d", ((i32 *)s.at)[n]);
+    take_back(s);
+}
+
+/* masks stand behind the cells, where these were written too */
+static void say_masks(slice s) {
+    for (size n = 0; n < s.bytes / sizeof(u64); n++) say(" %lu", ((u64 *)s.at)[n]);
     take_back(s);
 }
 
@@ -237,6 +257,45 @@ static void layer(void) {
     if (got.said.refusal) say_refused(got.said);
     else say("ok %lu %lu", got.offset, got.length);
     say_stray(got.said, got.said.refusal ? got.offset + got.length : 0);
+}
+
+static void say_tally(oat_tally got) {
+    if (got.said.refusal) say_refused(got.said);
+    else say("ok %lu", got.total);
+    say_stray(got.said, got.said.refusal ? got.total : 0);
+}
+
+static void build(void) {
+    grid g = lend_grid();
+    size lent = take_length();
+    slice masks = lend_masks(lent, 12345);
+    only_read(g.cells);
+    say_tally(oat_build(g.n, g.cells.at, g.cells.bytes, (u64 *)masks.at, lent));
+    take_back(g.cells);
+    say(" ;");
+    say_masks(masks);
+}
+
+static void set(void) {
+    grid g = lend_grid();
+    slice masks = lend_given_masks();
+    u64 total = take_u64();
+    oat_cell cell = take_cell();
+    u8 byte = take_u8();
+    say_tally(oat_set(g.n, g.cells.at, g.cells.bytes, (u64 *)masks.at, masks.bytes / sizeof(u64), total, cell, byte));
+    say_bytes(g.cells);
+    say_masks(masks);
+}
+
+static void refill(void) {
+    grid g = lend_grid();
+    slice masks = lend_given_masks();
+    u64 total = take_u64();
+    oat_cell low = take_cell(), high = take_cell();
+    u8 byte = take_u8();
+    say_tally(oat_refill(g.n, g.cells.at, g.cells.bytes, (u64 *)masks.at, masks.bytes / sizeof(u64), total, low, high, byte));
+    say_bytes(g.cells);
+    say_masks(masks);
 }
 
 static const char *face_word(i32 face) {
@@ -359,6 +418,9 @@ static const struct { const char *name; void (*run)(void); } calls[] = {
     {"rvenue", rvenue},
     {"rpair", rpair},
     {"wvenue", wvenue},
+    {"build", build},
+    {"set", set},
+    {"refill", refill},
 };
 
 /* ---- the lines of the input */

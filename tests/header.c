@@ -14,6 +14,7 @@
 
 static uint8_t cells[9 * 8 * 7], record[OAT_VENUE_HEAD + sizeof cells + 1];
 static int32_t numbers[OAT_LINE6_ROOM];
+static uint64_t masks[OAT_MASKS(9, 8, 7)];
 
 int main(void) {
     const oat_counts n = {.nx = 9, .ny = 8, .nz = 7};
@@ -117,6 +118,20 @@ int main(void) {
     record[4] = 2;
     SHOW(oat_venue, oat_read_venue(record, sizeof record));
     SHOW(oat_pair, oat_read_pair(pair, sizeof pair - 1));
+
+    /* solid counts that are kept: of the one solid cell, then with the last cell, then with a brick full of them; at last of all cells */
+    const size_t bricks = sizeof masks / sizeof *masks;
+    const oat_cell first = {.x = 0, .y = 0, .z = 0}, inner = {.x = 3, .y = 3, .z = 3}, last = {.x = 8, .y = 7, .z = 6};
+    SHOW(oat_tally, oat_build((oat_counts){.nx = 9, .ny = 0, .nz = 7}, cells, sizeof cells, masks, bricks));
+    SHOW(oat_tally, oat_build(n, cells, sizeof cells, masks, bricks - 1));
+    SHOW(oat_tally, oat_build(n, cells, sizeof cells, masks, bricks));
+    SHOW(oat_tally, oat_set(n, cells, sizeof cells, masks, bricks, 1, (oat_cell){.x = 8, .y = 7, .z = 7}, OAT_SOLID_LEAST));
+    SHOW(oat_tally, oat_set(n, cells, sizeof cells, masks, bricks, 1, last, OAT_SOLID_LEAST));
+    SHOW(oat_tally, oat_refill(n, cells, sizeof cells, masks, bricks, 2, first, inner, 255));
+    SHOW(oat_tally, oat_refill(n, cells, sizeof cells, masks, bricks, 66, first, (oat_cell){.x = 8, .y = 8, .z = 6}, OAT_CLEAR));
+    SHOW(oat_tally, oat_refill(n, cells, sizeof cells, masks, bricks, 66, last, inner, OAT_CLEAR));
+    SHOW(oat_tally, oat_set(n, cells, sizeof cells, masks, bricks, 63, inner, OAT_NEAR)); /* a total below the ones of the brick */
+    SHOW(oat_tally, oat_refill(n, cells, sizeof cells, masks, bricks, 66, first, last, 2));
 
     /* the longest lines fill their room, and no less will do */
     const oat_cell least = {.x = OAT_COORDINATE_LEAST, .y = OAT_COORDINATE_LEAST, .z = OAT_COORDINATE_LEAST};
