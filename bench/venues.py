@@ -5,8 +5,8 @@ import math
 import random
 
 SEGMENTS = 2000
-# cells to set, all over the grid and within a region that is so many cells wide; how wide boxes are, and how many there are
-ALL_OVER, REGION, IN_REGION, BOXES = 10_000, 16, 1000, {2: 500, 8: 100, 32: 8}
+# cells to set, all over the grid and within a region that is so many cells wide; how wide boxes are, and how many there are; those within the region
+ALL_OVER, REGION, IN_REGION, BOXES, BOXES_IN_REGION = 10_000, 16, 1000, {2: 500, 8: 100, 32: 8}, {2: 500, 8: 100}
 
 
 def struct(name, *fields):
@@ -91,11 +91,15 @@ class Kept:
         self.cells = (ctypes.c_uint8 * many).from_buffer_copy(cells)
         self.masks = (ctypes.c_uint64 * math.prod((n + 3) // 4 for n in counts))()
         self.held = Held(ctypes.addressof(self.cells), ctypes.addressof(self.masks), 0)
-        corner = [rng.randrange(n - REGION + 1) for n in counts]
+        # the region begins with a brick, and what is asked there is the same in every grid
+        within, first, region = random.Random(REGION), [4 * rng.randrange((n - REGION) // 4 + 1) for n in counts], f"one {name_of(REGION)} region"
         self.places = {"cells all over the grid": self.places_at(ALL_OVER, lambda: [rng.randrange(n) for n in counts]),
-                       f"cells of one {name_of(REGION)} region": self.places_at(IN_REGION, lambda: [at + rng.randrange(REGION) for at in corner])}
+                       f"cells of {region}": self.places_at(IN_REGION, lambda: [at + within.randrange(REGION) for at in first])}
         self.boxes = {f"boxes of {name_of(wide)}": self.boxes_at(many, lambda: [rng.randrange(n - wide + 1) for n in counts], wide)
                       for wide, many in BOXES.items()}
+        self.boxes |= {f"boxes of {name_of(wide)} in {region}":
+                       self.boxes_at(many, lambda: [at + within.randrange(REGION - wide + 1) for at in first], wide)
+                       for wide, many in BOXES_IN_REGION.items()}
 
     def places_at(self, many, cell):
         bytes_of, (nx, ny, _) = memoryview(self.cells).cast("B"), self.counts

@@ -1,13 +1,13 @@
 -- The bricks are a grid themselves: 1 to 256 along each axis, each with a cell in the grid. Assumes nothing.
-use Prim.Native.Nat.{ℕ, _+_, _*_, _/_, _%_, _≤_, _<_}
+use Prim.Native.Nat.{ℕ, _+_, _*_, _/_, _≤_, _<_}
 use native.Mathlib.Nat.{mul-le-mul, mul-assoc}
 use native.Mathlib.Omega.{arith}
 use mathlib.Core.Path.{refl}
 use Rattle.cells.specs.declared.Counts.{Counts}
-use Rattle.grids.specs.Grid.{size, index}
+use Rattle.grids.specs.Grid.{size}
 use Rattle.grids.specs.Inside.{Good, Counted, Shaped}
-use Rattle.grids.proofs.Places.{x-below, y-below, z-below, index-below}
-use Rattle.bricks.specs.Bricks.{bricks}
+use Rattle.grids.proofs.Places.{index-below}
+use Rattle.bricks.specs.Bricks.{bricks, brick-there}
 
 -- how many bricks along an axis
 pub bricked : (n : ℕ) → Good n → Good ((n + 3) / 4)
@@ -20,6 +20,11 @@ starts-inside n b h = omega arith
 -- the brick of a cell of the grid
 pub brick-inside : (n x : ℕ) → x < n → x / 4 < (n + 3) / 4
 brick-inside n x h = omega arith
+
+-- the number of a cell's brick is below their count
+pub brick-below : (n : Counts) (x y z : ℕ) → x < n .nx → y < n .ny → z < n .nz → brick-there n x y z < size (bricks n)
+brick-below n x y z hx hy hz =
+    index-below (bricks n) (x / 4) (y / 4) (z / 4) (brick-inside (n .nx) x hx) (brick-inside (n .ny) y hy) (brick-inside (n .nz) z hz)
 
 module _ (n : Counts) (bytes : ℕ) (s : Shaped n bytes) where
   pub bricks-shaped : Shaped (bricks n) (size (bricks n))
@@ -39,21 +44,6 @@ module _ (n : Counts) (bytes : ℕ) (s : Shaped n bytes) where
         size-most = mul-le-mul per (gz .most);
         layer-some = mul-le-mul (gx .some) (gy .some);
       }
-
-  -- the brick of number k has a cell in the grid
-  pub brick-starts :
-      (k : ℕ) → k < size (bricks n) →
-      (4 * (k % bricks n .nx) < n .nx) × (4 * (k / bricks n .nx % bricks n .ny) < n .ny) × (4 * (k / (bricks n .nx * bricks n .ny)) < n .nz)
-  brick-starts k h = (
-    starts-inside (n .nx) _ (x-below (bricks n) (size (bricks n)) bricks-shaped k h),
-    starts-inside (n .ny) _ (y-below (bricks n) (size (bricks n)) bricks-shaped k h),
-    starts-inside (n .nz) _ (z-below (bricks n) (size (bricks n)) bricks-shaped k h),
-  )
-
-  -- the number of a cell's brick is below their count
-  pub brick-below : (x y z : ℕ) → x < n .nx → y < n .ny → z < n .nz → index (bricks n) (x / 4) (y / 4) (z / 4) < size (bricks n)
-  brick-below x y z hx hy hz =
-      index-below (bricks n) (x / 4) (y / 4) (z / 4) (brick-inside (n .nx) x hx) (brick-inside (n .ny) y hy) (brick-inside (n .nz) z hz)
 
 -- the products that lead to the number of bricks
 pub record SizeBounds (b : Counts) : Type 0 where

@@ -118,7 +118,7 @@ pub enum Refusal {
     Version,
     // 12: a number that names no rule
     NoRule,
-    // 13: a mask of a brick that holds a named cell is not that of the bytes, or a total that cannot be theirs
+    // 13: a mask that is not what the bytes give, or a total that cannot be right
     Stale,
     // 14: a low corner above the high one
     Corners,

@@ -11,7 +11,8 @@ use Rattle.claims.proofs.Words.{one-number}
 use Rattle.claims.proofs.Lists.{listed-once, cells-listed}
 use Rattle.claims.proofs.Lines.{one-place, six-line-holds, each-cell-touched, no-cell-missing, line-26-holds}
 use Rattle.claims.proofs.Grids as grids
-use Rattle.claims.proofs.Kept.{kept-once, masks, refill-means, set-means, from-a-build-on, keeping}
+use Rattle.claims.proofs.Kept.{kept-once, masks, build-means, refill-means, set-means}
+use Rattle.claims.proofs.Sequences.{from-a-build-on, keeping}
 use Rattle.claims.proofs.Points as points
 use Rattle.claims.proofs.Records as records
 use Rattle.claims.proofs.Sights.{seen-once, nothing-in-sight}
@@ -74,4 +75,12 @@ tell-one-story =
     }
 
 pub keeps-counts : KeepsCounts
-keeps-counts = record { by-bits = masks; build-on = from-a-build-on; kept-by = keeping; refills = refill-means; sets = set-means }
+keeps-counts =
+    record {
+      by-bits = masks;
+      build-on = from-a-build-on;
+      kept-by = keeping;
+      builds = build-means;
+      refills = refill-means;
+      sets = set-means;
+    }

@@ -13,48 +13,44 @@ use Rattle.cells.specs.declared.Cell.{Cell}
 use Rattle.cells.specs.declared.Counts.{Counts}
 use Rattle.cells.specs.declared.Refusal.{Refusal}
 use Rattle.cells.specs.declared.Refusal.the-variants.{Stale}
-use Rattle.cells.specs.declared.Verdict.{Verdict}
 use Rattle.cells.specs.declared.Verdict.the-variants.{Fine}
 use Rattle.cells.specs.Checks.{_then_, by-verdict}
 use Rattle.cells.proofs.Checks.{by-fine, by-refusal}
 use Rattle.cells.proofs.Signed.{up, abs-is, ≤ℤ-is}
 use Rattle.grids.specs.Grid.{count-check, shape, size, index, solid}
 use Rattle.grids.specs.Inside.{off-axis, InGrid}
-use Rattle.grids.specs.Marks.{any, marked, Marks}
+use Rattle.grids.specs.Marks.{any}
 use Rattle.grids.proofs.Any.{not-so, or-neither}
 use Rattle.grids.proofs.Inside.{inside-parts}
-use Rattle.grids.proofs.Marking.{SameSolid, marked-same}
+use Rattle.grids.proofs.Marking.{SameSolid}
 use Rattle.grids.proofs.Places.{index-below, index-of-cell}
 use Rattle.grids.proofs.Shapes.{shaped}
 use Rattle.bricks.specs.declared.Slot.{Slot}
 use Rattle.bricks.specs.declared.Tally.{Tally}
 use Rattle.bricks.specs.declared.Tally.the-variants as Tally
-use Rattle.bricks.specs.Sums.{sum, bit}
-use Rattle.bricks.specs.Bricks.{bricks, mask-of, mask-at, solids, brick-there, bit-there}
+use Rattle.bricks.specs.Sums.{sum}
+use Rattle.bricks.specs.Bricks.{bricks, mask-of, mask-at, solids}
 use Rattle.bricks.specs.Builds.{bricks-check, built, Builds}
-use Rattle.bricks.specs.Kept.{Kept}
 use Rattle.bricks.proofs.Bricked.{brick-below}
-use Rattle.bricks.proofs.Building.{kept-built}
+use Rattle.bricks.proofs.Building.{shape-fine, masks-lent, built-long, built-front, built-surplus}
+use Rattle.bricks.proofs.Sums.{sum-same}
 use Rattle.bricks.proofs.CellBits.{bit-small, cell-bit, no-cell-bit, mask-small, ones-set, masks-alike, solids-alike}
 use Rattle.bricks.proofs.Totals.{ones-are-solids, ones-of-brick}
 use Rattle.refills.specs.Boxes.{corner, brick-of, in-box, in-box-at}
 use Rattle.refills.specs.Rows.{Boxed, In}
-use Rattle.refills.specs.Refills.{refilled, holds-named, remasked, ones-in, moved, box-check, differs-in, stale, stale-check, Refills}
-use Rattle.refills.proofs.Accepted.{Accepted, accepted-says, same-masks, same-total, one-byte, same-cell, same-bytes, stale-says}
+use Rattle.refills.specs.Refills.{refilled, holds-named, remasked, ones-in, moved, box-check, differs-in, stale, stale-check}
+use Rattle.refills.proofs.Accepted.{Accepted, accepted-says, same-masks, same-total, one-byte, same-cell, same-bytes}
 use Rattle.refills.proofs.Boxes.{in-is, is-in, in-box-index, brick-holds, holds-brick, put-long, put-inside, put-outside}
 use Rattle.refills.proofs.Checked.{bricks-fine, low-in, high-in, counts-shaped, boxed}
-use Rattle.refills.proofs.Keeping.{total-fits, agrees, anew-is, total-moves, kept-agrees, kept-refilled}
-use Rattle.bricks.proofs.Building as building
-use Rattle.claims.specs.Kept.{KeptOnce, Masks, Named, HoldsNamed, Refilled, RefillMeans, SetMeans, AllRight, State}
-use Rattle.claims.specs.Kept.{Operation, Build, Set, Refill, Mark}
-use Rattle.claims.specs.Kept.{handed-on, Step, Session, nothing, then-one, FromABuildOn, Keeping, WrongCounts}
+use Rattle.refills.proofs.Keeping.{total-fits, agrees, anew-is, total-moves}
+use Rattle.claims.specs.Kept.{KeptOnce, Masks, Built, BuildMeans, Named, HoldsNamed, Refilled, RefillMeans, SetMeans, WrongCounts}
 use Rattle.claims.proofs.Grids.{one}
 
 -- a total is no refusal
-not-refused : (t : ℕ) (r : Refusal) → Tally.Refused r ≡ Tally.Total t → ⊥
+pub not-refused : (t : ℕ) (r : Refusal) → Tally.Refused r ≡ Tally.Total t → ⊥
 not-refused t r e = let z : _≡_ {A = ℕ} 0 1 = cc e in omega arith
 
-not-total : (t : ℕ) (r : Refusal) → Tally.Total t ≡ Tally.Refused r → ⊥
+pub not-total : (t : ℕ) (r : Refusal) → Tally.Total t ≡ Tally.Refused r → ⊥
 not-total t r e = not-refused t r (sym e)
 
 -- ---- one answer
@@ -85,9 +81,9 @@ kept-once =
 pub masks : (n : Counts) (l : List ℕ) → Masks n l
 masks n l =
     record {
-      brick = λ x y z h. (refl, below x y z h);
-      of-cell = λ fine x y z h. (bit-small x y z, cell-bit n l x y z (h .0) (h .1) (h .2));
-      of-no-cell = λ k b lt none _. no-cell-bit n l k b lt (λ x y z hx hy hz. none x y z (hx, hy, hz));
+      brick = λ x y z h. (refl, brick-below n x y z (h .0) (h .1) (h .2));
+      of-cell = λ x y z h. (bit-small x y z, cell-bit n l x y z (h .0) (h .1) (h .2));
+      of-no-cell = λ k b lt none. no-cell-bit n l k b lt (λ x y z hx hy hz. none x y z (hx, hy, hz));
       small = mask-small n l;
       ones-are = ones-set n l;
       each-brick = λ fine k lt. ones-of-brick n l k (shaped n (length l) fine) lt;
@@ -95,9 +91,35 @@ masks n l =
       decided = λ l″ long alike.
           let same : SameSolid l″ l = record { long = long; alike = alike } in (masks-alike n l″ l same, solids-alike n l″ l same);
     }
-  where
-    below : (x y z : ℕ) → (x < n .nx) × (y < n .ny) × (z < n .nz) → brick-there n x y z < size (bricks n)
-    below x y z h = index-below (bricks n) _ _ _ (omega arith) (omega arith) (omega arith)
+
+-- ---- a build
+
+module _ (n : Counts) (l m : List ℕ) (t : ℕ) (m′ : List ℕ) (c : Builds n l m (Tally.Total t) m′) where
+  -- what is told of it: its tests are passed, and with them its total and its masks are those of the definition
+  pub build-says : (bricks-check n (length l) (length m) ≡ Fine) × (t ≡ solids l) × (m′ ≡ built n l m)
+  build-says =
+      let v = bricks-check n (length l) (length m) in
+      let (fine, is) = by-fine Tally.Refused v (Tally.Total (solids l)) (not-refused t) (sym (c .says)) in
+      (fine, cc is, c .holds ∙ ap (by-verdict (λ r. m) (built n l m)) fine)
+
+  build-done : Built n l m t m′
+  build-done =
+      let (fine, total, there) = build-says in
+      let room = masks-lent n (length l) (length m) fine in
+      let front : (k : ℕ) → k < size (bricks n) → getD m′ k 0 ≡ mask-at n l k =
+      λ k lt. ap (λ (q : List ℕ). getD q k 0) there ∙ built-front n l m room k lt in
+      record {
+        long = ap length there ∙ built-long n l m;
+        room = room;
+        front = front;
+        surplus = λ k ge lt. ap (λ (q : List ℕ). getD q k 0) there ∙ built-surplus n l m k ge lt;
+        fresh = total;
+        by-ones = total ∙ sym (ones-are-solids n l (shaped n (length l) (shape-fine n (length l) (length m) fine)))
+            ∙ sum-same _ _ (size (bricks n)) (λ k lt. sym (ap ones (front k lt)));
+      }
+
+pub build-means : (n : Counts) (l m : List ℕ) (t : ℕ) (m′ : List ℕ) → BuildMeans n l m t m′
+build-means n l m t m′ = record { accepted = build-done n l m t m′ }
 
 -- ---- a refill
 
@@ -155,8 +177,7 @@ module _ (n : Counts) (bytes lent : ℕ) (low high : Cell) (e : box-check n byte
       let dy = i .up in
       let dz = i .deep in (
         holds-brick n (corner low) (corner high) box x y z k i at,
-        subst (λ (j : ℕ). j < size (bricks n)) at (brick-below n bytes (counts-shaped n bytes lent low high e) x y z (omega arith) (omega arith)
-            (omega arith)),
+        subst (λ (j : ℕ). j < size (bricks n)) at (brick-below n x y z (omega arith) (omega arith) (omega arith)),
       )
 
   pub is-holds : (k : ℕ) → holds-named n (corner low) (corner high) k ≡ true → HoldsNamed n low high k
@@ -173,7 +194,7 @@ module _ (n : Counts) (low high : Cell) (byte : ℕ) (l m : List ℕ) (total t :
   unfolding refilled remasked stale
   refill-done =
       let s = counts-shaped n (length l) (length m) low high (a .checked) in
-      let room = building.masks-lent n (length l) (length m) (bricks-fine n (length l) (length m) low high (a .checked)) in
+      let room = masks-lent n (length l) (length m) (bricks-fine n (length l) (length m) low high (a .checked)) in
       let (none, bad) = or-neither (differs-in n lo hi l m) _ (a .right) in
       let (few, most) = total-fits total (ones-in n lo hi m) (size n) bad in
       record {
@@ -250,98 +271,6 @@ set-means n cell byte l m total t l′ m′ =
       same-byte = λ c e.
           let (masks, total-is) = same-cell n cell byte l m total t l′ m′ c (ap solid e) in
           (same-bytes n cell byte l m total t l′ m′ c e, masks, total-is);
-    }
-
--- ---- from a build on
-
-module _ (n : Counts) (l m : List ℕ) where
-  kept-right : (total : ℕ) → Kept n l m total → AllRight n l m total
-  kept-right total h =
-      record {
-        says-which = λ x y z c.
-            ap (λ (q : ℕ). bit q (bit-there x y z)) (h .each (brick-there n x y z) (masks n l .brick x y z c .1)) ∙ cell-bit n l x y z (c .0) (c .1)
-            (c .2);
-        beyond = λ k b lt small none.
-            ap (λ (q : ℕ). bit q b) (h .each k lt) ∙ no-cell-bit n l k b small (λ x y z hx hy hz. none x y z (hx, hy, hz));
-        brick-counts = λ k lt. ap ones (h .each k lt) ∙ ones-of-brick n l k (shaped n (length l) (h .grid)) lt;
-        fresh-count = h .fresh;
-      }
-
-  kept-by-build : (t : ℕ) (m′ : List ℕ) → Builds n l m (Tally.Total t) m′ → Kept n l m′ t
-  kept-by-build t m′ c =
-      let v = bricks-check n (length l) (length m) in
-      let (fine, is) = by-fine Tally.Refused v (Tally.Total (solids l)) (not-refused t) (sym (c .says)) in
-      let total : solids l ≡ t = cc is in
-      let there : m′ ≡ built n l m = c .holds ∙ ap (by-verdict (λ r. m) (built n l m)) fine in
-      subst (λ (q : List ℕ). Kept n l q t) (sym there) (subst (Kept n l (built n l m)) total (kept-built n l m fine))
-
-  kept-by-refill :
-      (low high : Cell) (byte total t : ℕ) (l′ m′ : List ℕ) → Kept n l m total → Refills n low high byte l m total (Tally.Total t) l′ m′ → Kept n l′ m′ t
-  kept-by-refill low high byte total t l′ m′ h c =
-      let a = accepted-says n low high byte l m total t l′ m′ c in
-      let lo = corner low in
-      let hi = corner high in
-      let after = refilled n lo hi byte l in
-      let there : m′ ≡ remasked n lo hi after m = a .masks ∙ ap (λ (q : List ℕ). remasked n lo hi q m) (a .bytes) in
-      let total-is : t ≡ moved n lo hi m (remasked n lo hi after m) total = a .total-is ∙ ap (λ (q : List ℕ). moved n lo hi m q total) there in
-      rw (a .bytes, there, total-is) (kept-refilled n lo hi l m total h byte)
-
-  -- a marking keeps solidity
-  kept-by-mark : (total : ℕ) (v : Verdict) (l′ : List ℕ) → Kept n l m total → Marks n l v l′ → Kept n l′ m total
-  kept-by-mark total v l′ h c =
-      let same = marked-same 3 n l in
-      let is : l′ ≡ marked 3 n l = c .holds ∙ ap (by-verdict (λ r. l) (marked 3 n l)) (h .grid) in
-      subst (λ (q : List ℕ). Kept n q m total) (sym is) (record {
-        grid = subst (λ (q : ℕ). shape n q ≡ Fine) (sym (same .long)) (h .grid);
-        room = h .room;
-        each = λ k lt. h .each k lt ∙ sym (masks-alike n (marked 3 n l) l same k);
-        fresh = h .fresh ∙ sym (solids-alike n (marked 3 n l) l same);
-      })
-
-  kept-never-stale :
-      (low high : Cell) (byte total : ℕ) (l′ m′ : List ℕ) → Kept n l m total → Refills n low high byte l m total (Tally.Refused Stale) l′ m′ → ⊥
-  kept-never-stale low high byte total l′ m′ h c = stale-says n low high byte l m total l′ m′ c (kept-agrees n (corner low) (corner high) l m total h)
-
-  pub keeping : Keeping n l m
-  keeping =
-      record { built = kept-by-build; refilled = kept-by-refill; marked = kept-by-mark; never-stale = kept-never-stale; right = kept-right }
-
--- what is kept in a state
-abbrev KeptIn : Counts → State → Type 0
-KeptIn n s = Kept n (s .bytes) (s .masks) (s .total)
-
--- a call that is refused leaves the state; one that is accepted keeps it
-kept-step-refill :
-    (n : Counts) (low high : Cell) (byte : ℕ) (s s′ : State) (r : Tally) → Refills n low high byte (s .bytes) (s .masks) (s .total) r (s′ .bytes)
-    (s′ .masks) →
-    s′ .total ≡ handed-on r (s .total) → KeptIn n s → KeptIn n s′
-kept-step-refill n low high byte s s′ (Tally.Total t) c e h =
-    rw e (kept-by-refill n (s .bytes) (s .masks) low high byte (s .total) t (s′ .bytes) (s′ .masks) h c)
-kept-step-refill n low high byte s s′ (Tally.Refused r) c e h =
-    let (bytes, lent) = kept-once .refill-refused n low high byte (s .bytes) (s .masks) (s .total) r (s′ .bytes) (s′ .masks) c in rw (e, bytes, lent) h
-
-kept-step-build :
-    (n : Counts) (s s′ : State) (r : Tally) → Builds n (s .bytes) (s .masks) r (s′ .masks) → s′ .bytes ≡ s .bytes → s′ .total ≡ handed-on r (s .total) →
-    KeptIn n s → KeptIn n s′
-kept-step-build n s s′ (Tally.Total t) c bytes e h = rw (e, bytes) (kept-by-build n (s .bytes) (s .masks) t (s′ .masks) c)
-kept-step-build n s s′ (Tally.Refused r) c bytes e h = rw (e, bytes, kept-once .build-refused n (s .bytes) (s .masks) r (s′ .masks) c) h
-
-kept-step : (n : Counts) (op : Operation) (s s′ : State) → Step n op s s′ → KeptIn n s → KeptIn n s′
-kept-step n Build s s′ (r, c, bytes, e) h = kept-step-build n s s′ r c bytes e h
-kept-step n (Set cell byte) s s′ (r, c, e) h = kept-step-refill n cell cell byte s s′ r c e h
-kept-step n (Refill low high byte) s s′ (r, c, e) h = kept-step-refill n low high byte s s′ r c e h
-kept-step n Mark s s′ (v, c, lent, e) h = rw (e, lent) (kept-by-mark n (s .bytes) (s .masks) (s .total) v (s′ .bytes) h c)
-
-kept-session : (n : Counts) {s s′ : State} {ops : List Operation} → Session n s ops s′ → KeptIn n s → KeptIn n s′
-kept-session n (nothing s) h = h
-kept-session n (then-one {s} {t} {u} {op} {ops} step rest) h = kept-session n rest (kept-step n op s t step h)
-
-pub from-a-build-on : (n : Counts) (l m : List ℕ) (t : ℕ) (m′ : List ℕ) → FromABuildOn n l m t m′
-from-a-build-on n l m t m′ =
-    record {
-      all-right = λ c ops s session. kept-right n (s .bytes) (s .masks) (s .total) (kept-session n session (kept-by-build n l m t m′ c));
-      not-stale = λ c ops s session low high byte l″ m″ refused.
-          kept-never-stale n (s .bytes) (s .masks) low high byte (s .total) l″ m″ (kept-session n session (kept-by-build n l m t m′ c)) refused;
     }
 
 -- ---- wrong answers

@@ -38,8 +38,8 @@ use Rattle.records.specs.Pairs.{signed, pair-version, pair-length, rule-byte, p
 use Rattle.records.specs.Writing.{write-check}
 use Rattle.bricks.specs.Kept.{Kept}
 use Rattle.claims.specs.Example.{counts, at, example-counts, marked-cells, set-cells, all-solid}
-use Rattle.claims.specs.Kept.{Set, then-one, nothing, Mark, Refill, Build}
-use Rattle.claims.proofs.Kept.{keeping}
+use Rattle.claims.specs.Sequences.{Set, then-one, nothing, Mark, Refill, Build}
+use Rattle.claims.proofs.Sequences.{keeping}
 use Rattle.claims.specs.Story.{all-clear}
 use Rattle.claims.specs.Witnesses.{steps-there, OfLines, OfGrids, OfCounts, OfPoints, OfRecords, OfPrograms}
 use Rattle.claims.specs.Records.{example-venue, example-pair}
@@ -145,7 +145,7 @@ of-counts =
           let dz = ≤ℤ-is _ _ .0 (named .2 .1) in
           omega (arith, e);
       no-cell = λ x y z h there b. omega (arith, h .0, h .1, h .2);
-      session =
+      calls =
           then-one {t = record { bytes = marked-cells; masks = 32 ∷ 7 ∷ []; total = 1 }} {op = Mark} (
             Verdict.Fine,
             record { says = refl; holds = refl },

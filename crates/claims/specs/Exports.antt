@@ -106,8 +106,8 @@ pub record RefusedUntouched : Type 0 where
   pub written : (n : Counts) (cells entry : List ℕ) → Untouched (λ f. f .said) (FlatWritesVenue n cells entry) entry
 
 -- 3. Wrong answers that the contracts shut out, on named inputs: a 6-line by either rule, a marking, a build, a set and a venue's record that leave the
--- memory as it was, whatever the struct says; a refill without its high corner; a walk in a manner of zeros, with any answer but 12; a marking that refuses the program's venue; marks of it that are
--- complete; the first layer for the second.
+-- memory as it was, whatever the struct says; a refill without its high corner; a walk in a manner of zeros, with any answer but 12; a marking that
+-- refuses the program's venue; marks of it that are complete; the first layer for the second.
 pub record WrongExports : Type 0 where
   pub idle-line : (rule : Rule) (r : OatListed) → FlatLine6 (rule-number rule) (at 0 0 0) (at 2 1 0) room r room → ⊥
   pub zeroed-manner : (w : Walker) (n : Counts) (cells : List ℕ) (p q : Cell) (r : OatHit) → FlatFinds w (record { start = 0; rule = 0 }) n cells p q r →

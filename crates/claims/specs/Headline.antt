@@ -40,7 +40,8 @@ use Rattle.claims.specs.Words.{OneNumber}
 use Rattle.claims.specs.Lists.{ListedOnce, CellsListed}
 use Rattle.claims.specs.Lines.{OnePlace, SixLine, TwentySixLine}
 use Rattle.claims.specs.Grids as grids
-use Rattle.claims.specs.Kept.{KeptOnce, Masks, RefillMeans, SetMeans, FromABuildOn, Keeping}
+use Rattle.claims.specs.Kept.{KeptOnce, Masks, BuildMeans, RefillMeans, SetMeans}
+use Rattle.claims.specs.Sequences.{FromABuildOn, Keeping}
 use Rattle.claims.specs.Points as points
 use Rattle.claims.specs.Records as records
 use Rattle.claims.specs.Sights.{SeenOnce, OpenWay}
@@ -122,5 +123,6 @@ pub record KeepsCounts : Type 0 where
   pub by-bits : (n : Counts) (l : List ℕ) → Masks n l
   pub build-on : (n : Counts) (l m : List ℕ) (t : ℕ) (m′ : List ℕ) → FromABuildOn n l m t m′
   pub kept-by : (n : Counts) (l m : List ℕ) → Keeping n l m
+  pub builds : (n : Counts) (l m : List ℕ) (t : ℕ) (m′ : List ℕ) → BuildMeans n l m t m′
   pub refills : (n : Counts) (low high : Cell) (byte : ℕ) (l m : List ℕ) (total t : ℕ) (l′ m′ : List ℕ) → RefillMeans n low high byte l m total t l′ m′
   pub sets : (n : Counts) (cell : Cell) (byte : ℕ) (l m : List ℕ) (total t : ℕ) (l′ m′ : List ℕ) → SetMeans n cell byte l m total t l′ m′

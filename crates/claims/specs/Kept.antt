@@ -1,5 +1,5 @@
--- What is claimed of the solid counts that are kept (SCOPE, K): masks, ones and totals, the build, a cell set, a box refilled, and what holds from a
--- build on. Assumes nothing.
+-- What is claimed of the solid counts that are kept (SCOPE, K), call by call: masks, ones and totals, the build, a cell set, a box refilled. What holds
+-- from a build on is in Sequences. Assumes nothing.
 use Prim.Native.Nat.{ℕ, _+_, _*_, _/_, _^_, _≤_, _<_}
 use mathlib.Core.Path.{_≡_}
 use mathlib.Core.Bool.{true, false}
@@ -12,17 +12,13 @@ use lib.Signed.{_≤ℤ_}
 use Rattle.cells.specs.declared.Cell.{Cell}
 use Rattle.cells.specs.declared.Counts.{Counts}
 use Rattle.cells.specs.declared.Refusal.{Refusal}
-use Rattle.cells.specs.declared.Refusal.the-variants.{Stale}
-use Rattle.cells.specs.declared.Verdict.{Verdict}
 use Rattle.cells.specs.declared.Verdict.the-variants.{Fine}
 use Rattle.grids.specs.Grid.{shape, size, index, byte-index, solid}
-use Rattle.grids.specs.Marks.{Marks}
 use Rattle.bricks.specs.declared.Tally.{Tally}
 use Rattle.bricks.specs.declared.Tally.the-variants as Tally
 use Rattle.bricks.specs.Sums.{sum, count, bit}
 use Rattle.bricks.specs.Bricks.{bricks, mask-at, solids, brick-there, bit-there, solids-in}
 use Rattle.bricks.specs.Builds.{Builds}
-use Rattle.bricks.specs.Kept.{Kept}
 use Rattle.refills.specs.Boxes.{corner}
 use Rattle.refills.specs.Refills.{holds-named, ones-in, Refills, Sets}
 use Rattle.claims.specs.Example.{at, counts, example-counts, marked-cells}
@@ -49,9 +45,9 @@ pub record KeptOnce : Type 0 where
 pub record Masks (n : Counts) (l : List ℕ) : Type 0 where
   pub brick : (x y z : ℕ) → Inside n x y z → (brick-there n x y z ≡ x / 4 + (n .nx + 3) / 4 * (y / 4 + (n .ny + 3) / 4 * (z / 4)))
       × (brick-there n x y z < size (bricks n))
-  pub of-cell : shape n (length l) ≡ Fine → (x y z : ℕ) → Inside n x y z →
+  pub of-cell : (x y z : ℕ) → Inside n x y z →
       (bit-there x y z < 64) × (bit (mask-at n l (brick-there n x y z)) (bit-there x y z) ≡ solid (getD l (index n x y z) 0))
-  pub of-no-cell : (k b : ℕ) → b < 64 → ((x y z : ℕ) → Inside n x y z → brick-there n x y z ≡ k → bit-there x y z ≡ b → ⊥) → k < size (bricks n) →
+  pub of-no-cell : (k b : ℕ) → b < 64 → ((x y z : ℕ) → Inside n x y z → brick-there n x y z ≡ k → bit-there x y z ≡ b → ⊥) →
       bit (mask-at n l k) b ≡ false
   pub small : (k : ℕ) → mask-at n l k < 2 ^ 64
   pub ones-are : (k : ℕ) → ones (mask-at n l k) ≡ count (bit (mask-at n l k)) 64
@@ -59,6 +55,21 @@ pub record Masks (n : Counts) (l : List ℕ) : Type 0 where
   pub altogether : shape n (length l) ≡ Fine → sum (λ k. ones (mask-at n l k)) (size (bricks n)) ≡ solids l
   pub decided : (l″ : List ℕ) → length l″ ≡ length l → ((i : ℕ) → solid (getD l″ i 0) ≡ solid (getD l i 0)) →
       ((k : ℕ) → mask-at n l″ k ≡ mask-at n l k) × (solids l″ ≡ solids l)
+
+-- ---- what a build writes
+
+-- 3. An accepted build: as many masks as were lent; each brick's own at the front, by its number, and behind them the surplus as it was. The total is a
+-- fresh count, and it is the ones of the masks that were written.
+pub record Built (n : Counts) (l m : List ℕ) (t : ℕ) (m′ : List ℕ) : Type 0 where
+  pub long : length m′ ≡ length m
+  pub room : size (bricks n) ≤ length m
+  pub front : (k : ℕ) → k < size (bricks n) → getD m′ k 0 ≡ mask-at n l k
+  pub surplus : (k : ℕ) → size (bricks n) ≤ k → k < length m → getD m′ k 0 ≡ getD m k 0
+  pub fresh : t ≡ solids l
+  pub by-ones : t ≡ sum (λ k. ones (getD m′ k 0)) (size (bricks n))
+
+pub record BuildMeans (n : Counts) (l m : List ℕ) (t : ℕ) (m′ : List ℕ) : Type 0 where
+  pub accepted : Builds n l m (Tally.Total t) m′ → Built n l m t m′
 
 -- ---- what a refill changes
 
@@ -71,7 +82,7 @@ Named low high x y z =
 abbrev pub HoldsNamed : Counts → Cell → Cell → ℕ → Type 0
 HoldsNamed n low high k = (x : ℕ) × (y : ℕ) × (z : ℕ) × Named low high x y z × (brick-there n x y z ≡ k)
 
--- 3. An accepted refill: each cell of the box gets the byte, every other byte is as it was. The masks of the bricks that hold a cell of the box were
+-- 4. An accepted refill: each cell of the box gets the byte, every other byte is as it was. The masks of the bricks that hold a cell of the box were
 -- those of the bytes, and are so again; every other mask, also the surplus, is as it was. The total moves by the ones of those masks, after less before,
 -- and so by as much as a fresh count, whatever the total was; it lay between those ones and the number of cells. Where each cell of the box is solid
 -- as the byte is, or is not as it is not, no mask moves, nor the total.
@@ -92,76 +103,18 @@ pub record Refilled (n : Counts) (low high : Cell) (byte : ℕ) (l m : List ℕ)
 pub record RefillMeans (n : Counts) (low high : Cell) (byte : ℕ) (l m : List ℕ) (total t : ℕ) (l′ m′ : List ℕ) : Type 0 where
   pub accepted : Refills n low high byte l m total (Tally.Total t) l′ m′ → Refilled n low high byte l m total t l′ m′
 
--- 4. An accepted set changes one byte. Where the new byte is solid and the old one is, or neither is, no mask moves, nor the total; so the byte that is
+-- 5. An accepted set changes one byte. Where the new byte is solid and the old one is, or neither is, no mask moves, nor the total; so the byte that is
 -- there already changes nothing.
 pub record SetMeans (n : Counts) (cell : Cell) (byte : ℕ) (l m : List ℕ) (total t : ℕ) (l′ m′ : List ℕ) : Type 0 where
   pub one-byte : Sets n cell byte l m total (Tally.Total t) l′ m′ → l′ ≡ set l (byte-index n cell) byte
   pub same-kind : Sets n cell byte l m total (Tally.Total t) l′ m′ → solid byte ≡ solid (getD l (byte-index n cell) 0) → (m′ ≡ m) × (t ≡ total)
   pub same-byte : Sets n cell byte l m total (Tally.Total t) l′ m′ → byte ≡ getD l (byte-index n cell) 0 → (l′ ≡ l) × (m′ ≡ m) × (t ≡ total)
 
--- ---- from a build on
+-- ---- wrong answers
 
--- 5. SCOPE K6, its three sentences: of masks by their bits, those of no cell too; of bricks by their ones; of the total.
-pub record AllRight (n : Counts) (l m : List ℕ) (total : ℕ) : Type 0 where
-  pub says-which : (x y z : ℕ) → Inside n x y z → bit (getD m (brick-there n x y z) 0) (bit-there x y z) ≡ solid (getD l (index n x y z) 0)
-  pub beyond : (k b : ℕ) → k < size (bricks n) → b < 64 → ((x y z : ℕ) → Inside n x y z → brick-there n x y z ≡ k → bit-there x y z ≡ b → ⊥) →
-      bit (getD m k 0) b ≡ false
-  pub brick-counts : (k : ℕ) → k < size (bricks n) → ones (getD m k 0) ≡ solids-in n l k
-  pub fresh-count : total ≡ solids l
-
--- what an editor holds
-pub record State : Type 0 where
-  pub bytes : List ℕ
-  pub masks : List ℕ
-  pub total : ℕ
-
--- what it may call
-pub data Operation : Type 0 where
-  Build : Operation
-  Set : Cell → ℕ → Operation
-  Refill : Cell → Cell → ℕ → Operation
-  Mark : Operation
-
--- the total that is handed on: the answered one, or where the call is refused the one before it
-abbrev pub handed-on : Tally → ℕ → ℕ
-handed-on (Tally.Total t) total = t
-handed-on (Tally.Refused r) total = total
-
--- one call with the counts n, accepted or refused, by its contract: it leads from one state to the next
-abbrev pub Step : Counts → Operation → State → State → Type 0
-Step n Build s s′ = (r : Tally) × Builds n (s .bytes) (s .masks) r (s′ .masks) × (s′ .bytes ≡ s .bytes) × (s′ .total ≡ handed-on r (s .total))
-Step n (Set cell byte) s s′ =
-    (r : Tally) × Sets n cell byte (s .bytes) (s .masks) (s .total) r (s′ .bytes) (s′ .masks) × (s′ .total ≡ handed-on r (s .total))
-Step n (Refill low high byte) s s′ =
-    (r : Tally) × Refills n low high byte (s .bytes) (s .masks) (s .total) r (s′ .bytes) (s′ .masks) × (s′ .total ≡ handed-on r (s .total))
-Step n Mark s s′ = (v : Verdict) × Marks n (s .bytes) v (s′ .bytes) × (s′ .masks ≡ s .masks) × (s′ .total ≡ s .total)
-
--- any number of calls, one after another, and nothing else
-pub data Session (n : Counts) : State → List Operation → State → Type 0 where
-  nothing : (s : State) → Session n s [] s
-  then-one : {s t u : State} {op : Operation} {ops : List Operation} → Step n op s t → Session n t ops u → Session n s (op ∷ ops) u
-
--- 6. From an accepted build on, with the same counts, all is right after any calls of these; and no set or refill is refused 13.
-pub record FromABuildOn (n : Counts) (l m : List ℕ) (t : ℕ) (m′ : List ℕ) : Type 0 where
-  pub all-right : Builds n l m (Tally.Total t) m′ → (ops : List Operation) (s : State) →
-      Session n (record { bytes = l; masks = m′; total = t }) ops s → AllRight n (s .bytes) (s .masks) (s .total)
-  pub not-stale : Builds n l m (Tally.Total t) m′ → (ops : List Operation) (s : State) → Session n (record { bytes = l; masks = m′; total = t }) ops s →
-      (low high : Cell) (byte : ℕ) (l″ m″ : List ℕ) → Refills n low high byte (s .bytes) (s .masks) (s .total) (Tally.Refused Stale) l″ m″ → ⊥
-
--- 7. What it rests on: a relation between counts, bytes, masks and total. It holds after an accepted build; each of the calls keeps it, marking too;
--- while it holds no set or refill is refused 13, and all is right.
-pub record Keeping (n : Counts) (l m : List ℕ) : Type 0 where
-  pub built : (t : ℕ) (m′ : List ℕ) → Builds n l m (Tally.Total t) m′ → Kept n l m′ t
-  pub refilled : (low high : Cell) (byte total t : ℕ) (l′ m′ : List ℕ) → Kept n l m total → Refills n low high byte l m total (Tally.Total t) l′ m′ →
-      Kept n l′ m′ t
-  pub marked : (total : ℕ) (v : Verdict) (l′ : List ℕ) → Kept n l m total → Marks n l v l′ → Kept n l′ m total
-  pub never-stale : (low high : Cell) (byte total : ℕ) (l′ m′ : List ℕ) → Kept n l m total → Refills n low high byte l m total
-      (Tally.Refused Stale) l′ m′ → ⊥
-  pub right : (total : ℕ) → Kept n l m total → AllRight n l m total
-
--- 8. What the contracts shut out, on named inputs: a build that counts near cells; a set that recounts where the handed total is wrong; one that
--- leaves a total that has to move; one that is refused where all is kept; a refill without its high corner; a total moved the wrong way; surplus masks cleared; a mask
--- compared on one bit only, and one that says something of a cell beyond the grid.
+-- 6. What the contracts shut out, on named inputs: a build that counts near cells; a set that recounts where the handed total is wrong; one that
+-- leaves a total that has to move; one that is refused where all is kept, or where a mask elsewhere is stale; a refill without its high corner; a total
+-- moved the wrong way; surplus masks cleared; a mask compared on one bit only, and one that says something of a cell beyond the grid.
 abbrev pub two-cells : Counts
 two-cells = counts 2 1 1
 

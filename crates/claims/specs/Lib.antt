@@ -7,6 +7,7 @@ pub mod Lines
 pub mod Lists
 pub mod Grids
 pub mod Kept
+pub mod Sequences
 pub mod Story
 pub mod Starts
 pub mod Rules

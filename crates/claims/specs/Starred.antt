@@ -96,12 +96,12 @@ pub record RowsMeant : Type 0 where
       Sets n cell byte l m total r l′ m′ ↔ (after-refill n cell cell byte l m total ≡ (r, l′, m′))
 
 -- a row: the ends P and Q and the cells of the line between them, of the 6-line by a rule; two ends and the order of rule 2 between them; the ends,
--- room for so many numbers, and what the 6-line's call answers; counts, bytes, and the bytes marked, or whether their marks are complete; counts, bytes and
--- lent masks, what a build answers, and the masks after it; a cell or two corners, a byte, bytes, masks and total, what a set or refill answers, and
--- bytes and masks after it; a walk, its manner, its grid and ends, and what
--- it finds; a venue's record, its counts and its cells; a pair's record, P, Q and the rule, or what is said of its refusal; the program's whole
--- input and output; or a manner, a grid, its placement, camera and ball, and the 64 bits of the share, the cell, code, reads and entry face of what
--- is in the way, or that nothing is, or what is said of its refusal
+-- room for so many numbers, and what the 6-line's call answers; counts, bytes, and the bytes marked, or whether their marks are complete; counts,
+-- bytes and lent masks, what a build answers, and the masks after it; a cell or two corners, a byte, bytes, masks and total, what a set or refill
+-- answers, and bytes and masks after it; a walk, its manner, its grid and ends, and what it finds; a venue's record, its counts and its cells; a
+-- pair's record, P, Q and the rule, or what is said of its refusal; the program's whole input and output; or a manner, a grid, its placement, camera
+-- and ball, and the 64 bits of the share, the cell, code, reads and entry face of what is in the way, or that nothing is, or what is said of its
+-- refusal
 pub data Row : Type 0 where
   six : Rule → Cell → Cell → List Cell → Row
   orders : Cell → Cell → Order → Row

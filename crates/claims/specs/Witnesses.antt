@@ -57,7 +57,8 @@ use Rattle.oatmarten.specs.GridCalls.{FlatMarks, FlatCompletes}
 use Rattle.claims.specs.Program.{Runs, example-input, example-output}
 use Rattle.claims.specs.Example.{counts, at, example-counts, example-cells, marked-cells, set-cells, all-solid}
 use Rattle.claims.specs.Lists.{lowest, highest, room}
-use Rattle.claims.specs.Kept.{HoldsNamed, Session, Set, AllRight, Mark, Refill, Build}
+use Rattle.claims.specs.Kept.{HoldsNamed}
+use Rattle.claims.specs.Sequences.{Sequence, Set, AllRight, Mark, Refill, Build}
 use Rattle.claims.specs.Rules.{ComesFirst, four-cells, by-xzy}
 use Rattle.claims.specs.Points.{Finite, InItsCell, cube, metres, tenths, one-metre, point}
 use Rattle.claims.specs.FarWall.{look-up-before, on-wall}
@@ -154,7 +155,7 @@ pub record OfCounts : Type 0 where
   pub holds-none : HoldsNamed (counts 5 1 1) (at 0 0 0) (at 3 0 0) 1 → ⊥
   pub no-cell : (x y z : ℕ) → Inside example-counts x y z → brick-there example-counts x y z ≡ 0 → bit-there x y z ≡ 63 → ⊥
   -- from `built` on: each call once, and a refill that is refused 14
-  pub session : Session example-counts (record { bytes = example-cells; masks = 32 ∷ 7 ∷ []; total = 1 })
+  pub calls : Sequence example-counts (record { bytes = example-cells; masks = 32 ∷ 7 ∷ []; total = 1 })
       (Mark ∷ Set (at 0 0 0) 2 ∷ Refill (at 3 1 0) (at 0 0 0) 2 ∷ Refill (at 0 0 0) (at 3 1 0) 2 ∷ Build ∷ [])
       (record { bytes = all-solid; masks = 255 ∷ 7 ∷ []; total = 8 })
   pub all-right : AllRight example-counts marked-cells (32 ∷ []) 1

@@ -69,8 +69,8 @@ pub record TheTable : Type 0 where
   pub thirteen : told Stale ≡ record { number = 13; end = none; axis = none; part = none }
   pub fourteen : told Corners ≡ record { number = 14; end = none; axis = none; part = none }
 
--- wrong numbers: an end outside the grid called 9, another version called a record cut short, a number that names no rule called another version, crossed corners
--- called stale
+-- wrong numbers: an end outside the grid called 9, another version called a record cut short, a number that names no rule called another version,
+-- crossed corners called stale
 pub record WrongNumbers : Type 0 where
   pub off-grid-nine : told (OffGrid P X) .number ≡ 9 → ⊥
   pub version-as-record : told Version .number ≡ told Record .number → ⊥

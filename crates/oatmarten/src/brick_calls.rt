@@ -70,7 +70,8 @@ pub extern "C" fn oat_refill(
     high: OatCell,
     byte: u8,
 ) -> OatTally
-    ensures { λ r. ⌜ FlatRefills (as-counts n) (as-cell low) (as-cell high) byte (now (cells .entry)) (now (masks .entry)) total r (now (cells .exit)) (now (masks .exit)) ⌝ }
+    ensures { λ r. ⌜ FlatRefills (as-counts n) (as-cell low) (as-cell high) byte (now (cells .entry)) (now (masks .entry)) total r
+        (now (cells .exit)) (now (masks .exit)) ⌝ }
 {
     let grid = counts(n);
     let from = cell(low);

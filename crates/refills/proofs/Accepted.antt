@@ -111,14 +111,13 @@ module _ (n : Counts) (low high : Cell) (byte : ℕ) (l m : List ℕ) (total t :
       as-was k true e =
           let box = boxed n (length l) (length m) low high (a .checked) in
           let (x, y, z, i, at) = brick-holds n lo hi box k e in
-          let s = counts-shaped n (length l) (length m) low high (a .checked) in
           let bx = box .x in
           let by = box .y in
           let bz = box .z in
           let dx = i .across in
           let dy = i .up in
           let dz = i .deep in
-          let lt = subst (λ (j : ℕ). j < size (bricks n)) at (brick-below n (length l) s x y z (omega arith) (omega arith) (omega arith)) in
+          let lt = subst (λ (j : ℕ). j < size (bricks n)) at (brick-below n x y z (omega arith) (omega arith) (omega arith)) in
           rw e (agrees n lo hi l m none k lt e ∙ sym (masks-alike n l′ l alike k))
       as-was k false e = rw e refl
 

@@ -23,7 +23,7 @@ use Rattle.refills.specs.declared.Agreed.{Agreed}
 use Rattle.refills.specs.declared.Agreed.the-variants.{Ones, Differs}
 use Rattle.refills.specs.Boxes.{brick-of}
 use Rattle.refills.specs.Rows.{Boxed, rows, BoxFilled, box-sum, agreed}
-use Rattle.refills.specs.Refills.{refilled, holds-named, remasked, ones-in, differs, differs-in, bad-total, stale, stale-check, Changes}
+use Rattle.refills.specs.Refills.{refilled, holds-named, remasked, ones-in, differs-in, bad-total, stale, stale-check, Changes}
 use Rattle.refills.proofs.Boxes.{boxed-bricks}
 use Rattle.refills.proofs.Keeping.{agrees, anew-is}
 use Rattle.refills.proofs.BoxRows.{rows-most, box-filled-is}

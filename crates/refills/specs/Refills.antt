@@ -60,11 +60,11 @@ unfolding bricks-check
 box-check n bytes lent low high =
     bricks-check n bytes lent then grid-check P n low then grid-check Q n high then refuse-when (crossed low high) Corners
 
--- the mask of brick number k is not that of the bytes
+-- the lent mask of brick number k is not the one that the bytes give
 abbrev pub differs : Counts → List ℕ → List ℕ → ℕ → Bool
 differs n l m k = not (eqb (getD m k 0) (mask-at n l k))
 
--- a mask of a brick that holds a cell of the box is not
+-- some brick with a cell of the box has a lent mask that is not the one that the bytes give
 unfoldable pub differs-in : Counts → Slot → Slot → List ℕ → List ℕ → Bool
 unfolding any
 differs-in n lo hi l m = any (λ k. holds-named n lo hi k && differs n l m k) (size (bricks n))
@@ -73,7 +73,7 @@ differs-in n lo hi l m = any (λ k. holds-named n lo hi k && differs n l m k) (s
 abbrev pub bad-total : (total ones cells : ℕ) → Bool
 bad-total total ones cells = ltb total ones || ltb cells total
 
--- SCOPE R13: one is not, or the total is below the ones of those masks, or above nx·ny·nz
+-- SCOPE R13: that is so; or the total is less than the ones of the lent masks of such bricks, or more than the number of cells
 unfoldable pub stale : Counts → Slot → Slot → List ℕ → List ℕ → ℕ → Bool
 unfolding differs-in ones-in
 stale n lo hi l m total = differs-in n lo hi l m || bad-total total (ones-in n lo hi m) (size n)

@@ -15,7 +15,6 @@ use bricks::Slot;
 use bricks::Tally;
 use cells::Cell;
 use cells::Counts;
-use cells::End;
 use cells::Refusal;
 use cells::Verdict;
 

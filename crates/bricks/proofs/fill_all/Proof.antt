@@ -65,7 +65,10 @@ div-t14 c = let s = few (c .before .before .before .before .before .before .befo
 -- the row of a turn is one of theirs
 within : (c : tie.In-loop Inv-loop μ-loop) →
     let n = c .before .before .before .before .before .before .before .before .args .n in c .before .loop .r < bricks n .ny * bricks n .nz
-within c = let lt : c .before .loop .r < c .before .before .before .before .before .bricks-of .result .ny * c .before .before .before .before .before .bricks-of .result .nz = omega arith in rw (c .before .before .before .before .before .bricks-of .ensures) at lt
+within c =
+    let b = c .before .before .before .before .before .bricks-of in
+    let lt : c .before .loop .r < b .result .ny * b .result .nz = omega arith in
+    rw (b .ensures) at lt
 
 -- few are
 counted : (c : tie.In-loop Inv-loop μ-loop) → c .before .loop .r < 1048576

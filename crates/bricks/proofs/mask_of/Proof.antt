@@ -53,7 +53,8 @@ whole-mask-requires c κs =
     let start = c .before .before .before .before .before .before in
     let a = start .args in
     let h = whole c in
-    rw (c .before .index-in .ensures) (whole-fits (a .n) _ (a .bx) (a .by) (a .bz) (shaped _ _ (start .pre .0)) (h .0) (h .1) (h .2))
+    let fits = whole-fits (a .n) _ (a .bx) (a .by) (a .bz) (shaped _ _ (start .pre .0)) (h .0) (h .1) (h .2) in
+    omega (arith, c .before .index-in .ensures, fits)
 
 returns : tie.Need-returns
 unfolding mask-of

@@ -108,9 +108,9 @@ fill-box-requires c κs = let start = c .before .before .before .before .before 
 
 fill-brick-box-requires : tie.Need-fill-brick-box-requires
 fill-brick-box-requires c κs =
-    let start = c .before .before .before .before .before .before .before .before .before .before .before .before .before .before .before .before .before .before in
-    let a = start .args in
-    let test = c .before .before .before .before .before .before .before .before .before .before .before in (
+    let test = c .before .before .before .before .before .before .before .before .before .before .before in
+    let start = test .before .before .before .before .before .before .before in
+    let a = start .args in (
       rw (c .before .before .before .before .fill-box .ensures .long) (start .pre .0),
       (
         rw (test .before .before .before .before .brick-of .ensures, test .before .before .before .brick-of2 .ensures) (boxed-bricks (a .n) (a .lo)
@@ -122,7 +122,9 @@ fill-brick-box-requires c κs =
 -- the ones of the masks made anew, in words of the box
 summed :
     (c : tie.After-slice-known4) →
-    let start = c .before .before .before .before .before .before .before .before .before .before .before .before .before .before .before .before .before .before .before .before .before in let a = start .args in
+    let test = c .before .before .before .before .before .before .before .before .before .before .before .before .before .before in
+    let start = test .before .before .before .before .before .before .before in
+    let a = start .args in
     c .before .before .fill-brick-box .result ≡ sum-of (a .n) (a .lo) (a .hi) (start .pre .1 .0)
     (c .before .before .before .before .before .before .before .fill-box .last .1 .0)
 summed c =
@@ -135,7 +137,8 @@ sub-t28 c = fits (c .before .before .before .before .before .before .before .bef
 
 add-t29 : tie.Need-add-t29
 add-t29 c =
-    let start = c .before .before .before .before .before .before .before .before .before .before .before .before .before .before .before .before .before .before .before .before .before in
+    let test = c .before .before .before .before .before .before .before .before .before .before .before .before .before .before in
+    let start = test .before .before .before .before .before .before .before in
     let a = start .args in
     let s = shaped _ _ (start .pre .0) in
     let most = sum-of-most (a .n) (a .lo) (a .hi) (start .pre .1 .0) (c .before .before .before .before .before .before .before .fill-box .last .1 .0) in
@@ -150,11 +153,11 @@ same-length-6 c = search needs
 
 returns-3 : tie.Need-returns-3
 returns-3 c =
-    let start = c .before .before .before .before .before .before .before .before .before .before .before .before .before .before .before .before .before .before .before .before .before in
-    let a = start .args in
     let done = c .before .before .before .before .before .before .before .before .before .before in
+    let test = done .before .before .before .before in
+    let start = test .before .before .before .before .before .before .before in
+    let a = start .args in
     let box = start .pre .1 .0 in
-    let test = c .before .before .before .before .before .before .before .before .before .before .before .before .before .before in
     let bytes = c .before .before .before .before .before .before .before .fill-box .ensures in
     let masks = rw (test .before .before .before .before .brick-of .ensures, test .before .before .before .brick-of2 .ensures) at
     (c .before .before .fill-brick-box .ensures .1) in

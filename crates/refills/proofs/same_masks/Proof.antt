@@ -36,7 +36,8 @@ first c = c .index-in .ensures ∙ rw (c .before .bricks-of .ensures)
 -- the brick of a turn is there, few are, and its mask is that of its number
 turn :
     (c : tie.After-mask-of Inv-loop μ-loop) →
-    let a = c .before .before .before .before .before .before .before .before .args in let k = c .before .before .before .before .index-in .result + c .before .before .before .loop .d in
+    let a = c .before .before .before .before .before .before .before .before .args in
+    let k = c .before .before .before .before .index-in .result + c .before .before .before .loop .d in
     (k < size (bricks (a .n))) × (k < 1073741824) × (c .mask-of .result ≡ mask-at (a .n) (now (a .cells)) k)
 turn c =
     let start = c .before .before .before .before .before .before .before .before in

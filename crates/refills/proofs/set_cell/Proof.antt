@@ -118,7 +118,9 @@ with-bit-requires : tie.Need-with-bit-requires
 with-bit-requires c κs = search needs
 
 index-in-requires-2 : tie.Need-index-in-requires-2
-index-in-requires-2 c κs = let box = c .before .before .before .before .before .before .before .before .before .before .before .before .before .before .pre .1 .0 in omega (arith, box .x, box .y, box .z)
+index-in-requires-2 c κs =
+    let box = c .before .before .before .before .before .before .before .before .before .before .before .before .before .before .pre .1 .0 in
+    omega (arith, box .x, box .y, box .z)
 
 slice-write-cells : tie.Need-slice-write-cells
 slice-write-cells c =
@@ -140,7 +142,8 @@ ones-requires-2 c κs = search needs
 
 add-t26 : tie.Need-add-t26
 add-t26 c =
-    let s = shaped _ _ (c .before .before .before .before .before .before .before .before .before .before .before .before .before .before .before .before .pre .0) in
+    let start = c .before .before .before .before .before .before .before .before .before .before .before .before .before .before .before .before in
+    let s = shaped _ _ (start .pre .0) in
     omega (arith, fits (c .before .before .before .before) .1, s .size-most, c .ones2 .ensures .1)
 
 same-length-3 : tie.Need-same-length-3

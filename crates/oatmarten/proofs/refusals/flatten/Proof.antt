@@ -112,7 +112,8 @@ returns : tie.Need-returns
 returns c = named _ _ _ _ (c .before .before .r .given .1) (c .before .before .before .before .number .ensures .says) (c .at-end .ensures)
 
 returns-2 : tie.Need-returns-2
-returns-2 c = named _ _ _ _ (c .before .before .before .r2 .given .1) (c .before .before .before .before .before .number .ensures .says) (c .at-axis .ensures ∙ ap (said-at _ 0) (c .before .axis-code .ensures))
+returns-2 c = named _ _ _ _ (c .before .before .before .r2 .given .1) (c .before .before .before .before .before .number .ensures .says)
+    (c .at-axis .ensures ∙ ap (said-at _ 0) (c .before .axis-code .ensures))
 
 returns-3 : tie.Need-returns-3
 returns-3 c = named _ _ _ _ (c .before .enum-told .given .1) (c .before .before .before .number .ensures .says) (c .at-axis2 .ensures)
@@ -127,7 +128,8 @@ returns-6 : tie.Need-returns-6
 returns-6 c = named _ _ _ _ (c .before .enum-told3 .given .1) (c .before .before .before .number .ensures .says) (c .at-axis4 .ensures)
 
 returns-7 : tie.Need-returns-7
-returns-7 c = named _ _ _ _ (c .before .before .before .r4 .given .1) (c .before .before .before .before .before .number .ensures .says) (c .at-axis5 .ensures ∙ ap (said-at _ 0) (c .before .part-code .ensures))
+returns-7 c = named _ _ _ _ (c .before .before .before .r4 .given .1) (c .before .before .before .before .before .number .ensures .says)
+    (c .at-axis5 .ensures ∙ ap (said-at _ 0) (c .before .part-code .ensures))
 
 returns-8 : tie.Need-returns-8
 returns-8 c = named _ _ _ _ (c .before .before .r5 .given .1) (c .before .before .before .before .number .ensures .says) (c .at-end3 .ensures)
