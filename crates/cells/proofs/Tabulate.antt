@@ -34,7 +34,7 @@ tabulate-same f g zero same = refl
 tabulate-same f g (suc n) same = ap₂ (λ l c. l ++ (c ∷ [])) (tabulate-same f g n (λ i lt. same i (omega arith))) (same n (omega arith))
 
 -- from the first on
-tabulate-first : {A : Type 0} (f : ℕ → A) (n : ℕ) → tabulate f (suc n) ≡ f 0 ∷ tabulate (λ i. f (suc i)) n
+pub tabulate-first : {A : Type 0} (f : ℕ → A) (n : ℕ) → tabulate f (suc n) ≡ f 0 ∷ tabulate (λ i. f (suc i)) n
 tabulate-first f zero = refl
 tabulate-first f (suc n) = ap (λ l. l ++ (f (suc n) ∷ [])) (tabulate-first f n)
 

@@ -156,7 +156,7 @@ module _ (r : Preference) (p q : Cell) where
 
   -- ---- law 2
 
-  closed-cell : (k d : ℕ) (t : Steps) → InClosedSteps C k d t → InClosed p q k d (cell-of p q t)
+  pub closed-cell : (k d : ℕ) (t : Steps) → InClosedSteps C k d t → InClosed p q k d (cell-of p q t)
   closed-cell k d t h =
       record {
         from = λ a. rw (cell-on p q t a) (passed-closed (on p a) (on q a) (t a) k d (omega (arith, h .from a)) (omega (arith, h .upto a)) .0);
@@ -189,7 +189,7 @@ module _ (r : Preference) (p q : Cell) where
       let w = none-left-out C G k d t (s .some) (s .most) inside in
       (total t, omega (arith, w .0 X, w .0 Y, w .0 Z), six-is (total t) ∙ ap (cell-of p q) (sym (fun-ext (w .1))) ∙ is-c)
     where
-      passed : (a : Axis) → Passed (on p a) (on q a) (on c a) k d
+      passed : (a : Axis) → Passed (on p a) (on q a) (on c a) k d 1
       passed a = open-passed (on p a) (on q a) (on c a) k d (h .from a) (h .upto a)
 
       t : Steps

@@ -64,7 +64,7 @@ pub record Good (c : Course) : Type 0 where
   pub ranked : (a : Axis) → axis (c .rank a) ≡ a
 
 -- fractions x/D, y/E, z/F compared by products
-chain-le : (x y z D E F : ℕ) → 0 < E → x * E ≤ y * D → y * F ≤ z * E → x * F ≤ z * D
+pub chain-le : (x y z D E F : ℕ) → 0 < E → x * E ≤ y * D → y * F ≤ z * E → x * F ≤ z * D
 chain-le x y z D E F e p q =
     by-contra (x * F) (z * D) (λ n.
     omega (arith, mul-le-mul-right F p, mul-le-mul-right D q, mul-le-mul-right E n))

@@ -1,3 +1,5 @@
+pub mod Ways
+pub mod Every
 pub mod Steps
 pub mod Merge
 pub mod Fractions
@@ -6,3 +8,7 @@ pub mod Signs
 pub mod Towards
 pub mod Cells
 pub mod Mirror
+pub mod Touching
+pub mod Visits
+pub mod Touched
+pub mod Counted

@@ -132,20 +132,20 @@ module _ (p q c : ℤ) (n d s : ℕ) where
   falling : Along dn up p q → Between p q c n d s ↔ Span dn up p q c n d s
   falling w = (λ b. omega (arith, lower-gap, upper-gap, way-is w), λ b. omega (arith, lower-gap, upper-gap, way-is w))
 
--- a cell whose inside has the point lies t cells from p towards q, and the point within half a cell of it
-pub record Passed (p q c : ℤ) (n d : ℕ) : Type 0 where
+-- a cell that has the point lies t cells from p towards q, and the point within half a cell of it; s is 1 where it is inside, else 0
+pub record Passed (p q c : ℤ) (n d s : ℕ) : Type 0 where
   pub t : ℕ
   pub is : c ≡ towards p q t
-  pub from : 2 * t * d < 2 * n * apart p q + d
-  pub upto : 2 * n * apart p q < (2 * t + 1) * d
+  pub from : 2 * t * d + s ≤ 2 * n * apart p q + d
+  pub upto : 2 * n * apart p q + s ≤ (2 * t + 1) * d
 
 module _ (u v : ℤ → ℕ) (p q c : ℤ) (n d : ℕ) (w : Along u v p q) where
   -- times 2d, in the order of the way
   scaled : (t : ℕ) → u c + v p ≡ u p + v c + t → 2 * d * (u c + v p) ≡ 2 * d * (u p + v c) + 2 * t * d
   scaled t e = omega (arith, ap (λ k. 2 * d * k) e)
 
-  span-passed : Span u v p q c n d 1 → Passed p q c n d
-  span-passed b =
+  span-passed : (s : ℕ) → 0 < d + s → Span u v p q c n d s → Passed p q c n d s
+  span-passed s some b =
       let ahead : u p + v c ≤ u c + v p = by-contra (u p + v c) (u c + v p) (λ l. omega (arith, mul-le-mul-left (2 * d) l)) in
       let t : ℕ = u c + v p - (u p + v c) in
       let m = scaled t (omega arith) in
@@ -156,12 +156,20 @@ module _ (u v : ℤ → ℕ) (p q c : ℤ) (n d : ℕ) (w : Along u v p q) where
       let m = scaled t (rw e (w .steps t)) in
       record { near = omega arith; far = omega arith }
 
-pub open-passed : (p q c : ℤ) (n d : ℕ) → lower-face d c <ℤ point p q n d → point p q n d <ℤ upper-face d c → Passed p q c n d
+between-passed : (p q c : ℤ) (n d s : ℕ) → 0 < d + s → Between p q c n d s → Passed p q c n d s
+between-passed p q c n d s some b =
+    ⊎-elim (λ w. span-passed up dn p q c n d w s some (rising p q c n d s w .0 b)) (λ w. span-passed dn up p q c n d w s some (falling p q c n d s w .0 b))
+    (along p q)
+
+pub open-passed : (p q c : ℤ) (n d : ℕ) → lower-face d c <ℤ point p q n d → point p q n d <ℤ upper-face d c → Passed p q c n d 1
 open-passed p q c n d l h =
-    ⊎-elim (λ w. span-passed up dn p q c n d w (rising p q c n d 1 w .0 b)) (λ w. span-passed dn up p q c n d w (falling p q c n d 1 w .0 b)) (along p q)
-  where
-    b : Between p q c n d 1
-    b = record { lower = omega (arith, <ℤ-is (lower-face d c) (point p q n d) .0 l); upper = omega (arith, <ℤ-is (point p q n d) (upper-face d c) .0 h) }
+    between-passed p q c n d 1 (omega arith)
+    (record { lower = omega (arith, <ℤ-is (lower-face d c) (point p q n d) .0 l); upper = omega (arith, <ℤ-is (point p q n d) (upper-face d c) .0 h) })
+
+pub closed-passed : (p q c : ℤ) (n d : ℕ) → 0 < d → lower-face d c ≤ℤ point p q n d → point p q n d ≤ℤ upper-face d c → Passed p q c n d 0
+closed-passed p q c n d some l h =
+    between-passed p q c n d 0 (omega arith)
+    (record { lower = omega (arith, ≤ℤ-is (lower-face d c) (point p q n d) .0 l); upper = omega (arith, ≤ℤ-is (point p q n d) (upper-face d c) .0 h) })
 
 -- t cells from p towards q, with the point at most half a cell away, the closed cell has the point
 pub passed-closed :

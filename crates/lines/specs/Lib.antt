@@ -4,4 +4,5 @@ pub mod Preference
 pub mod Towards
 pub mod Lines
 pub mod Segment
+pub mod Touching
 pub mod Decisions
