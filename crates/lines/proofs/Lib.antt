@@ -10,5 +10,6 @@ pub mod Cells
 pub mod Mirror
 pub mod Touching
 pub mod Visits
+pub mod TieSigns
 pub mod Touched
 pub mod Counted

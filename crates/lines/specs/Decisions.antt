@@ -8,6 +8,8 @@ use Rattle.lines.specs.declared.Tripod.{Tripod}
 use Rattle.lines.specs.declared.Doubled.{Doubled}
 use Rattle.lines.specs.declared.Order.{Order}
 use Rattle.lines.specs.declared.Order.the-variants.{Yzx, Xzy}
+use Rattle.lines.specs.declared.Tie.{Tie}
+use Rattle.lines.specs.declared.Tie.the-variants.{One, Two, Three}
 use Rattle.lines.specs.Steps.{Axis, X, Y, Z, Steps}
 
 -- e_xy = B(2i+1)-A(2j+1)
@@ -60,3 +62,13 @@ raised o v = record { xy = v .xy +ℤ pos (shift o); xz = v .xz +ℤ pos (shift 
 -- the decision value of any two axes: e_xy is that of x and y, e_xz that of x and z, e_zy that of z and y
 abbrev pub decision : Steps → Steps → Axis → Axis → ℤ
 decision D t a b = pos (D b * (2 * t a + 1)) -ℤ pos (D a * (2 * t b + 1))
+
+-- SCOPE U9: the next tie by their signs and zeros. A value of 0 tells a tie only where one of its two axes comes next: e_xy is 0 too where A and B are, and
+-- where x and y tie later than z
+abbrev pub tie-by-signs : Tripod → Tie
+tie-by-signs v =
+    cond (ltZ (v .xy) (pos 0))
+    (cond (ltZ (v .xz) (pos 0)) (One X) (cond (ltZ (pos 0) (v .xz)) (One Z) (Two Z X)))
+    (cond (ltZ (v .zy) (pos 0))
+    (One Z)
+    (cond (ltZ (pos 0) (v .zy)) (cond (ltZ (pos 0) (v .xy)) (One Y) (Two Y X)) (cond (ltZ (pos 0) (v .xy)) (Two Y Z) Three)))

@@ -1,9 +1,11 @@
 -- SCOPE, U: the touching line between the centres of two cells, every cell whose closed cube meets the segment. Assumes nothing.
 use Prim.Native.Nat.{ℕ, zero, suc, _+_, _*_}
-use mathlib.Core.Bool.{Bool, cond, not, _&&_, _||_}
+use mathlib.Core.Bool.{Bool, true, false, cond, not, _&&_, _||_}
 use mathlib.Core.List.{List, [], _∷_, _++_, map}
 use lib.Dec.{ltb, leb, eqb}
 use Rattle.cells.specs.declared.Cell.{Cell}
+use Rattle.lines.specs.declared.Tie.{Tie}
+use Rattle.lines.specs.declared.Tie.the-variants.{One, Two, Three}
 use Rattle.lines.specs.Steps.{Axis, X, Y, Z, Steps, at, total}
 use Rattle.lines.specs.Crossings.{Course, upper, has-more}
 use Rattle.lines.specs.Preference.{y-z-x}
@@ -23,6 +25,20 @@ tied c t a = has-more c t a && (no-later c t a X && (no-later c t a Y && no-late
 unfoldable pub tie-steps : Course → Steps → Steps
 unfolding tied
 tie-steps c t = at (cond (tied c t X) 1 0) (cond (tied c t Y) 1 0) (cond (tied c t Z) 1 0)
+
+-- its axes by name. Where a crossing is left some axis ties, so the last case is none.
+abbrev pub tie-of : (x y z : Bool) → Tie
+tie-of false true false = One Y
+tie-of false false true = One Z
+tie-of true false false = One X
+tie-of false true true = Two Y Z
+tie-of true true false = Two Y X
+tie-of true false true = Two Z X
+tie-of true true true = Three
+tie-of false false false = Three
+
+abbrev pub next-tie : Course → Steps → Tie
+next-tie c t = tie-of (tied c t X) (tied c t Y) (tied c t Z)
 
 -- the place that so many steps further on lies
 unfoldable pub further : Steps → Steps → Steps

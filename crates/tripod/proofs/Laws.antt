@@ -6,12 +6,12 @@ use mathlib.Core.Bool.{Bool, true, false}
 use Prim.Native.Nat.{ℕ, _+_, _*_, _≤_, _<_}
 use native.Mathlib.Omega.{arith}
 use lib.IntN.{ℤ, pos, negsuc, natAbs, _+ℤ_, _-ℤ_}
-use lib.Signed.{leZ, _≤ℤ_}
+use lib.Signed.{leZ, ltZ, _≤ℤ_}
 use Rattle.cells.specs.declared.Cell.{Cell}
 use Rattle.cells.specs.Touching.{apart}
 use Rattle.cells.specs.Small.{Small}
 use Rattle.cells.proofs.Touching.{and-both}
-use Rattle.cells.proofs.Signed.{up, dn, one-sided, diff-is, abs-is, leZ-true, le-leZ, ≤ℤ-is}
+use Rattle.cells.proofs.Signed.{up, dn, one-sided, diff-is, abs-is, leZ-true, le-leZ, lt-ltZ, le-ltZ, ≤ℤ-is}
 use mir.Syntax.{w32}
 use mir.Val.{SFits, toZ, ofZ}
 use Rattle.cells.proofs.Machine.{parts-small, nat-small, nat-held, held, held-is, small-held, small-sum, small-diff}
@@ -19,13 +19,14 @@ use Rattle.lines.specs.declared.Order.{Order}
 use Rattle.lines.specs.declared.Tripod.{Tripod}
 use Rattle.lines.specs.Steps.{Axis, X, Y, Z, Steps}
 use Rattle.lines.specs.Lines.{longest, place-26, differences, in-limit, InLimit}
-use Rattle.lines.specs.Decisions.{decision, values, doubled, by-signs, shift, lowered}
+use Rattle.lines.specs.Decisions.{decision, values, doubled, by-signs, tie-by-signs, shift, lowered}
 use Rattle.lines.proofs.Cells.{limited-difference}
 use Rattle.lines.proofs.Centres.{longest-most, moved-grows, moved-by-one, moved-longest}
 use Rattle.lines.proofs.Signs.{figure-6-is-next, shift-most, stays-small, first-longest, second-longest}
+use Rattle.lines.proofs.TieSigns.{tie-by-signs-is}
 use Rattle.tripod.specs.declared.Diffs.{Diffs}
 use Rattle.tripod.specs.declared.Moves.{Moves}
-use Rattle.tripod.specs.Tripod.{steps, Short, SmallTripod, SmallDoubled, NextFace, LongMoves, bit, moves-on}
+use Rattle.tripod.specs.Tripod.{steps, Short, SmallTripod, SmallDoubled, NextFace, NextTie, LongMoves, bit, moves-on}
 
 -- ---- coordinates
 
@@ -210,3 +211,23 @@ sum-shift-held e n t he is most =
 pub diff-shift-held : (e : ℤ) (n t : ℕ) → Small e → n ≡ t → n ≤ 1 → held (held e -ℤ toZ w32 n) ≡ e -ℤ pos t
 diff-shift-held e n t he is most =
     held-is (held e -ℤ toZ w32 n) (diff-shift-fits e n he most) ∙ ap₂ _-ℤ_ (small-held e he) (t-held e n he most ∙ ap pos is)
+
+-- ---- a value that is read back as it is
+
+-- below 0, or not
+pub negative : (z : ℤ) → SFits w32 z → up (held z) < dn (held z) → ltZ z (pos 0) ≡ true
+negative z f h = let e = held-is z f in lt-ltZ z (pos 0) (omega (arith, ap up e, ap dn e))
+
+pub not-negative : (z : ℤ) → SFits w32 z → dn (held z) ≤ up (held z) → ltZ z (pos 0) ≡ false
+not-negative z f h = let e = held-is z f in le-ltZ z (pos 0) (omega (arith, ap up e, ap dn e))
+
+-- above 0, or not
+pub positive : (z : ℤ) → SFits w32 z → dn (held z) < up (held z) → ltZ (pos 0) z ≡ true
+positive z f h = let e = held-is z f in lt-ltZ (pos 0) z (omega (arith, ap up e, ap dn e))
+
+pub not-positive : (z : ℤ) → SFits w32 z → up (held z) ≤ dn (held z) → ltZ (pos 0) z ≡ false
+not-positive z f h = let e = held-is z f in le-ltZ (pos 0) z (omega (arith, ap up e, ap dn e))
+
+-- the tie that the signs and zeros give is the one that comes next
+pub by-signs-tie : (e : Tripod) → NextTie e (tie-by-signs e)
+by-signs-tie e = record { comes-first = λ D t wi lt is. ap tie-by-signs is ∙ tie-by-signs-is D t wi lt }

@@ -8,7 +8,9 @@ use Rattle.lines.specs.declared.Doubled.{Doubled}
 use Rattle.lines.specs.Steps.{Axis, X, Y, Z, Steps, at, total}
 use Rattle.lines.specs.Crossings.{next}
 use Rattle.lines.specs.declared.Order.{Order}
-use Rattle.lines.specs.Preference.{prefers}
+use Rattle.lines.specs.declared.Tie.{Tie}
+use Rattle.lines.specs.Preference.{prefers, y-z-x}
+use Rattle.lines.specs.Touching.{next-tie}
 use Rattle.lines.specs.Lines.{centres, longest, place-26}
 use Rattle.lines.specs.Decisions.{values, lowered}
 use Rattle.tripod.specs.declared.Diffs.{Diffs}
@@ -39,6 +41,10 @@ pub record SmallDoubled (d : Doubled) : Type 0 where
 pub record NextFace (e : Tripod) (r : Axis) : Type 0 where
   pub comes-first :
       (o : Order) (D t : Steps) → ((a : Axis) → t a ≤ D a) → total t < total D → e ≡ lowered o (values D t) → r ≡ next (centres (prefers o) D) t
+
+-- where e are the values at a place that is not the end, r is the tie that comes next
+pub record NextTie (e : Tripod) (r : Tie) : Type 0 where
+  pub comes-first : (D t : Steps) → ((a : Axis) → t a ≤ D a) → total t < total D → e ≡ values D t → r ≡ next-tie (centres y-z-x D) t
 
 -- 1 for a move, else 0
 abbrev pub bit : Bool → ℕ

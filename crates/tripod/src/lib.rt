@@ -1,4 +1,5 @@
-// The tripod: three decision values, moved by sums and tested by sign. One leaf picks the next face, one the long step; lists and walks use these.
+// The tripod: three decision values, moved by sums and tested by sign. One leaf picks the next face, one the next tie, one the long step; lists and walks
+// use these.
 // The order of the axes in a tie is in the values themselves: no test in a loop knows it.
 ghost use mathlib.Core.Path.{_≡_};
 ghost use Prim.Native.Nat.{_≤_};
@@ -7,13 +8,14 @@ ghost use Rattle.lines.specs.Steps.{at, total};
 ghost use Rattle.lines.specs.Lines.{differences, longest, in-limit, InLimit};
 ghost use Rattle.lines.specs.Preference.{below, comes-before, order-of};
 ghost use Rattle.lines.specs.Decisions.{values, doubled, moved-values, shift, lowered, raised};
-ghost use Rattle.tripod.specs.Tripod.{steps, Short, SmallTripod, SmallDoubled, NextFace, LongMoves};
+ghost use Rattle.tripod.specs.Tripod.{steps, Short, SmallTripod, SmallDoubled, NextFace, NextTie, LongMoves};
 ghost use mathlib.Core.Bool.{true};
 use cells::Axis;
 use cells::Cell;
 use cells::Rule;
 use lines::Doubled;
 use lines::Order;
+use lines::Tie;
 use lines::Tripod;
 
 // The differences of a line's ends.
@@ -208,6 +210,34 @@ pub fn next_face(e: Tripod) -> Axis
         return Axis::Z;
     }
     Axis::Y
+}
+
+// The axes of the next faces, crossed at one point: at a place that is not the end, those whose crossings come first. The values are those of figure 6.
+pub fn next_tie(e: Tripod) -> Tie
+    ensures { λ r. ⌜ NextTie e r ⌝ }
+{
+    if e.xy < 0 {
+        if e.xz < 0 {
+            return Tie::One(Axis::X);
+        }
+        if 0 < e.xz {
+            return Tie::One(Axis::Z);
+        }
+        return Tie::Two(Axis::Z, Axis::X);
+    }
+    if e.zy < 0 {
+        return Tie::One(Axis::Z);
+    }
+    if 0 < e.zy {
+        if 0 < e.xy {
+            return Tie::One(Axis::Y);
+        }
+        return Tie::Two(Axis::Y, Axis::X);
+    }
+    if 0 < e.xy {
+        return Tie::Two(Axis::Y, Axis::Z);
+    }
+    Tie::Three
 }
 
 // The decision values after a step along n.

@@ -1,33 +1,19 @@
 -- `tripod::next_face` meets its contract: each way out has the signs of figure 6, which give the next crossing. Assumes nothing.
-use mathlib.Core.Path.{_≡_, subst, ap}
-use mathlib.Core.Bool.{true, false}
-use Prim.Native.Nat.{_≤_, _<_}
-use lib.IntN.{ℤ, pos}
-use lib.Signed.{ltZ}
-use mir.Syntax.{w32}
-use mir.Val.{SFits}
+use mathlib.Core.Path.{_≡_, subst}
 use borrow.Author.Needs.{needs}
 use native.Mathlib.Omega.{arith}
-use Rattle.cells.proofs.Signed.{up, dn, leZ-true, leZ-false, ltZ-true, ltZ-false, lt-ltZ, le-ltZ}
-use Rattle.cells.proofs.Machine.{held, held-is}
+use Rattle.cells.proofs.Signed.{leZ-true, leZ-false, ltZ-true, ltZ-false}
 use Rattle.lines.specs.Steps.{Axis, X, Y, Z}
 use Rattle.lines.specs.declared.Tripod.{Tripod}
 use Rattle.lines.specs.Decisions.{by-signs}
 use Rattle.tripod.specs.Tripod.{NextFace}
-use Rattle.tripod.proofs.Laws.{by-signs-next}
+use Rattle.tripod.proofs.Laws.{by-signs-next, negative, not-negative}
 use Rattle.tripod.proofs.next_face.Statement.{statement}
 use Rattle.tripod.proofs.next_face.Tie as tie
 
 -- what the signs give is what the contract asks
 by : (e : Tripod) (r : Axis) → by-signs e ≡ r → NextFace e r
 by e r h = subst (NextFace e) h (by-signs-next e)
-
--- a value that is read back as it is: below 0, or not
-negative : (z : ℤ) → SFits w32 z → up (held z) < dn (held z) → ltZ z (pos 0) ≡ true
-negative z f h = let e = held-is z f in lt-ltZ z (pos 0) (omega (arith, ap up e, ap dn e))
-
-not-negative : (z : ℤ) → SFits w32 z → dn (held z) ≤ up (held z) → ltZ z (pos 0) ≡ false
-not-negative z f h = let e = held-is z f in le-ltZ z (pos 0) (omega (arith, ap up e, ap dn e))
 
 returns : tie.Need-returns
 returns c =
