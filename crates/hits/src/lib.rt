@@ -57,7 +57,7 @@ pub struct Reach {
 }
 
 // Whether a byte is solid.
-fn is_solid(byte: u8) -> bool
+pub fn is_solid(byte: u8) -> bool
     ensures { λ r. ⌜ r ≡ solid byte ⌝ }
 {
     1 < byte

@@ -7,7 +7,7 @@ use Prim.Native.Nat.{ℕ, zero, suc, _+_, _-_, _≤_, _<_}
 use native.Mathlib.Omega.{arith, by-contra, both-ways}
 use native.Mathlib.Nat.{eq-or-lt-of-le}
 use Rattle.lines.specs.Steps.{Axis, X, Y, Z, Steps, total, same, after-steps}
-use Rattle.lines.proofs.Steps.{Cmp, here, other, cmp, same-self, lt-or-ge, bump, walk-start, walk-suc, walk-total, total-lt, open-axis}
+use Rattle.lines.proofs.Steps.{Cmp, here, other, cmp, same-self, lt-or-ge, bump, bump-within, walk-start, walk-suc, walk-total, total-lt, open-axis}
 
 pub record Laws (N : Steps) (B : Axis → ℕ → Axis → ℕ → Type 0) : Type 0 where
   pub trans : {a b c : Axis} {i j k : ℕ} → i < N a → j < N b → k < N c → B a i b j → B b j c k → B a i c k
@@ -86,10 +86,6 @@ module _ (N : Steps) (B : Axis → ℕ → Axis → ℕ → Type 0) (laws : Laws
   unfolding OnLine
   end-on a b i j p q r = absurd (omega arith)
 
-  step-within : (t : Steps) (n : Axis) {a : Axis} → t n < N n → Cmp n a → t a ≤ N a → bump t n a ≤ N a
-  step-within t n h here le = omega (arith, same-self n)
-  step-within t n h (other e f) le = omega arith
-
   pub walk-on : (next : Steps → Axis) → Choice N B next → (n : ℕ) → n ≤ total N → OnLine N B (after-steps next n) × Within N (after-steps next n)
   unfolding Choice Next
   walk-on next rule zero le = (start-on (after-steps next 0) (walk-start next), λ a. omega (arith, walk-start next a))
@@ -97,7 +93,7 @@ module _ (N : Steps) (B : Axis → ℕ → Axis → ℕ → Type 0) (laws : Laws
       let t : Steps = after-steps next n in
       let (on, wi) = walk-on next rule n (omega arith) in
       let nx : Next N B t (next t) = rule t wi (omega (arith, walk-total next n)) in
-      rw (walk-suc next n) (step-on t (next t) on nx, λ a. step-within t (next t) (nx .0) (cmp (next t) a) (wi a))
+      rw (walk-suc next n) (step-on t (next t) on nx, bump-within N t (next t) (nx .0) wi)
 
   -- used everywhere: a place on the line is the walk's, after as many steps as it has crossings
   pub reached : (next : Steps → Axis) → Choice N B next → (t : Steps) → Within N t → OnLine N B t → (a : Axis) → t a ≡ after-steps next (total t) a

@@ -34,6 +34,14 @@ lt-or-ge i k = elim (decLt i k) [ yes h ↦ inl h | no h ↦ inr (omega arith) ]
 abbrev pub bump : Steps → Axis → Steps
 bump t n a = t a + same n a
 
+-- it stays within what it is within, where a step is left
+pub bump-within : (N t : Steps) (n : Axis) → t n < N n → ((a : Axis) → t a ≤ N a) → (a : Axis) → bump t n a ≤ N a
+bump-within N t n h le a = go (cmp n a) (le a)
+  where
+    go : {a : Axis} → Cmp n a → t a ≤ N a → bump t n a ≤ N a
+    go here le = omega (arith, same-self n)
+    go (other e f) le = omega arith
+
 pub stepped-bump : (t : Steps) (n : Axis) → stepped t n ≡ bump t n
 unfolding stepped
 stepped-bump t n = fun-ext at-axis

@@ -2,7 +2,7 @@
 -- comes to them; so it has every cell of the 6-line, whatever the order of preference. Assumes nothing.
 use mathlib.Core.Path.{_≡_, refl, sym, ap, ap₂, _∙_, subst}
 use mathlib.Core.Logic.{⊎-elim}
-use mathlib.Core.List.{List, map}
+use mathlib.Core.List.{_∷_, map}
 use Prim.Native.Nat.{ℕ, _+_, _*_, _≤_, _<_}
 use native.Mathlib.Omega.{arith, by-contra, both-ways}
 use lib.ListN.{length, getD, length-map, List·getD-map}
@@ -13,7 +13,7 @@ use Rattle.lines.specs.Crossings.{Course}
 use Rattle.lines.specs.Preference.{Preference, y-z-x}
 use Rattle.lines.specs.Lines.{differences, cell-of, centres, six-cell}
 use Rattle.lines.specs.Segment.{Share, InClosed}
-use Rattle.lines.specs.Touching.{Visit, visits, visited, visit-cell, crossings, touching-line, visit-upper, visit-lower}
+use Rattle.lines.specs.Touching.{Visit, visits-from, visits, visited, visit-cell, crossings, touching-line, visit-upper, visit-lower}
 use Rattle.lines.proofs.Steps.{lt-or-ge}
 use Rattle.lines.proofs.Fractions.{Good, InClosedSteps}
 use Rattle.lines.proofs.Centres.{centres-good}
@@ -47,6 +47,11 @@ module _ (p q : Cell) where
   pub touching-is : touching-line p q ≡ map (visit-cell p q) (visits C)
   unfolding touching-line
   touching-is = refl
+
+  -- P, and the cells of the ties
+  pub touching-parts : touching-line p q ≡ p ∷ map (visit-cell p q) (visits-from C (total D) (at 0 0 0))
+  unfolding visits
+  touching-parts = touching-is ∙ ap (λ c. c ∷ map (visit-cell p q) (visits-from C (total D) (at 0 0 0))) start-cell
 
   pub touching-length : length (touching-line p q) ≡ length (visits C)
   touching-length = ap length touching-is ∙ length-map (visits C) (visit-cell p q)

@@ -63,7 +63,7 @@ raised o v = record { xy = v .xy +ℤ pos (shift o); xz = v .xz +ℤ pos (shift 
 abbrev pub decision : Steps → Steps → Axis → Axis → ℤ
 decision D t a b = pos (D b * (2 * t a + 1)) -ℤ pos (D a * (2 * t b + 1))
 
--- SCOPE U9: the next tie by their signs and zeros. A value of 0 tells a tie only where one of its two axes comes next: e_xy is 0 too where A and B are, and
+-- SCOPE M9: the next tie by their signs and zeros. A value of 0 tells a tie only where one of its two axes comes next: e_xy is 0 too where A and B are, and
 -- where x and y tie later than z
 abbrev pub tie-by-signs : Tripod → Tie
 tie-by-signs v =

@@ -1,4 +1,4 @@
--- SCOPE, U: the touching line between the centres of two cells, every cell whose closed cube meets the segment. Assumes nothing.
+-- SCOPE, M: the touching line between the centres of two cells, every cell whose closed cube meets the segment. Assumes nothing.
 use Prim.Native.Nat.{ℕ, zero, suc, _+_, _*_}
 use mathlib.Core.Bool.{Bool, true, false, cond, not, _&&_, _||_}
 use mathlib.Core.List.{List, [], _∷_, _++_, map}
@@ -17,7 +17,7 @@ use Rattle.lines.specs.Lines.{differences, cell-of, centres}
 abbrev pub no-later : Course → Steps → (a b : Axis) → Bool
 no-later c t a b = not (has-more c t b) || leb (upper c a (t a) * c .lower b) (upper c b (t b) * c .lower a)
 
--- SCOPE U2: the next crossing of a is one of the next tie, which may be of one axis, of two or of three: no axis has one left at a smaller fraction
+-- SCOPE M2: the next crossing of a is one of the next tie, which may be of one axis, of two or of three: no axis has one left at a smaller fraction
 unfoldable pub tied : Course → Steps → Axis → Bool
 tied c t a = has-more c t a && (no-later c t a X && (no-later c t a Y && no-later c t a Z))
 
@@ -46,7 +46,7 @@ further t s = at (t X + s X) (t Y + s Y) (t Z + s Z)
 
 -- ---- the cells of a tie
 
--- SCOPE U3: by one step, then by two, then by three; among equals y before z before x: y, z, x, yz, yx, zx, yzx
+-- SCOPE M3: by one step, then by two, then by three; among equals y before z before x: y, z, x, yz, yx, zx, yzx
 abbrev pub ways : List Steps
 ways = at 0 1 0 ∷ at 0 0 1 ∷ at 1 0 0 ∷ at 0 1 1 ∷ at 1 1 0 ∷ at 1 0 1 ∷ at 1 1 1 ∷ []
 
@@ -64,7 +64,7 @@ abbrev pub visits-by : (t e : Steps) → List Steps → List Visit
 visits-by t e [] = []
 visits-by t e (s ∷ l) = cond (among s e) (record { from = t; by = s } ∷ visits-by t e l) (visits-by t e l)
 
--- SCOPE U1, U3: the cells of so many ties, one tie after the other, from t on
+-- SCOPE M1, M3: the cells of so many ties, one tie after the other, from t on
 unfoldable pub visits-from : Course → (ties : ℕ) → Steps → List Visit
 unfolding tie-steps further
 visits-from c zero t = []
@@ -88,14 +88,14 @@ visit-cell p q v = cell-of p q (visited v)
 abbrev pub crossings : Cell → Cell → Course
 crossings p q = centres y-z-x (differences p q)
 
--- SCOPE U1
+-- SCOPE M1
 unfoldable pub touching-line : Cell → Cell → List Cell
 unfolding visits further
 touching-line p q = map (visit-cell p q) (visits (crossings p q))
 
 -- ---- the crossing by which a cell is reached
 
--- SCOPE U6: the first axis, in the order y, z, x, among some steps
+-- SCOPE M6: the first axis, in the order y, z, x, among some steps
 abbrev pub first-axis : Steps → Axis
 first-axis s = cond (ltb 0 (s Y)) Y (cond (ltb 0 (s Z)) Z X)
 

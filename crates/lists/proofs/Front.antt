@@ -33,7 +33,7 @@ pub numbers-length : (l : List Cell) → length (numbers l) ≡ 3 * length l
 numbers-length [] = refl
 numbers-length (c ∷ l) = omega (arith, numbers-length l)
 
-numbers-append : (l k : List Cell) → numbers (l ++ k) ≡ numbers l ++ numbers k
+pub numbers-append : (l k : List Cell) → numbers (l ++ k) ≡ numbers l ++ numbers k
 numbers-append [] k = refl
 numbers-append (c ∷ l) k = ap (λ m. c .x ∷ c .y ∷ c .z ∷ m) (numbers-append l k)
 
@@ -42,7 +42,7 @@ abbrev pub front : (ℕ → Cell) → ℕ → List ℤ → List ℤ
 front f m entry = numbers (tabulate f m) ++ drop (3 * m) entry
 
 -- a cell stored where the front ends lengthens the front
-put-after : (F d : List ℤ) (n : ℕ) (c : Cell) → length F ≡ n → n + 3 ≤ length d → put3 (F ++ drop n d) n c ≡ (F ++ numbers (c ∷ [])) ++ drop (n + 3) d
+pub put-after : (F d : List ℤ) (n : ℕ) (c : Cell) → length F ≡ n → n + 3 ≤ length d → put3 (F ++ drop n d) n c ≡ (F ++ numbers (c ∷ [])) ++ drop (n + 3) d
 put-after F d n c e h =
     rw (add-one n, add-two n)
     (sets-eq (numbers (c ∷ [])) (F ++ drop n d) n (omega (arith, length-append F (drop n d), length-drop n d))

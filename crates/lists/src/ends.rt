@@ -33,7 +33,7 @@ fn check_end(e: End, c: Cell) -> Verdict
 }
 
 // Both ends, P before Q.
-pub(crate) fn check_ends(p: Cell, q: Cell) -> Verdict
+pub fn check_ends(p: Cell, q: Cell) -> Verdict
     ensures { λ r. ⌜ r ≡ ends-check p q ⌝ }
 {
     match check_end(End::P, p) {

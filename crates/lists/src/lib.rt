@@ -10,7 +10,14 @@ mod twenty_six;
 
 use cells::Cell;
 use cells::Refusal;
+pub use ends::check_ends;
+pub use six::Heading;
+pub use six::SixSpot;
+pub use six::SixWay;
+pub use six::crossed;
+pub use six::first_spot;
 pub use six::line6;
+pub use six::six_way_of;
 pub use twenty_six::line26;
 
 // The number of cells listed, or why none are.
@@ -20,7 +27,7 @@ pub enum Listed {
 }
 
 // A cell's three numbers, from the place `at` of the slice on.
-pub(crate) fn put(out: &mut [i32], at: usize, c: Cell)
+pub fn put(out: &mut [i32], at: usize, c: Cell)
     requires { ⌜ at + 3 ≤ length (now out) ⌝ }
     ensures { λ _. ⌜ now (out .exit) ≡ put3 (now (out .entry)) at c ⌝ }
 {

@@ -41,7 +41,7 @@ pub struct SixSpot {
 }
 
 // The way from p to q.
-fn six_way_of(p: Cell, q: Cell, d: Diffs) -> SixWay
+pub fn six_way_of(p: Cell, q: Cell, d: Diffs) -> SixWay
     requires { ⌜ InLimit p × InLimit q × (steps d ≡ differences p q) × Short d ⌝ }
     ensures { λ r. ⌜ SixWayOf p q r ⌝ }
 {
@@ -57,7 +57,7 @@ fn six_way_of(p: Cell, q: Cell, d: Diffs) -> SixWay
 }
 
 // The spot of P, ties by a rule.
-fn first_spot(p: Cell, q: Cell, d: Diffs, rule: Rule) -> SixSpot
+pub fn first_spot(p: Cell, q: Cell, d: Diffs, rule: Rule) -> SixSpot
     requires { ⌜ Measured p q d ⌝ }
     ensures { λ r. ⌜ SixSpotAt (order-of rule p q) p q (at 0 0 0) r ⌝ }
 {
@@ -93,7 +93,7 @@ fn next_cell(c: Cell, h: Heading, n: Axis) -> Cell
 }
 
 // The place across the next face along n.
-fn crossed(s: SixSpot, w: SixWay, n: Axis) -> SixSpot
+pub fn crossed(s: SixSpot, w: SixWay, n: Axis) -> SixSpot
     requires { ⌜ CanCrossSix s w ⌝ }
     ensures { λ r. ⌜ r ≡ crossed-six w n s ⌝ }
 {

@@ -1,0 +1,4 @@
+pub mod Group
+pub mod Passage
+pub mod Counting
+pub mod Filling

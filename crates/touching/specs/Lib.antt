@@ -1,0 +1,4 @@
+pub mod Touching
+pub mod Passing
+pub mod Listing
+pub mod Looking
