@@ -34,14 +34,14 @@ module _ (p q : Cell) where
   abbrev G : Good C
   G = centres-good y-z-x D
 
-  abbrev start : Visit
+  abbrev pub start : Visit
   start = record { from = at 0 0 0; by = at 0 0 0 }
 
   -- visit number i
   abbrev pub visit : ℕ → Visit
   visit i = getD (visits C) i start
 
-  start-cell : visit-cell p q start ≡ p
+  pub start-cell : visit-cell p q start ≡ p
   start-cell = cell-start p q (visited start) (λ a. omega (arith, further-on (at 0 0 0) (at 0 0 0) a, at-even 0 a))
 
   pub touching-is : touching-line p q ≡ map (visit-cell p q) (visits C)

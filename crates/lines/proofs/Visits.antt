@@ -69,7 +69,7 @@ module _ (c : Course) (good : Good c) where
     pub some : 0 < total (v .by)
     pub among : (a : Axis) → v .by a ≤ tie-steps c (v .from) a
 
-  at-tie : (u : Steps) → Full u → (v : Visit) → LeadsFrom u (tie-steps c u) v → Visiting u v
+  pub at-tie : (u : Steps) → Full u → (v : Visit) → LeadsFrom u (tie-steps c u) v → Visiting u v
   at-tie u full v h =
       record {
         least = λ a. omega (arith, on (h .from) a);

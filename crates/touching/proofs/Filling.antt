@@ -90,7 +90,7 @@ module _ (p q : Cell) (w : SixWay) (way : SixWayOf p q w) where
     pub stored : put-cells out (3 * count) (map (visit-cell p q) rest) ≡ end
 
   abbrev pub Filling : List ℤ → List ℤ → SixSpot → ℕ → ℕ → Type 0
-  Filling end out s m count = AtTie D SpotAt (crossed-six w) spot-step (Coming end out count) s m
+  Filling end out s m count = AtTie D SpotAt (crossed-six w) spot-step (λ t. Coming end out count) s m
 
   pub filling-start : (out : List ℤ) (s : SixSpot) → SixSpotAt Yzx p q (at 0 0 0) s →
       Filling (put-cells out 3 (map (visit-cell p q) (visits-from (crossings p q) (total D) (at 0 0 0)))) out s 0 1
@@ -113,7 +113,7 @@ module _ (p q : Cell) (w : SixWay) (way : SixWayOf p q w) where
     pub filling-end : total D ≤ m → (out ≡ end) × (count ≡ length (visits (crossings p q)))
     unfolding put-cells
     filling-end le =
-        let k = at-end D SpotAt (crossed-six w) spot-step (Coming end out count) s m h le .0 in
+        let k = at-end D SpotAt (crossed-six w) spot-step (λ t. Coming end out count) s m h le in
         (k .stored, omega (arith, k .left))
 
     module _ (lt : m < total D) where
@@ -155,7 +155,7 @@ module _ (p q : Cell) (w : SixWay) (way : SixWayOf p q w) where
           -- the cells of the tie are among those that are left
           room-for : (tie : Tie) → tie ≡ next-tie (crossings p q) (h .t) → 3 * count + 3 * tie-size tie ≤ length out
           room-for tie is =
-              let (more, e) = rest-is D SpotAt (crossed-six w) spot-step (Coming end out count) s m h lt in
+              let (more, e) = rest-is D SpotAt (crossed-six w) spot-step (λ t. Coming end out count) s m h lt in
               omega (arith, h .rest .left, ap length e, length-append here more, size tie is)
 
       pub filling-next : (r : PastCells) (exit : List ℤ) → Put out (3 * count) w s r exit → Filling end exit (r .spot) (m + r .faces) (count + r .cells)
@@ -164,7 +164,7 @@ module _ (p q : Cell) (w : SixWay) (way : SixWayOf p q w) where
           let many : length here ≡ r .cells = size (c .tie) is ∙ sym (c .cells) in
           let next : 3 * count + 3 * length (map (visit-cell p q) here) ≡ 3 * (count + r .cells) = omega (arith, length-map here (visit-cell p q)) in
           rw (c .spot, c .faces)
-          (at-next D SpotAt (crossed-six w) spot-step (Coming end out count) (Coming end exit (count + r .cells)) s m h lt (c .tie) is
+          (at-next D SpotAt (crossed-six w) spot-step (λ t. Coming end out count) (λ t. Coming end exit (count + r .cells)) s m h lt (c .tie) is
           (λ more k.
           record {
             left = omega (arith, k .left, length-append here more);

@@ -26,7 +26,6 @@ pub data Together {A B : Type 0} (R : A → B → Type 0) : List A → List B �
 -- where what is moved belongs to a place, by R, and a step along an axis that has a crossing left takes it to the next place
 module _ {S : Type 0} (D : Steps) (R : Steps → S → Type 0) (go : Axis → S → S)
     (step : (t : Steps) (s : S) (n : Axis) → R t s → t n < D n → R (bump t n) (go n s)) where
-
   -- at the same place
   lands : (t w u : Steps) {s : S} → u X ≡ t X + w X → u Y ≡ t Y + w Y → u Z ≡ t Z + w Z → R u s → R (further t w) s
   lands t w u {s} x y z r = subst (λ v. R v s) (by-axis u (further t w) at-axis) r
@@ -105,8 +104,7 @@ module _ {S : Type 0} (D : Steps) (R : Steps → S → Type 0) (go : Axis → S 
         let hx : t X < D X = omega arith in
         let hy : t Y < D Y = omega arith in
         let hz : t Z < D Z = omega arith in
-        let h = by-yzx hy hz hx in
-        (
+        let h = by-yzx hy hz hx in (
           both (by-y hy) (both (by-z hz) (both (by-x hx) (both (by-yz hy hz) (both (by-yx hy hx) (both (by-zx hz hx) (both h neither)))))),
           h,
         )
@@ -167,7 +165,7 @@ module _ (c : Course) (good : Good c) (t : Steps) (wi : Within (c .count) t) (lt
   tie-counts = size-by (tied c t X) (tied c t Y) (tied c t Z) (some-tie c good t wi lt)
 
 -- at least one face, at most three, and no more than seven cells for three
-pub tie-few : (tie : Tie) → (1 ≤ tie-faces tie) × (tie-size tie ≤ 7 * tie-faces tie) × (1 ≤ tie-size tie)
-tie-few (One n) = (omega arith, omega arith, omega arith)
-tie-few (Two a b) = (omega arith, omega arith, omega arith)
-tie-few Three = (omega arith, omega arith, omega arith)
+pub tie-few : (tie : Tie) → (1 ≤ tie-faces tie) × (tie-size tie ≤ 7 * tie-faces tie) × (1 ≤ tie-size tie) × (tie-size tie ≤ 7)
+tie-few (One n) = (omega arith, omega arith, omega arith, omega arith)
+tie-few (Two a b) = (omega arith, omega arith, omega arith, omega arith)
+tie-few Three = (omega arith, omega arith, omega arith, omega arith)

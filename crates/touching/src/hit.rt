@@ -1,11 +1,14 @@
 // The first hit along the touching line.
 ghost use mathlib.Core.Path.{_≡_};
+ghost use mathlib.Core.Bool.{_&&_};
 ghost use mathlib.Core.List.{[], _∷_};
 ghost use lib.ListN.{length};
 ghost use Rattle.lines.specs.declared.Tie.the-variants.{Two, Three};
 ghost use Rattle.lines.specs.Steps.{at};
 ghost use Rattle.lines.specs.declared.Order.the-variants.{Yzx};
-ghost use Rattle.routes.specs.Route.{Planned, SpotAt, crossed-spot};
+ghost use Rattle.cells.specs.Manners.{is-tested};
+ghost use Rattle.grids.specs.Grid.{solid};
+ghost use Rattle.routes.specs.Route.{Planned, SpotAt, HasByte, byte-of-spot, crossed-spot};
 ghost use Rattle.touching.specs.Touching.{FindsTouching};
 ghost use Rattle.touching.specs.Passing.{of-tie};
 ghost use Rattle.touching.specs.Looking.{looked, CanLook, CanLookTie, CanTurn, Turned, told-from, found-along, WalksTies, StopsTouching};
@@ -136,11 +139,28 @@ fn walk_ties(cells: &[u8], k: Route, start: Spot) -> Stop
         s = turn.spot;
         reads = turn.reads;
         if turn.hit {
-            return Stop { spot: s, reads: reads };
+            return Stop {
+                spot: s,
+                reads: reads,
+            };
         }
         m += t.faces;
     }
-    Stop { spot: s, reads: reads }
+    Stop {
+        spot: s,
+        reads: reads,
+    }
+}
+
+// Whether P is the hit: it is tested, and the byte there is solid.
+fn starts_solid(cells: &[u8], s: Spot, how: Manner) -> bool
+    requires { ⌜ HasByte (length (now cells)) (s .at) ⌝ }
+    ensures { λ r. ⌜ r ≡ (is-tested (how .start) && solid (byte-of-spot (now (cells .entry)) s)) ⌝ }
+{
+    if how.tests_start() {
+        return hits::is_solid(routes::byte_at(cells, s));
+    }
+    false
 }
 
 // The walk: P, where it is tested, then the ties.
@@ -148,13 +168,11 @@ fn walk_touching(cells: &[u8], k: Route, start: Spot, how: Manner) -> Stop
     requires { ⌜ Planned (length (now cells)) k × (k .order ≡ Yzx) × SpotAt k (at 0 0 0) start ⌝ }
     ensures { λ r. ⌜ StopsTouching (how .start) (now (cells .entry)) k r ⌝ }
 {
-    if how.tests_start() {
-        if hits::is_solid(routes::byte_at(cells, start)) {
-            return Stop {
-                spot: start,
-                reads: 1,
-            };
-        }
+    if starts_solid(cells, start, how) {
+        return Stop {
+            spot: start,
+            reads: 1,
+        };
     }
     walk_ties(cells, k, start)
 }

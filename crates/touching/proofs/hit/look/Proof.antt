@@ -1,26 +1,25 @@
+-- `touching::hit::look` meets its contract: the test of one byte. Assumes nothing.
+use mathlib.Core.Path.{ap, _∙_}
+use Prim.Native.Nat.{_+_}
 use borrow.Author.Needs.{needs}
+use Rattle.grids.specs.Grid.{solid}
+use Rattle.touching.proofs.Looks.{look-one}
 use Rattle.touching.proofs.hit.look.Statement.{statement}
 use Rattle.touching.proofs.hit.look.Tie as tie
-use Rattle.touching.proofs.hit.look.Reads as reads
-use Rattle.touching.proofs.hit.look.Lts as lts
-use Rattle.hits.proofs.is_solid.Reads as is-solid-reads
-use Rattle.routes.proofs.byte_at.Reads as byte-at-reads
 
--- src/hit.rt:38:30
 byte-at-requires : tie.Need-byte-at-requires
 byte-at-requires c κs = search needs
 
--- src/hit.rt:38:9
 is-solid-requires : tie.Need-is-solid-requires
 is-solid-requires c κs = search needs
 
--- src/hit.rt:41:16
 add-t6 : tie.Need-add-t6
 add-t6 c = search needs
 
--- src/hit.rt:34:1
 returns : tie.Need-returns
-returns c = ?
+returns c =
+    let a = c .before .before .before .args in
+    ap (λ b. record { spot = a .s; reads = a .reads + 1; hit = b }) (c .is-solid .ensures ∙ ap solid (c .before .byte-at .ensures)) ∙ look-one (a .s) (a .reads) _
 
 pub look-spec : {M : Type 1} → statement M
 look-spec = tie.close (tie.spec byte-at-requires is-solid-requires add-t6 returns)

@@ -62,8 +62,7 @@ moved-requires-5 c κs =
 moved-requires-6 : tie.Need-moved-requires-6
 moved-requires-6 c κs =
     let t = c .before .before in
-    let s = t .before .before .before in
-    (
+    let s = t .before .before .before in (
       subst SmallTripod (sym (c .moved5 .ensures ∙ ap (moved-values (s .args .twice) Z) (c .before .moved4 .ensures))) (s .pre .fits _ (three t) .3),
       s .pre .small,
     )
