@@ -1,4 +1,4 @@
-/* Oatmarten: exact sight lines through a voxel grid. The C interface, revision 7 (OAT_REVISION).
+/* Oatmarten: exact sight lines through a voxel grid. The C interface, revision 8 (OAT_REVISION).
 
    Link with liboatmarten.a (x86-64 Linux). docs/C.md has a whole program, docs/SCOPE.md the exact rules, docs/TRUST.md says what is proved
    and what is not.
@@ -28,7 +28,7 @@ extern "C" {
 #endif
 
 /* Grows by one when a struct, a call or a number of this header changes, or what a call answers. */
-#define OAT_REVISION 7
+#define OAT_REVISION 8
 
 /* The field `refusal`, with what it names. Where more than one applies, each call below says the order of its tests; ends are looked at P
    before Q, axes in the order x, y, z. */
@@ -75,7 +75,7 @@ enum oat_face {
     OAT_FACE_MINUS_Z = -3
 };
 
-/* The field `start` of oat_manner: whether the cell where a walk starts can be what is in the way. */
+/* The field `start` of oat_manner, and the `start` of oat_touching: whether the cell where a walk starts can be what is in the way. */
 enum oat_start {
     OAT_START_UNTESTED = 0, /* it cannot: it is not tested. The default */
     OAT_START_TESTED = 1    /* it can: it is tested like any other cell. Any other number than 0 means the same */
@@ -94,6 +94,7 @@ enum oat_rule {
 #define OAT_COORDINATE_MOST 8191
 #define OAT_LINE6_ROOM 147450        /* numbers that hold any 6-line: 49,150 cells */
 #define OAT_LINE26_ROOM 49152        /* numbers that hold any 26-line: 16,384 cells */
+#define OAT_TOUCHING_ROOM 344046     /* numbers that hold any touching line: 114,682 cells */
 #define OAT_VENUE_HEAD 11            /* bytes of a venue record before its cells */
 #define OAT_PAIR_BYTES 17            /* bytes of a pair record of version 1 */
 #define OAT_PAIR_BYTES_2 18          /* bytes of a pair record of version 2, which ends with its rule */
@@ -133,7 +134,8 @@ typedef struct {
     double z;
 } oat_point;
 
-/* How a walk is made. OAT_MANNER_USUAL is the default, and can stand for the argument itself; it has an untested start, and goes by rule 1.
+/* How a walk is made; oat_touching, which knows no rule, takes a start alone, and what is said of it here holds there. OAT_MANNER_USUAL is the
+   default, and can stand for the argument itself; it has an untested start, and goes by rule 1.
    Riggers model the box of a camera as solid. The camera stands inside that box, so with a tested start every such camera would be blocked
    at once, by its own housing. With an untested start the cell p, where the walk starts, is not tested. It is still read, and counted in
    `reads`. Where it is solid it counts as near, so no long step starts there. Only p is exempt: a second cell of the box is in the way, and
@@ -234,9 +236,10 @@ typedef struct {
     int32_t y;
     int32_t z;
     uint32_t code;  /* its material code, 2 to 255 */
-    uint32_t num;   /* num/den of the way from P's centre to Q's the line enters it; not reduced; 0/1 where it is P (a tested start) */
+    uint32_t num;   /* num/den of the way from P's centre to Q's the line enters it, or comes to an edge or a corner of it (oat_touching alone);
+                       not reduced; 0/1 where it is P (a tested start) */
     uint32_t den;
-    int32_t face;   /* enum oat_face: the side by which the line enters it, at num/den of the way; OAT_FACE_NONE where it is P */
+    int32_t face;   /* enum oat_face: the side by which the line enters it, or comes to it, at num/den of the way; OAT_FACE_NONE where it is P */
     uint32_t reads; /* cells of the walk, its last included */
 } oat_hit;
 
@@ -254,8 +257,8 @@ typedef struct {
 } oat_sight_answer;
 
 /* ---- lines: refusals 12 (oat_line6 alone), 1, then 6. A, B, C are the differences of p and q in x, y, z, without sign; M is the largest.
-   By rule 2 the 6-line from q to p is the mirror of the one from p to q: the same cells, last to first. By rule 1 it need not be, as ties go
-   y, z, x both ways; nor need the 26-line, as halves go towards the end of the line */
+   By rule 2 the 6-line from q to p is the mirror of the one from p to q: the same cells, last to first. So is the touching line. By rule 1 the
+   6-line need not be, as ties go y, z, x both ways; nor need the 26-line, as halves go towards the end of the line */
 
 /* Writes the cells of the 6-line from p to q, in order, three numbers a cell (x, y, z), at the front of `out`; the rest of `out` stays.
    It has A + B + C + 1 cells. `room` is the number of numbers that `out` holds; refused 6 exactly when it is below three times the cells.
@@ -268,7 +271,18 @@ oat_listed oat_line6(oat_cell p, oat_cell q, uint32_t rule, int32_t *out, size_t
    rounded up, so towards q. */
 oat_listed oat_line26(oat_cell p, oat_cell q, int32_t *out, size_t room);
 
-/* ---- grids: refusals 2, 3, then 4 or 5; a walk's 12 before these. `bytes` is the number of bytes at `cells` */
+/* The same for the touching line, which knows no rule either: every cell that has a point of the segment between the two centres, if only on a
+   face, an edge or a corner; each once. It is for what is one cell thick and drawn from corner to corner, such as netting: through an edge a 6-line
+   goes by one of the two cells beside it, and leaves out the other. The touching line has both, and every cell of the 6-line by either rule.
+   The first cell is p; the others come in the order of the crossings. Where one face is crossed, the cell behind it comes. At a tie come, from the
+   cell before it, first the cells that one of its crossings leads to, y, z, x; then those by two of them, yz, yx, zx; then the one by all three. So
+   where two axes tie there are three cells, and where three do there are seven. From (0, 0, 0) to (1, 1, 1) it has (0, 0, 0), then (0, 1, 0),
+   (0, 0, 1), (1, 0, 0), then (0, 1, 1), (1, 1, 0), (1, 0, 1), then (1, 1, 1).
+   In all it has A + B + C + 1 cells, one more for each tie of two axes and four more for each tie of three. The longest, from one corner of the
+   limits to the opposite one, has 114,682. */
+oat_listed oat_line_touching(oat_cell p, oat_cell q, int32_t *out, size_t room);
+
+/* ---- grids: refusals 2, 3, then 4 or 5; the 12 of oat_plain and oat_adaptive before these. `bytes` is the number of bytes at `cells` */
 
 /* Marks the near cells in place: each solid byte stays; any other becomes OAT_NEAR where its cell touches a solid one, else OAT_CLEAR,
    whatever it was. */
@@ -290,6 +304,13 @@ oat_hit oat_plain(oat_counts n, const uint8_t *cells, size_t bytes, oat_cell p, 
    side by which that 6-line enters it. Where the marks are complete it gives the answer that oat_plain gives for the same `how`, with no
    more reads; where they are not, it may miss a solid cell, and never makes one up. */
 oat_hit oat_adaptive(oat_counts n, const uint8_t *cells, size_t bytes, oat_cell p, oat_cell q, oat_manner how);
+
+/* The first solid cell along the touching line from p to q, in the order of oat_line_touching. `start` is a number of enum oat_start, and says of p
+   what it says for oat_plain; there is no rule. Asks for no marks. At a tie, place and side of the hit are those of one crossing: of those that lead
+   to the cell, the first in the order y, z, x. `reads` counts the cells of the list up to the hit, and all of them where the way is clear: it may
+   read more cells than oat_plain. Where the way is clear, oat_plain with the same start is clear by either rule. With a tested start the way from q
+   to p is clear exactly where the way from p to q is. */
+oat_hit oat_touching(oat_counts n, const uint8_t *cells, size_t bytes, oat_cell p, oat_cell q, uint32_t start);
 
 /* ---- solid counts that are kept: refusals 2, 3, 6; of oat_set and oat_refill then 5, 14 (oat_refill alone), 13. `bytes` is the number of bytes at
    `cells`, `lent` that of masks at `masks`, OAT_MASKS(nx, ny, nz) or more; masks behind these stay as they are. Cells and masks must not overlap.

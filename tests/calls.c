@@ -89,13 +89,18 @@ static double take_f64(void) { return ((union { u64 bits; double value; }){take_
 /* a word that holds this value until its request lands */
 static void take_fixed(long held) { take_between(held, held); }
 
-/* the words start and rule of a walk. start is 0 tested, 1 not tested; in C 0 is not tested and every other number is tested, so each run of a
-   call that is tested has another one. rule is C's own number */
-static oat_manner take_manner(void) {
+/* the word start of a walk: 0 tested, 1 not tested. In C 0 is not tested and every other number is tested, so each run of a call that is tested has
+   another one */
+static u32 take_start(void) {
     static const u32 tested[] = {OAT_START_TESTED, 4294967295u, 2, 256, 65536, 16777216, 2147483648u, 4294967294u};
     static size next;
+    return take_between(0, 1) ? OAT_START_UNTESTED : tested[next++ % (sizeof tested / sizeof *tested)];
+}
+
+/* the words start and rule; rule is C's own number */
+static oat_manner take_manner(void) {
     oat_manner how = OAT_MANNER_USUAL;
-    if (!take_between(0, 1)) how.start = tested[next++ % (sizeof tested / sizeof *tested)];
+    how.start = take_start();
     how.rule = take_u32();
     return how;
 }
@@ -227,6 +232,13 @@ static void tw6(void) {
     say_listed(oat_line26(p, q, (i32 *)out.at, room), out);
 }
 
+static void touch(void) {
+    oat_cell p = take_cell(), q = take_cell();
+    size room = take_length();
+    slice out = lend_numbers(room, -77777);
+    say_listed(oat_line_touching(p, q, (i32 *)out.at, room), out);
+}
+
 static void mark(void) {
     grid g = lend_grid();
     take_fixed(1);
@@ -311,13 +323,7 @@ static const char *face_word(i32 face) {
     }
 }
 
-static void first_hit(oat_hit walk(oat_counts, const u8 *, size, oat_cell, oat_cell, oat_manner)) {
-    grid g = lend_grid();
-    oat_cell p = take_cell(), q = take_cell();
-    oat_manner how = take_manner();
-    only_read(g.cells);
-    oat_hit got = walk(g.n, g.cells.at, g.cells.bytes, p, q, how);
-    take_back(g.cells);
+static void say_hit(oat_hit got) {
     if (got.said.refusal) say_refused(got.said);
     else if (got.hit == 1)
         say("hit %d %d %d %u %u %u %s %u", got.x, got.y, got.z, got.code, got.num, got.den, face_word(got.face), got.reads);
@@ -328,8 +334,28 @@ static void first_hit(oat_hit walk(oat_counts, const u8 *, size, oat_cell, oat_c
     say_stray(got.said, 0);
 }
 
+static void first_hit(oat_hit walk(oat_counts, const u8 *, size, oat_cell, oat_cell, oat_manner)) {
+    grid g = lend_grid();
+    oat_cell p = take_cell(), q = take_cell();
+    oat_manner how = take_manner();
+    only_read(g.cells);
+    oat_hit got = walk(g.n, g.cells.at, g.cells.bytes, p, q, how);
+    take_back(g.cells);
+    say_hit(got);
+}
+
 static void plain(void) { first_hit(oat_plain); }
 static void adapt(void) { first_hit(oat_adaptive); }
+
+static void touchhit(void) {
+    grid g = lend_grid();
+    oat_cell p = take_cell(), q = take_cell();
+    u32 start = take_start();
+    only_read(g.cells);
+    oat_hit got = oat_touching(g.n, g.cells.at, g.cells.bytes, p, q, start);
+    take_back(g.cells);
+    say_hit(got);
+}
 
 static oat_placement take_placement(void) {
     double ox = take_f64(), oy = take_f64(), oz = take_f64(), edge = take_f64();
@@ -408,8 +434,10 @@ static void wvenue(void) {
 static const struct { const char *name; void (*run)(void); } calls[] = {
     {"six", six},
     {"tw6", tw6},
+    {"touch", touch},
     {"plain", plain},
     {"adapt", adapt},
+    {"touchhit", touchhit},
     {"mark", mark},
     {"complete", complete},
     {"layer", layer},

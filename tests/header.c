@@ -13,7 +13,7 @@
     } while (0)
 
 static uint8_t cells[9 * 8 * 7], record[OAT_VENUE_HEAD + sizeof cells + 1];
-static int32_t numbers[OAT_LINE6_ROOM];
+static int32_t numbers[OAT_TOUCHING_ROOM]; /* the longest of the lists */
 static uint64_t masks[OAT_MASKS(9, 8, 7)];
 
 int main(void) {
@@ -32,6 +32,10 @@ int main(void) {
     SHOW(oat_listed, oat_line6(p, q, OAT_RULE_1, numbers, 56));
     SHOW(oat_listed, oat_line6(p, q, OAT_RULE_2, numbers, 57));
     SHOW(oat_listed, oat_line26(p, q, numbers, 27));
+    SHOW(oat_listed, oat_line_touching(p, (oat_cell){.x = 0, .y = 0, .z = OAT_COORDINATE_MOST + 1}, numbers, 0));
+    SHOW(oat_listed, oat_line_touching((oat_cell){.x = 0, .y = OAT_COORDINATE_LEAST - 1, .z = 0}, q, numbers, 0));
+    SHOW(oat_listed, oat_line_touching(p, q, numbers, 59));
+    SHOW(oat_listed, oat_line_touching(p, q, numbers, 60));
 
     /* a number that is no rule, before everything else */
     SHOW(oat_listed, oat_line6((oat_cell){.x = OAT_COORDINATE_LEAST - 1, .y = 0, .z = 0}, q, OAT_RULE_2 + 1, numbers, 0));
@@ -83,6 +87,21 @@ int main(void) {
         how.rule = (uint32_t)1 << bit;
         SHOW(oat_hit, oat_plain(n, cells, sizeof cells, above, solid, how));
     }
+
+    /* the touching line to it: at 11/14 of the way, after a tie; then at a tie by y, from above and from below; and a cell that it has beside the tie */
+    SHOW(oat_hit, oat_touching(n, cells, sizeof cells, p, q, OAT_START_TESTED));
+    SHOW(oat_hit, oat_touching(n, cells, sizeof cells, above, solid, OAT_START_UNTESTED));
+    SHOW(oat_hit, oat_touching(n, cells, sizeof cells, below, solid, OAT_START_UNTESTED));
+    SHOW(oat_hit, oat_touching(n, cells, sizeof cells, (oat_cell){.x = 3, .y = 6, .z = 2}, (oat_cell){.x = 2, .y = 6, .z = 3}, OAT_START_TESTED));
+    SHOW(oat_hit, oat_touching(n, cells, sizeof cells, (oat_cell){.x = 3, .y = 6, .z = 3}, (oat_cell){.x = 2, .y = 6, .z = 4}, OAT_START_TESTED));
+    SHOW(oat_hit, oat_touching(n, cells, sizeof cells, (oat_cell){.x = 0, .y = 0, .z = 0}, (oat_cell){.x = 8, .y = 0, .z = 0}, OAT_START_TESTED));
+    SHOW(oat_hit, oat_touching((oat_counts){.nx = 9, .ny = OAT_COUNT_MOST + 1, .nz = 7}, cells, sizeof cells, p, q, OAT_START_TESTED));
+    SHOW(oat_hit, oat_touching(n, cells, sizeof cells - 1, p, q, OAT_START_TESTED));
+    SHOW(oat_hit, oat_touching(n, cells, sizeof cells, (oat_cell){.x = 9, .y = 0, .z = 0}, q, OAT_START_UNTESTED));
+
+    /* that cell as its start: not tested by 0; tested by any other number, here each of the 32 bits alone */
+    SHOW(oat_hit, oat_touching(n, cells, sizeof cells, solid, away, OAT_START_UNTESTED));
+    for (int bit = 0; bit < 32; bit++) SHOW(oat_hit, oat_touching(n, cells, sizeof cells, solid, away, (uint32_t)1 << bit));
 
     /* surveyed points */
     SHOW(oat_found, oat_cell_of(n, at, ball));
@@ -141,5 +160,7 @@ int main(void) {
     SHOW(oat_listed, oat_line6(least, most, OAT_RULE_1, numbers, OAT_LINE6_ROOM - 1));
     SHOW(oat_listed, oat_line26(least, most, numbers, OAT_LINE26_ROOM));
     SHOW(oat_listed, oat_line26(least, most, numbers, OAT_LINE26_ROOM - 1));
+    SHOW(oat_listed, oat_line_touching(least, most, numbers, OAT_TOUCHING_ROOM));
+    SHOW(oat_listed, oat_line_touching(most, least, numbers, OAT_TOUCHING_ROOM - 1));
     return 0;
 }
