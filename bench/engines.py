@@ -45,11 +45,19 @@ class Engine:
         """the same functions in loops of another ending"""
         return Engine(name, self.prefix, self.objects, ending)
 
+    def only(self, name, loop, call):
+        """this loop around this function, whatever loop and function are asked for"""
+        return One(name, self.prefix, self.objects, loop, call)
+
     def address(self, order, symbol):
         return ctypes.cast(self.objects[order][symbol], ctypes.c_void_p).value
 
     def has(self, loop, call):
         return all(hasattr(held, symbol) for held in self.objects for symbol in (loop + self.ending, f"{self.prefix}_{call}"))
+
+    def lacks(self, calls):
+        """those of these calls that it has no function for"""
+        return [call for call in calls if not all(hasattr(held, f"{self.prefix}_{call}") for held in self.objects)]
 
     def piece(self, order, loop, call, *words):
         """a loop, and the words that it takes: a call, and what follows"""
@@ -59,6 +67,17 @@ class Engine:
         """what a loop gives"""
         run, held = self.piece(0, loop, call, *words)
         return LOOP(run)(*held)
+
+
+class One(Engine):
+    """one function in one loop, to take turns with another one of the same words"""
+
+    def __init__(self, name, prefix, objects, loop, call):
+        super().__init__(name, prefix, objects)
+        self.loop, self.call = loop, call
+
+    def piece(self, order, loop, call, *words):
+        return super().piece(order, self.loop, self.call, *words)
 
 
 class Workshop:

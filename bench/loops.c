@@ -19,6 +19,10 @@ static uint64_t mixed(uint64_t sum, uint64_t value) { return (sum ^ value) * 0x9
 /* an answer begins with the number of its refusal */
 #define REFUSAL(answer) (*(const uint32_t *)&(answer))
 #define CELL(answer) ((uint64_t)((answer).x + 1024 * ((answer).y + 1024 * (answer).z)))
+/* a sum with what a first hit says, but for its face */
+#define WITH_HIT(sum, h)                                                                                                                  \
+    mixed(mixed(mixed(sum, REFUSAL(h) + ((uint64_t)(h).reads << 32)), (uint64_t)(h).hit << 40 | CELL(h) << 8 | (h).code),                  \
+          (uint64_t)(h).num << 32 | (h).den)
 
 /* From revision 4 on a walk takes its manner, last, and from revision 5 on that has a rule, which a 6-line takes too. Before, the start was tested, and
    ties went by rule 1: so it is in the loops that are timed against an earlier commit, and they do the same work around any header. Those with
@@ -54,9 +58,7 @@ INLINE uint64_t hits(manner how, hit_call *call, size_t rounds, SEGMENTS) {
     (void)how;
     while (rounds--) for (size_t s = 0; s < segments; s++) {
         __auto_type h = call(n, cells, (size_t)nx * ny * nz, ends[2 * s], ends[2 * s + 1] HOW);
-        sum = mixed(sum, REFUSAL(h) + ((uint64_t)h.reads << 32));
-        sum = mixed(sum, (uint64_t)h.hit << 40 | CELL(h) << 8 | h.code);
-        sum = mixed(sum, (uint64_t)h.num << 32 | h.den);
+        sum = WITH_HIT(sum, h);
     }
     return sum;
 }
@@ -191,6 +193,73 @@ uint64_t sum_line26(line26_call *call, LISTS) { return lists26(all_of, call, 1, 
 #if OAT_REVISION >= 5
 uint64_t loop_line6_rule2(line6_call *call, size_t rounds, LISTS) { return lists6(2, some_of, call, rounds, LENT); }
 uint64_t sum_line6_rule2(line6_call *call, LISTS) { return lists6(2, all_of, call, 1, LENT); }
+#endif
+
+/* The touching line and the first hit along it: from revision 8 on. The hit takes a start, and no manner; its loops take what those of other hits take. */
+#if OAT_REVISION >= 8
+typedef __typeof__(oat_touching) touching_call;
+typedef __typeof__(oat_line_touching) line_touching_call;
+
+INLINE uint64_t touches(uint32_t start, touching_call *call, size_t rounds, SEGMENTS) {
+    uint64_t sum = 0;
+    oat_counts n = {nx, ny, nz};
+    while (rounds--) for (size_t s = 0; s < segments; s++) {
+        oat_hit h = call(n, cells, (size_t)nx * ny * nz, ends[2 * s], ends[2 * s + 1], start);
+        sum = WITH_HIT(sum, h);
+    }
+    return sum;
+}
+
+INLINE uint64_t touching_faces(uint32_t start, touching_call *call, SEGMENTS) {
+    uint64_t sum = 0;
+    for (size_t s = 0; s < segments; s++)
+        sum = mixed(sum, (uint32_t)call((oat_counts){nx, ny, nz}, cells, (size_t)nx * ny * nz, ends[2 * s], ends[2 * s + 1], start).face);
+    return sum;
+}
+
+uint64_t loop_touching(touching_call *call, size_t rounds, SEGMENTS) { return touches(OAT_START_TESTED, call, rounds, GIVEN); }
+uint64_t loop_touching_untested(touching_call *call, size_t rounds, SEGMENTS) { return touches(OAT_START_UNTESTED, call, rounds, GIVEN); }
+uint64_t sum_touching_faces(touching_call *call, SEGMENTS) { return touching_faces(OAT_START_TESTED, call, GIVEN); }
+uint64_t sum_touching_faces_untested(touching_call *call, SEGMENTS) { return touching_faces(OAT_START_UNTESTED, call, GIVEN); }
+
+/* one number less than any line between ends so far apart can need: the cells have to be counted first */
+INLINE size_t scant(oat_cell p, oat_cell q) {
+    return 2 + 7 * (size_t)(__builtin_abs(p.x - q.x) + __builtin_abs(p.y - q.y) + __builtin_abs(p.z - q.z));
+}
+
+uint64_t loop_line_touching(line_touching_call *call, size_t rounds, LISTS) {
+    uint64_t sum = 0;
+    while (rounds--) for (size_t s = 0; s < segments; s++) {
+        oat_listed l = call(ends[2 * s], ends[2 * s + 1], out, room);
+        sum = some_of(sum, l.count, REFUSAL(l), out);
+    }
+    return sum;
+}
+
+/* of a refused one nothing was written */
+uint64_t loop_line_touching_scant(line_touching_call *call, size_t rounds, LISTS) {
+    uint64_t sum = 0;
+    (void)room;
+    while (rounds--) for (size_t s = 0; s < segments; s++) {
+        oat_listed l = call(ends[2 * s], ends[2 * s + 1], out, scant(ends[2 * s], ends[2 * s + 1]));
+        sum = l.count ? some_of(sum, l.count, REFUSAL(l), out) : mixed(sum, REFUSAL(l));
+    }
+    return sum;
+}
+
+/* with much room, then with exactly enough, then with a number less */
+uint64_t sum_line_touching(line_touching_call *call, LISTS) {
+    uint64_t sum = 0;
+    for (size_t s = 0; s < segments; s++) {
+        oat_listed l = call(ends[2 * s], ends[2 * s + 1], out, room);
+        sum = all_of(sum, l.count, REFUSAL(l), out);
+        oat_listed exact = call(ends[2 * s], ends[2 * s + 1], out, 3 * (size_t)l.count);
+        sum = all_of(sum, exact.count, REFUSAL(exact), out);
+        oat_listed less = call(ends[2 * s], ends[2 * s + 1], out, 3 * (size_t)l.count - 1);
+        sum = mixed(sum, less.count + ((uint64_t)REFUSAL(less) << 32));
+    }
+    return sum;
+}
 #endif
 
 uint64_t loop_mark(mark_call *call, size_t rounds, uint32_t nx, uint32_t ny, uint32_t nz, uint8_t *cells) {

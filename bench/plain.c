@@ -1,13 +1,15 @@
 /* The library's calls as plain C, to be held against it: the same algorithms written for speed, with the signatures of the header. Inputs are
    trusted, not tested, and there is room: refused calls are not timed. But masks and totals are tested, as the library does: that is most of what a
-   set does. BY(x) names the compiler's copy of x. */
+   set does. And the room of a touching line is tested, since that may take a walk of its own. BY(x) names the compiler's copy of x. */
 
 #include "../include/oatmarten.h"
 
 __typeof__(oat_line6) BY(line6);
 __typeof__(oat_line26) BY(line26);
+__typeof__(oat_line_touching) BY(line_touching);
 __typeof__(oat_plain) BY(plain);
 __typeof__(oat_adaptive) BY(adaptive);
+__typeof__(oat_touching) BY(touching);
 __typeof__(oat_sight) BY(sight);
 __typeof__(oat_mark) BY(mark);
 __typeof__(oat_complete) BY(complete);
@@ -76,6 +78,61 @@ oat_listed BY(line26)(oat_cell p, oat_cell q, int32_t *out, size_t room) {
     }
     out[0] = q.x, out[1] = q.y, out[2] = q.z;
     return (oat_listed){.count = (uint32_t)U + 1};
+}
+
+/* The next tie of the touching line, of one, two or three axes: a decision value of 0 is two axes at one point. What is done at each is named by its
+   axes; then the values move, by what each of its crossings adds. */
+#define TIE(X, Y, Z, YZ, YX, ZX, YZX)                                               \
+    do {                                                                            \
+        if (xy < 0) {                                                               \
+            if (xz < 0) { X; xy += b2, xz += c2; }                                  \
+            else if (xz) { Z; xz -= a2, zy += b2; }                                 \
+            else { ZX; xy += b2, xz += c2 - a2, zy += b2; }                         \
+        } else if (zy < 0) {                                                        \
+            Z; xz -= a2, zy += b2;                                                  \
+        } else if (zy) {                                                            \
+            if (xy) { Y; xy -= a2, zy -= c2; }                                      \
+            else { YX; xy += b2 - a2, xz += c2, zy -= c2; }                         \
+        } else {                                                                    \
+            if (xy) { YZ; xy -= a2, xz -= a2, zy += b2 - c2; }                      \
+            else { YZX; xy += b2 - a2, xz += c2 - a2, zy += b2 - c2; }              \
+        }                                                                           \
+    } while (0)
+
+/* the values at p, and what they move by */
+#define VALUES(w) int xy = w.b - w.a, xz = w.c - w.a, zy = w.b - w.c, a2 = 2 * w.a, b2 = 2 * w.b, c2 = 2 * w.c
+
+/* how many cells it has: a tie of two axes has one more than it has crossings, one of three four more */
+static uint32_t BY(touched)(way w) {
+    VALUES(w);
+    int faces = w.a + w.b + w.c, more = 0;
+    for (int left = faces; left;) TIE(left--, left--, left--, (left -= 2, more++), (left -= 2, more++), (left -= 2, more++), (left -= 3, more += 4));
+    return (uint32_t)(faces + more) + 1;
+}
+
+static inline int32_t *put(int32_t *out, int x, int y, int z) {
+    out[0] = x, out[1] = y, out[2] = z;
+    return out + 3;
+}
+
+/* No three crossings have more than seven cells: with room for so many nothing is counted. */
+oat_listed BY(line_touching)(oat_cell p, oat_cell q, int32_t *out, size_t room) {
+    way w = way_of(p, q);
+    VALUES(w);
+    int x = p.x, y = p.y, z = p.z, left = w.a + w.b + w.c;
+    if (room < 3 + 7 * (size_t)left && room < 3 * (size_t)BY(touched)(w)) return (oat_listed){.said = {.refusal = OAT_REFUSED_ROOM}};
+    int32_t *to = put(out, x, y, z);
+    while (left) {
+        int by_x = x + w.x, by_y = y + w.y, by_z = z + w.z;
+        TIE((x = by_x, left--), (y = by_y, left--), (z = by_z, left--),
+            (to = put(put(to, x, by_y, z), x, y, by_z), y = by_y, z = by_z, left -= 2),
+            (to = put(put(to, x, by_y, z), by_x, y, z), y = by_y, x = by_x, left -= 2),
+            (to = put(put(to, x, y, by_z), by_x, y, z), z = by_z, x = by_x, left -= 2),
+            (to = put(put(put(to, x, by_y, z), x, y, by_z), by_x, y, z), to = put(put(put(to, x, by_y, by_z), by_x, by_y, z), by_x, y, by_z),
+             x = by_x, y = by_y, z = by_z, left -= 3));
+        to = put(to, x, y, z);
+    }
+    return (oat_listed){.count = (uint32_t)((to - out) / 3)};
 }
 
 /* ---- first hits */
@@ -175,6 +232,31 @@ oat_hit BY(adaptive)(oat_counts n, const uint8_t *cells, size_t bytes, oat_cell 
         } while (left && *at != OAT_CLEAR);
     }
     return BY(found)(n, cells, at, p, way, tie, (uint32_t)U + more);
+}
+
+/* The touching walk, tie by tie: the cells beside the way are looked at in their order, and the walk goes on from the last one. The crossing that a hit
+   is placed by is the last one that was made to it, of equals y before z before x: so ties are turned. */
+#define LOOK(by, reads_more)                                                                                                        \
+    if (at[by] >= OAT_SOLID_LEAST) return BY(found)(n, cells, at + (by), p, w, 1, (uint32_t)(faces - left) + more + (reads_more))
+
+oat_hit BY(touching)(oat_counts n, const uint8_t *cells, size_t bytes, oat_cell p, oat_cell q, uint32_t start) {
+    (void)bytes;
+    way w = way_of(p, q);
+    VALUES(w);
+    ptrdiff_t sx = w.x, sy = w.y * (ptrdiff_t)n.nx, sz = w.z * (ptrdiff_t)n.nx * n.ny;
+    const uint8_t *at = cells + p.x + (ptrdiff_t)n.nx * (p.y + (ptrdiff_t)n.ny * p.z);
+    int faces = w.a + w.b + w.c, left = faces;
+    uint32_t more = 1; /* cells beyond one a crossing */
+    if (start != OAT_START_UNTESTED) LOOK(0, 0);
+    while (left) {
+        TIE((at += sx, left--), (at += sy, left--), (at += sz, left--),
+            LOOK(sy, 1); LOOK(sz, 2); (at += sy + sz, left -= 2, more++),
+            LOOK(sy, 1); LOOK(sx, 2); (at += sy + sx, left -= 2, more++),
+            LOOK(sz, 1); LOOK(sx, 2); (at += sz + sx, left -= 2, more++),
+            LOOK(sy, 1); LOOK(sz, 2); LOOK(sx, 3); LOOK(sy + sz, 4); LOOK(sy + sx, 5); LOOK(sz + sx, 6); (at += sy + sz + sx, left -= 3, more += 4));
+        LOOK(0, 0);
+    }
+    return (oat_hit){.reads = (uint32_t)faces + more};
 }
 
 /* points within the grid and off its far walls, so that a quotient rounded towards 0 is the cell */
