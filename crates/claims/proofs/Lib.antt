@@ -9,6 +9,7 @@ pub mod Sequences
 pub mod Story
 pub mod Starts
 pub mod Rules
+pub mod Touching
 pub mod Points
 pub mod FarWall
 pub mod Sights

@@ -30,7 +30,7 @@ use Rattle.claims.specs.Example.{at}
 use Rattle.claims.proofs.Lines.{six-line-holds, line-26-holds}
 
 -- 1 for an accepted list
-accepted : Listed → ℕ
+unfoldable pub accepted : Listed → ℕ
 accepted (Cells n) = 1
 accepted (Refused r) = 0
 
@@ -48,7 +48,7 @@ listed-once line p q entry =
 -- ---- the cells of an accepted list
 
 -- how many cells an answer says
-said : Listed → ℕ
+unfoldable pub said : Listed → ℕ
 said (Cells n) = n
 said (Refused r) = 0
 
@@ -90,7 +90,7 @@ module _ (line : List Cell) (p q : Cell) (entry exit : List ℤ) (k : ℕ) (h : 
       ap (λ m. getD (filled line entry) m (pos 0)) e ∙ getD-append-add (numbers line) (drop (3 * length line) entry) j (pos 0)
       ∙ getD-drop (3 * length line) entry j (pos 0) ∙ ap (λ m. getD entry m (pos 0)) e′
 
-  cells-at : (many : ℕ) (cell : ℕ → Cell) → length line ≡ many → ((n : ℕ) → n < many → getD line n p ≡ cell n) → CellsAt many cell entry exit k
+  pub cells-at : (many : ℕ) (cell : ℕ → Cell) → length line ≡ many → ((n : ℕ) → n < many → getD line n p ≡ cell n) → CellsAt many cell entry exit k
   cells-at many cell long is =
       record {
         all = whole ∙ long;
@@ -128,7 +128,7 @@ corners = (record { limit = λ a. low a }, record { limit = λ a. high a })
     high Z = refl
 
 -- three numbers for each cell
-longest : (line : Cell → Cell → List Cell) (cells : ℕ) →
+pub longest : (line : Cell → Cell → List Cell) (cells : ℕ) →
     ((p q : Cell) → InLimit p → InLimit q → length (line p q) ≤ cells) → length (line lowest highest) ≡ cells → Longest line cells (3 * cells)
 longest line cells most reached =
     record {

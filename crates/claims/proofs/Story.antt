@@ -60,7 +60,7 @@ use Rattle.claims.specs.Example.{at, example-counts, marked-cells}
 use Rattle.claims.proofs.Grids.{says-complete}
 
 -- what an answer carries
-hit-or : Hit → FirstHit → Hit
+unfoldable pub hit-or : Hit → FirstHit → Hit
 hit-or k (FirstHit.Hit h) = h
 hit-or k (FirstHit.Clear r) = k
 hit-or k (FirstHit.Refused r) = k

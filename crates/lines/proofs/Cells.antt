@@ -163,20 +163,26 @@ module _ (r : Preference) (p q : Cell) where
         upto = λ a. rw (cell-on p q t a) (passed-closed (on p a) (on q a) (t a) k d (omega (arith, h .from a)) (omega (arith, h .upto a)) .1);
       }
 
-  pub six-touched : (n : ℕ) → n ≤ total D → (k : ℕ) × (d : ℕ) × Share k d × InClosed p q k d (six-cell r p q n)
+  -- cell suc n is touched at the crossing by which it is entered
+  pub six-entered : (n : ℕ) → n < total D →
+      let a : Axis = next C (place C n) in
+      Share (upper C a (place C n a)) (2 * D a) × InClosed p q (upper C a (place C n a)) (2 * D a) (six-cell r p q (suc n))
   unfolding Choice Next
-  six-touched zero le =
-      (0, 1, record { some = omega arith; most = omega arith }, rw (six-is 0) (closed-cell 0 1 (place C 0) (start-touched C G 1 (place C 0) (place-start C))))
-  six-touched (suc n) le =
+  six-entered n lt =
       let t = place C n in
       let a = next C t in
       let (on-line, wi) = place-on C G n (omega arith) in
       let nx : Next D (Before C) t a = next-rule C G t wi (omega (arith, place-total C n)) in (
-        upper C a (t a),
-        2 * D a,
         record { some = omega (arith, nx .0); most = omega (arith, nx .0) },
         rw (six-is (suc n), place-suc C n) (closed-cell (upper C a (t a)) (2 * D a) (bump t a) (entered-touched C G t a wi on-line nx)),
       )
+
+  pub six-touched : (n : ℕ) → n ≤ total D → (k : ℕ) × (d : ℕ) × Share k d × InClosed p q k d (six-cell r p q n)
+  six-touched zero le =
+      (0, 1, record { some = omega arith; most = omega arith }, rw (six-is 0) (closed-cell 0 1 (place C 0) (start-touched C G 1 (place C 0) (place-start C))))
+  six-touched (suc n) le =
+      let (share, there) = six-entered n (omega arith) in
+      (upper C (next C (place C n)) (place C n (next C (place C n))), 2 * D (next C (place C n)), share, there)
 
   -- ---- law 3, whose premise is met: the centre of P lies inside P
 

@@ -3,7 +3,7 @@
 use mathlib.Core.Path.{_≡_, refl, sym, ap, ap₂, _∙_, subst}
 use mathlib.Core.Logic.{⊎-elim}
 use mathlib.Core.List.{_∷_, map}
-use Prim.Native.Nat.{ℕ, _+_, _*_, _≤_, _<_}
+use Prim.Native.Nat.{ℕ, zero, suc, _+_, _*_, _≤_, _<_}
 use native.Mathlib.Omega.{arith, by-contra, both-ways}
 use lib.ListN.{length, getD, length-map, List·getD-map}
 use Rattle.cells.specs.declared.Cell.{Cell}
@@ -22,7 +22,7 @@ use Rattle.lines.proofs.Cells.{same-cell, cell-on, cell-start, cell-tel
 use Rattle.lines.proofs.Every.{each-at, some-at, pairs-at}
 use Rattle.lines.proofs.Ways.{further-on, at-even, by-axis}
 use Rattle.lines.proofs.Touching.{closed-close, closed-within, complete}
-use Rattle.lines.proofs.Visits.{Met, Precedes, all-met, all-precede}
+use Rattle.lines.proofs.Visits.{Visiting, visiting-from, full-start, Met, Precedes, all-met, all-precede}
 
 module _ (p q : Cell) where
   abbrev D : Steps
@@ -58,6 +58,14 @@ module _ (p q : Cell) where
 
   pub touching-at : (i : ℕ) → getD (touching-line p q) i p ≡ visit-cell p q (visit i)
   touching-at i = ap₂ (λ l d. getD l i d) touching-is (sym start-cell) ∙ List·getD-map (visit-cell p q) (visits C) i start
+
+  -- each but the first is of a tie
+  pub visiting-at : (i : ℕ) → 0 < i → i < length (touching-line p q) → Visiting C G (at 0 0 0) (visit i)
+  unfolding visits
+  visiting-at zero some lt = absurd (omega arith)
+  visiting-at (suc i) some lt =
+      each-at (visiting-from C G (total D) (at 0 0 0) (full-start C G)) start i
+      (let l : suc i < length (visits C) = subst (λ n. suc i < n) touching-length lt in omega arith)
 
   -- ---- between the lattice and step space
 

@@ -1,16 +1,17 @@
--- What the sources of the fifteen calls promise is the record of each one's name: `Post` is a call's `ensures` as the toolchain reads it, of the call's
+-- What the sources of the seventeen calls promise is the record of each one's name: `Post` is a call's `ensures` as the toolchain reads it, of the call's
 -- inputs a, its answer r and the memory at exit e. A weaker `ensures` fails here, in its own crate. Assumes nothing.
 use lib.ListN.{length}
 use Rattle.walks.specs.declared.Walker.the-variants.{Plain, Adaptive}
-use Rattle.oatmarten.specs.Inputs.{as-cell, as-counts, as-placement, as-point}
-use Rattle.oatmarten.specs.LineCalls.{FlatLine6, FlatLine26}
+use Rattle.oatmarten.specs.Inputs.{as-cell, as-counts, as-start, as-placement, as-point}
+use Rattle.oatmarten.specs.LineCalls.{FlatLine6, FlatLine26, FlatLineTouching}
 use Rattle.oatmarten.specs.GridCalls.{FlatMarks, FlatCompletes, FlatGivesLayerPart}
 use Rattle.oatmarten.specs.BrickCalls.{FlatBuilds, FlatSets, FlatRefills}
-use Rattle.oatmarten.specs.WalkCalls.{FlatFinds}
+use Rattle.oatmarten.specs.WalkCalls.{FlatFinds, FlatFindsTouching}
 use Rattle.oatmarten.specs.SightCalls.{FlatLooksUp, FlatSees}
 use Rattle.oatmarten.specs.RecordCalls.{FlatReadsVenue, FlatReadsPair, FlatWritesVenue}
 use Rattle.oatmarten.proofs.line_calls.oat_line6.Reads as line6
 use Rattle.oatmarten.proofs.line_calls.oat_line26.Reads as line26
+use Rattle.oatmarten.proofs.line_calls.oat_line_touching.Reads as line-touching
 use Rattle.oatmarten.proofs.grid_calls.oat_mark.Reads as mark
 use Rattle.oatmarten.proofs.grid_calls.oat_complete.Reads as complete
 use Rattle.oatmarten.proofs.grid_calls.oat_layer.Reads as layer
@@ -19,6 +20,7 @@ use Rattle.oatmarten.proofs.brick_calls.oat_set.Reads as set
 use Rattle.oatmarten.proofs.brick_calls.oat_refill.Reads as refill
 use Rattle.oatmarten.proofs.walk_calls.oat_plain.Reads as plain
 use Rattle.oatmarten.proofs.walk_calls.oat_adaptive.Reads as adaptive
+use Rattle.oatmarten.proofs.walk_calls.oat_touching.Reads as touching
 use Rattle.oatmarten.proofs.sight_calls.oat_cell_of.Reads as cell-of
 use Rattle.oatmarten.proofs.sight_calls.oat_sight.Reads as sight
 use Rattle.oatmarten.proofs.record_calls.oat_read_venue.Reads as read-venue
@@ -31,6 +33,10 @@ of-line6 κs a r e h = h
 
 pub of-line26 : (κs : _) (a : _) (r : _) (e : _) → line26.Post κs a r e → FlatLine26 (as-cell (a .0)) (as-cell (a .1 .0)) (a .1 .1 .0 .now) r (e .1 .1 .0 .now)
 of-line26 κs a r e h = h
+
+pub of-line-touching : (κs : _) (a : _) (r : _) (e : _) → line-touching.Post κs a r e →
+    FlatLineTouching (as-cell (a .0)) (as-cell (a .1 .0)) (a .1 .1 .0 .now) r (e .1 .1 .0 .now)
+of-line-touching κs a r e h = h
 
 pub of-mark : (κs : _) (a : _) (r : _) (e : _) → mark.Post κs a r e → FlatMarks (as-counts (a .0)) (a .1 .0 .now) r (e .1 .0 .now)
 of-mark κs a r e h = h
@@ -61,6 +67,10 @@ of-plain κs a r e h = h
 pub of-adaptive : (κs : _) (a : _) (r : _) (e : _) → adaptive.Post κs a r e →
     FlatFinds Adaptive (a .1 .1 .1 .1 .0) (as-counts (a .0)) (a .1 .0 .now) (as-cell (a .1 .1 .0)) (as-cell (a .1 .1 .1 .0)) r
 of-adaptive κs a r e h = h
+
+pub of-touching : (κs : _) (a : _) (r : _) (e : _) → touching.Post κs a r e →
+    FlatFindsTouching (as-start (a .1 .1 .1 .1 .0)) (as-counts (a .0)) (a .1 .0 .now) (as-cell (a .1 .1 .0)) (as-cell (a .1 .1 .1 .0)) r
+of-touching κs a r e h = h
 
 pub of-cell-of : (κs : _) (a : _) (r : _) (e : _) → cell-of.Post κs a r e → FlatLooksUp (as-counts (a .0)) (as-placement (a .1 .0)) (as-point (a .1 .1 .0)) r
 of-cell-of κs a r e h = h

@@ -8,6 +8,7 @@ use Rattle.cells.specs.Manners.{rule-of, rule-check}
 use Rattle.lists.specs.declared.Listed.{Listed}
 use Rattle.lists.specs.declared.Listed.the-variants.{Cells, Refused}
 use Rattle.lists.specs.Lists.{Line6, Line26}
+use Rattle.touching.specs.Touching.{LineTouching}
 use Rattle.oatmarten.specs.declared.line_calls.OatListed.{OatListed}
 use Rattle.oatmarten.specs.Refusals.{accepted, flat-refusal}
 use Rattle.oatmarten.specs.Flattening.{Flattens, After}
@@ -16,7 +17,7 @@ abbrev pub flat-listed : Listed → OatListed
 flat-listed (Cells n) = record { said = accepted; count = n }
 flat-listed (Refused r) = record { said = flat-refusal r; count = 0 }
 
--- ---- the contracts of the two calls; 12 comes first, and leaves the memory as it was
+-- ---- the contracts of the three calls; of the 6-line 12 comes first, and leaves the memory as it was
 
 abbrev pub FlatLine6 : ℕ → Cell → Cell → List ℤ → OatListed → List ℤ → Type 0
 FlatLine6 rule p q entry r exit =
@@ -24,3 +25,6 @@ FlatLine6 rule p q entry r exit =
 
 abbrev pub FlatLine26 : Cell → Cell → List ℤ → OatListed → List ℤ → Type 0
 FlatLine26 p q entry r exit = Flattens flat-listed (λ a. Line26 p q entry a exit) r
+
+abbrev pub FlatLineTouching : Cell → Cell → List ℤ → OatListed → List ℤ → Type 0
+FlatLineTouching p q entry r exit = Flattens flat-listed (λ a. LineTouching p q entry a exit) r

@@ -5,11 +5,13 @@ use mathlib.Core.List.{List}
 use lib.IntN.{pos}
 use Rattle.cells.specs.declared.Cell.{Cell}
 use Rattle.cells.specs.declared.Counts.{Counts}
+use Rattle.cells.specs.declared.Start.{Start}
 use Rattle.cells.specs.Manners.{rule-check}
 use Rattle.walks.specs.declared.Walker.{Walker}
 use Rattle.walks.specs.declared.FirstHit.{FirstHit}
 use Rattle.walks.specs.declared.FirstHit.the-variants as FirstHit
 use Rattle.walks.specs.Answers.{Finds}
+use Rattle.touching.specs.Touching.{FindsTouching}
 use Rattle.oatmarten.specs.declared.inputs.OatManner.{OatManner}
 use Rattle.oatmarten.specs.declared.refusals.OatSaid.{OatSaid}
 use Rattle.oatmarten.specs.declared.walk_calls.OatHit.{OatHit}
@@ -57,3 +59,8 @@ flat-hit (FirstHit.Refused r) = no-hit (flat-refusal r) 0
 abbrev pub FlatFinds : Walker → OatManner → Counts → List ℕ → Cell → Cell → OatHit → Type 0
 FlatFinds w how n cells p q =
     Flattens flat-hit (λ a. After (rule-check (how .rule)) (λ why. a ≡ FirstHit.Refused why) (Finds w (as-manner how) n cells p q a))
+
+-- ---- of the touching walk, which knows no rule
+
+abbrev pub FlatFindsTouching : Start → Counts → List ℕ → Cell → Cell → OatHit → Type 0
+FlatFindsTouching start n cells p q = Flattens flat-hit (FindsTouching start n cells p q)

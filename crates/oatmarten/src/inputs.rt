@@ -53,7 +53,7 @@ pub struct OatManner {
 }
 
 // A start by C's number.
-fn start_of(number: u32) -> Start
+pub(crate) fn start_of(number: u32) -> Start
     ensures { λ r. ⌜ r ≡ as-start number ⌝ }
 {
     if number == 0 {

@@ -1,7 +1,7 @@
 // The list calls for C.
 ghost use mathlib.Core.Path.{_≡_};
 ghost use Rattle.oatmarten.specs.Inputs.{as-cell};
-ghost use Rattle.oatmarten.specs.LineCalls.{flat-listed, FlatLine6, FlatLine26};
+ghost use Rattle.oatmarten.specs.LineCalls.{flat-listed, FlatLine6, FlatLine26, FlatLineTouching};
 use crate::inputs::OatCell;
 use crate::inputs::cell;
 use crate::refusals::ACCEPTED;
@@ -55,4 +55,14 @@ pub extern "C" fn oat_line26(p: OatCell, q: OatCell, out: &mut [i32]) -> OatList
     let from = cell(p);
     let to = cell(q);
     flat_listed(lists::line26(from, to, out))
+}
+
+// The touching line from p to q.
+#[no_mangle]
+pub extern "C" fn oat_line_touching(p: OatCell, q: OatCell, out: &mut [i32]) -> OatListed
+    ensures { λ r. ⌜ FlatLineTouching (as-cell p) (as-cell q) (now (out .entry)) r (now (out .exit)) ⌝ }
+{
+    let from = cell(p);
+    let to = cell(q);
+    flat_listed(touching::line_touching(from, to, out))
 }

@@ -1,8 +1,8 @@
 // The first-hit calls for C.
 ghost use mathlib.Core.Path.{_≡_};
 ghost use Rattle.walks.specs.declared.Walker.the-variants.{Plain, Adaptive};
-ghost use Rattle.oatmarten.specs.Inputs.{as-cell, as-counts};
-ghost use Rattle.oatmarten.specs.WalkCalls.{no-hit, flat-hit, FlatFinds};
+ghost use Rattle.oatmarten.specs.Inputs.{as-cell, as-counts, as-start};
+ghost use Rattle.oatmarten.specs.WalkCalls.{no-hit, flat-hit, FlatFinds, FlatFindsTouching};
 use crate::faces::face_code;
 use crate::inputs::OatCell;
 use crate::inputs::OatCounts;
@@ -10,6 +10,7 @@ use crate::inputs::OatManner;
 use crate::inputs::cell;
 use crate::inputs::counts;
 use crate::inputs::manner;
+use crate::inputs::start_of;
 use crate::refusals::ACCEPTED;
 use crate::refusals::OatSaid;
 use crate::refusals::flatten;
@@ -122,4 +123,21 @@ pub extern "C" fn oat_adaptive(
             flat_hit(hits::first_adaptive(grid, cells, from, to, manner(how)))
         }
     }
+}
+
+// The first hit along the touching line, the start tested or not by a number.
+#[no_mangle]
+pub extern "C" fn oat_touching(
+    n: OatCounts,
+    cells: &[u8],
+    p: OatCell,
+    q: OatCell,
+    start: u32,
+) -> OatHit
+    ensures { λ r. ⌜ FlatFindsTouching (as-start start) (as-counts n) (now (cells .entry)) (as-cell p) (as-cell q) r ⌝ }
+{
+    let grid = counts(n);
+    let from = cell(p);
+    let to = cell(q);
+    flat_hit(touching::first_touching(grid, cells, from, to, start_of(start)))
 }

@@ -13,7 +13,7 @@ use Rattle.cells.specs.declared.Face.the-variants as Face
 use Rattle.lines.specs.declared.Order.the-variants.{Xzy}
 use Rattle.lines.specs.Steps.{Axis, X, Y, Z, Steps, total, same}
 use Rattle.lines.specs.Crossings.{Course, upper, LastMade}
-use Rattle.lines.specs.Preference.{prefers, x-z-y-rank, y-z-x}
+use Rattle.lines.specs.Preference.{prefers, x-z-y-rank, y-z-x-rank, y-z-x}
 use Rattle.lines.specs.Lines.{differences, face-along, centres}
 use Rattle.lines.specs.Touching.{Visit, visited, first-axis, crossings, visit-upper}
 use Rattle.lines.proofs.Steps.{lt-or-ge}
@@ -43,6 +43,19 @@ first-later s b some other = go (ltb 0 (s Y)) (ltb 0 (s Z)) refl refl b some oth
     go false false e f Y h o = absurd (omega (arith, ltb-false 0 (s Y) e))
     go false false e f Z h o = absurd (omega (arith, ltb-false 0 (s Z) f))
 
+-- an axis before the first of some steps has none of them
+not-among : (s : Steps) (b : Axis) → y-z-x-rank b < y-z-x-rank (first-axis s) → s b ≡ 0
+not-among s b before = go (ltb 0 (s Y)) (ltb 0 (s Z)) refl refl b before
+  where
+    go : (y z : Bool) → ltb 0 (s Y) ≡ y → ltb 0 (s Z) ≡ z → (b : Axis) → y-z-x-rank b < y-z-x-rank (cond y Y (cond z Z X)) → s b ≡ 0
+    go true z e f b lt = absurd (omega arith)
+    go false true e f Y lt = omega (arith, ltb-false 0 (s Y) e)
+    go false true e f Z lt = absurd (omega arith)
+    go false true e f X lt = absurd (omega arith)
+    go false false e f Y lt = omega (arith, ltb-false 0 (s Y) e)
+    go false false e f Z lt = omega (arith, ltb-false 0 (s Z) f)
+    go false false e f X lt = absurd (omega arith)
+
 module _ (p q : Cell) (u : Steps) (v : Visit) (h : Visiting (crossings p q) (centres-good y-z-x (differences p q)) u v) where
   abbrev D : Steps
   D = differences p q
@@ -56,7 +69,7 @@ module _ (p q : Cell) (u : Steps) (v : Visit) (h : Visiting (crossings p q) (cen
   leads : Leading (crossings p q) (v .from) last
   leads = tie-leads (crossings p q) (v .from) last (omega (arith, first-has (v .by) (h .some), h .among last))
 
-  at-last : visited v last ≡ v .from last + 1
+  pub at-last : visited v last ≡ v .from last + 1
   at-last = omega (arith, further-on (v .from) (v .by) last, first-has (v .by) (h .some), h .among last, tie-most (crossings p q) (v .from) last)
 
   -- the crossing that leads to the cell, on that axis, is the last made
@@ -95,3 +108,22 @@ module _ (p q : Cell) (u : Steps) (v : Visit) (h : Visiting (crossings p q) (cen
         where
           odd : (i : ℕ) → numerator (i + 1) ≡ 1 + 2 * i
           odd i = omega arith
+
+  -- of the axes whose last crossing lies there, it is the first in the order y, z, x
+  pub earlier-axes : (b : Axis) → y-z-x-rank b < y-z-x-rank last →
+      (visited v b ≡ 0) ⊎ ((2 * visited v b - 1) * (2 * D last) < (1 + 2 * v .from last) * (2 * D b))
+  earlier-axes b before = by (lt-or-ge 0 (visited v b))
+    where
+      out : v .by b ≡ 0
+      out = not-among (v .by) b before
+
+      is : visited v b ≡ v .from b
+      is = omega (arith, further-on (v .from) (v .by) b, out)
+
+      odd : (i : ℕ) → 0 < i → 2 * i - 1 ≡ 1 + 2 * (i - 1)
+      odd i some = omega arith
+
+      by : (0 < visited v b) ⊎ (visited v b ≤ 0) → (visited v b ≡ 0) ⊎ ((2 * visited v b - 1) * (2 * D last) < (1 + 2 * v .from last) * (2 * D b))
+      by (inr none) = inl (omega arith)
+      by (inl some) =
+          inr (rw (odd (visited v b) some, is) (h .full .order b last (v .from b - 1) (v .from last) (omega (arith, is)) (omega arith) (leads .has)))

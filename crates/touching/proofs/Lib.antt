@@ -5,3 +5,4 @@ pub mod Filling
 pub mod Looks
 pub mod Entry
 pub mod Finding
+pub mod Answers
