@@ -17,9 +17,10 @@ use Rattle.cells.specs.Checks.{_then_, by-verdict}
 use Rattle.cells.specs.Manners.{rule-of, rule-check}
 use Rattle.lines.specs.Preference.{order-of, by-rule}
 use Rattle.lines.specs.Lines.{six-line, line-26}
+use Rattle.lines.specs.Touching.{touching-line}
 use Rattle.lists.specs.declared.Listed.{Listed}
 use Rattle.lists.specs.declared.Listed.the-variants as Listed
-use Rattle.lists.specs.Lists.{list-check, filled, Line6}
+use Rattle.lists.specs.Lists.{list-check, filled, Lists, Line6}
 use Rattle.grids.specs.Grid.{shape, layer-part}
 use Rattle.grids.specs.Marks.{marked, complete, completeness, any}
 use Rattle.bricks.specs.declared.Tally.the-variants as Tally
@@ -123,6 +124,8 @@ exports-once =
       );
       line26 = λ p q entry r s exit last h k.
           (same-flat flat-listed (λ a m. m .says) (λ a m. m .says) h k, one exit last (h .meets .holds) (k .meets .holds));
+      line-touching = λ p q entry r s exit last h k.
+          (same-flat flat-listed (λ a m. m .says) (λ a m. m .says) h k, one exit last (h .meets .holds) (k .meets .holds));
       mark = λ n entry r s exit last h k.
           (same-flat flat-verdict (λ a m. m .says) (λ a m. m .says) h k, one exit last (h .meets .holds) (k .meets .holds));
       complete = λ n cells. flat-one flat-complete (λ a m. m .says);
@@ -132,6 +135,7 @@ exports-once =
       set = λ n cell. one-refill n cell cell;
       refill = one-refill;
       walks = λ w how n cells p q. flat-one flat-hit (walk-says w how n cells p q);
+      touching = λ s n cells p q. flat-one flat-hit (λ a m. m .says);
       found = λ n at p. flat-one flat-found (λ a m. m .says);
       seen = λ how n cells at camera ball. flat-one flat-sight (sight-says how n cells at camera ball);
       venue = λ bytes. flat-one flat-venue (λ a m. m .says);
@@ -162,6 +166,13 @@ refill-untouched n low high byte l m total r l′ m′ h refused =
       untouched (λ f. f .said) flat (by-verdict (λ x. m) anew) refl (λ x. refl) v is (h .meets .masks) refused,
     )
 
+-- of any list
+list-untouched : (l : List Cell) (p q : Cell) (entry exit : List ℤ) (r : OatListed) (a : Listed) → r ≡ flat-listed a → Lists l p q entry a exit →
+    (r .said .refusal ≡ 0 → ⊥) → exit ≡ entry
+list-untouched l p q entry exit r a flat meets =
+    untouched (λ f. f .said) (λ v. flat-listed (by-verdict Listed.Refused (Listed.Cells (length l)) v)) (by-verdict (λ x. entry) (filled l entry)) refl
+    (λ x. refl) (list-check p q (length l) (length entry)) (flat ∙ ap flat-listed (meets .says)) (meets .holds)
+
 pub refused-untouched : RefusedUntouched
 refused-untouched =
     record {
@@ -170,10 +181,8 @@ refused-untouched =
           untouched (λ f. f .said) (λ v. flat-listed (by-verdict Listed.Refused (Listed.Cells (length l)) v))
           (by-verdict (λ x. entry) (filled l entry)) refl (λ x. refl) (rule-check rule then line-check rule p q entry exit)
           (h .flat ∙ ap flat-listed (line6-says rule p q entry exit (h .answer) (h .meets))) (line6-holds rule p q entry exit (h .answer) (h .meets));
-      line26 = λ p q entry r exit h.
-          untouched (λ f. f .said) (λ v. flat-listed (by-verdict Listed.Refused (Listed.Cells (length (line-26 p q))) v))
-          (by-verdict (λ x. entry) (filled (line-26 p q) entry)) refl (λ x. refl)
-          (list-check p q (length (line-26 p q)) (length entry)) (h .flat ∙ ap flat-listed (h .meets .says)) (h .meets .holds);
+      line26 = λ p q entry r exit h. list-untouched (line-26 p q) p q entry exit r (h .answer) (h .flat) (h .meets);
+      line-touching = λ p q entry r exit h. list-untouched (touching-line p q) p q entry exit r (h .answer) (h .flat) (h .meets);
       mark = λ n entry r exit h.
           untouched (λ f. f .said) flat-verdict (by-verdict (λ x. entry) (marked 3 n entry)) refl (λ x. refl) (shape n (length entry))
           (h .flat ∙ ap flat-verdict (h .meets .says)) (h .meets .holds);
@@ -245,6 +254,7 @@ exports-are =
     record {
       line6 = λ rule p q. line6-is p q rule;
       line26 = λ p q entry exit r h. (h .answer, h .meets, h .flat);
+      line-touching = λ p q entry exit r h. (h .answer, h .meets, h .flat);
       mark = λ n entry exit r h. (h .answer, h .meets, h .flat);
       complete = λ n cells r h. (h .answer, h .meets, h .flat);
       layer = λ n bytes z r h. (h .answer, h .meets, h .flat);
@@ -252,6 +262,7 @@ exports-are =
       set = λ n cell byte l m total l′ m′ r h. (h .answer, h .meets, h .flat);
       refill = λ n low high byte l m total l′ m′ r h. (h .answer, h .meets, h .flat);
       walks = λ w s rule n cells p q. walk-is p q rule w s n cells;
+      touching = λ s n cells p q r h. (h .answer, h .meets, h .flat);
       found = λ n at p r h. (h .answer, h .meets, h .flat);
       seen = λ s rule. sight-is rule s;
       venue = λ bytes r h. (h .answer, h .meets, h .flat);

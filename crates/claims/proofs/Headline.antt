@@ -1,5 +1,5 @@
 -- The three demands and the kept counts, from the claims. Assumes nothing.
-use Rattle.claims.specs.Headline.{TakesAnything, AreThePapers, TellOneStory, KeepsCounts}
+use Rattle.claims.specs.Headline.{TakesAnything, AreThePapers, TellOneStory, KeepsCounts, TouchesAll}
 use Rattle.lines.specs.Preference.{by-rule}
 use Rattle.lines.specs.Lines.{differences}
 use Rattle.claims.proofs.Ties.{asks-nothing, promised}
@@ -19,6 +19,7 @@ use Rattle.claims.proofs.Sights.{seen-once, nothing-in-sight}
 use Rattle.claims.proofs.Story.{hit-once, hit-face, first-on-line, walks-end, step-by-step, adaptive-step, as-its-walk}
 use Rattle.claims.proofs.Story.{one-story, never-invented}
 use Rattle.claims.proofs.Starts.{start-tests, two-starts}
+use Rattle.claims.proofs.Touching.{touched-cells, crossing-order, over-six-lines, touching-listed, touching-hits, beside-plain, touching-once}
 use Rattle.claims.proofs.Rules.{the-rules, mirrored, both-ways}
 
 pub takes-anything : TakesAnything
@@ -31,6 +32,7 @@ takes-anything =
       grid-calls = grids.one-answer;
       marking = grids.marked-call;
       walks = hit-once;
+      touching = touching-once;
       counts = kept-once;
       cells = points.one-answer;
       sights = seen-once;
@@ -83,4 +85,14 @@ keeps-counts =
       builds = build-means;
       refills = refill-means;
       sets = set-means;
+    }
+
+pub touches-all : TouchesAll
+touches-all =
+    record {
+      cells = λ p q. (touched-cells p q, crossing-order p q);
+      lines = over-six-lines;
+      listed = touching-listed;
+      hits = touching-hits;
+      beside-plain = beside-plain;
     }

@@ -13,6 +13,7 @@ use Rattle.cells.specs.declared.Counts.{Counts}
 use Rattle.cells.specs.declared.Manner.{Manner}
 use Rattle.cells.specs.declared.End.the-variants.{P, Q}
 use Rattle.cells.specs.declared.Refusal.{Refusal}
+use Rattle.cells.specs.declared.Start.{Start}
 use Rattle.cells.specs.declared.Verdict.{Verdict}
 use Rattle.cells.specs.declared.Verdict.the-variants.{Fine, Refused}
 use Rattle.cells.specs.Checks.{_then_, by-verdict}
@@ -23,6 +24,8 @@ use Rattle.cells.proofs.Checks.{each-fine}
 use Rattle.cells.proofs.Tests.{Judges, _next_, answered, empty-by}
 use Rattle.lines.specs.Lines.{six-line, line-26}
 use Rattle.lines.specs.Preference.{by-rule}
+use Rattle.lines.specs.Touching.{visits, crossings, touching-line}
+use Rattle.lines.proofs.Touched.{start}
 use Rattle.lines.proofs.Cells.{six-length, length-26}
 use Rattle.lists.specs.declared.Listed.{Listed}
 use Rattle.lists.specs.declared.Listed.the-variants as Listed
@@ -48,6 +51,8 @@ use Rattle.walks.specs.declared.FirstHit.{FirstHit}
 use Rattle.walks.specs.declared.FirstHit.the-variants as FirstHit
 use Rattle.walks.specs.Walks.{Conduct, conduct, hit-at, walk-of}
 use Rattle.walks.specs.Answers.{last-of, answer-of, first-hit, told-hit, WalkSaid, clear, hit}
+use Rattle.touching.specs.Touching.{found-in, walking, first-touching}
+use Rattle.touching.proofs.Answers.{Search, found, none, search-of}
 use Rattle.survey.specs.declared.Lookup.{Lookup}
 use Rattle.survey.specs.declared.Lookup.the-variants as Lookup
 use Rattle.survey.specs.declared.Placement.{Placement}
@@ -88,6 +93,7 @@ lines-told p q entry exit r =
     record {
       six = λ rule c. let o = by-rule rule p q in rw (six-length o p q) at (listed-told (six-line o p q) p q entry exit r c);
       twenty-six = λ c. rw (length-26 p q) at (listed-told (line-26 p q) p q entry exit r c);
+      touching = λ c. listed-told (touching-line p q) p q entry exit r c;
     }
 
 -- ---- grids
@@ -131,8 +137,19 @@ layer-told n z cells part c =
     (λ t e. c .says ∙ no-bytes named l t e)
     (λ v e none. let (r, refused) = layer-empty n l z .0 (sym (c .says) ∙ none) in one-of-two (sym (ap told-part refused) ∙ e))
 
+-- the same of the touching walk
+abbrev found-along : Start → Counts → List ℕ → (p q : cell.Cell) → FirstHit
+found-along from n l p q = found-in (hit-at (walking from) n l p) n l p q 0 (visits (crossings p q))
+
+touching-told : (from : Start) (n : Counts) (l : List ℕ) (p q : cell.Cell) → (w : WalkSaid) × (told-hit (found-along from n l p q) ≡ inr w)
+touching-told from n l p q = by (search-of (hit-at (walking from) n l p) n l p q (start p q) 0 (visits (crossings p q)))
+  where
+    by : Search (hit-at (walking from) n l p) n l p q (start p q) 0 (visits (crossings p q)) → (w : WalkSaid) × (told-hit (found-along from n l p q) ≡ inr w)
+    by (found i lt met before is) = (_, ap told-hit is)
+    by (none all is) = (_, ap told-hit is)
+
 pub grids-told : (n : Counts) (l : List ℕ) → GridsTold n l
-unfolding completeness first-hit
+unfolding completeness first-hit first-touching
 grids-told n l =
     record {
       shape = λ bytes r c. answered told-verdict (λ v. v) (λ r. refl) (shape-judged n bytes) (λ fine. (tt, refl)) (c .says);
@@ -145,6 +162,9 @@ grids-told n l =
       first-hit = λ k how p q r c.
           answered told-hit (by-verdict FirstHit.Refused (answer k how n l p q)) (λ r. refl) (walk-judged n (length l) p q)
           (λ fine. hit-told k how n l p q) (c .says);
+      first-touching = λ from p q r c.
+          answered told-hit (by-verdict FirstHit.Refused (found-along from n l p q)) (λ r. refl) (walk-judged n (length l) p q)
+          (λ fine. touching-told from n l p q) (c .says);
     }
 
 -- ---- surveyed points

@@ -51,6 +51,8 @@ use Rattle.claims.proofs.Starred.{example-writes}
 use Rattle.claims.specs.Program.{Runs, example-input}
 use Rattle.buffers.specs.Over.{over}
 use Rattle.texts.specs.Text.{decimal}
+use Rattle.touching.specs.Touching.{first-touching}
+use Rattle.lines.specs.Touching.{touching-line}
 use Rattle.grids.specs.declared.Completeness.the-variants as Completeness
 
 -- from (2,1,0) to (0,0,0) x is crossed at 1 and 3 over 4, y at 1 over 2
@@ -67,7 +69,7 @@ untied Z Y i j s p q e = omega arith
 untied Z Z i j s p q e = omega arith
 
 pub of-lines : OfLines
-unfolding six-line order-of line-26
+unfolding six-line order-of line-26 touching-line
 of-lines =
     record {
       share = record { some = lit< tt; most = omega arith };
@@ -82,10 +84,16 @@ of-lines =
       listed = record { says = refl; holds = refl };
       listed-26 = record { says = refl; holds = refl };
       no-room = record { says = refl; holds = refl };
+      touching = record { says = refl; holds = refl };
+      touching-no-room = record { says = refl; holds = refl };
+      at-an-edge = record {
+        from = λ a. elim a [ X ↦ record { le = tt } | Y ↦ record { le = tt } | Z ↦ record { le = tt } ];
+        upto = λ a. elim a [ X ↦ record { le = tt } | Y ↦ record { le = tt } | Z ↦ record { le = tt } ];
+      };
     }
 
 pub of-grids : OfGrids
-unfolding shape marked complete completeness layer-part layer first-hit
+unfolding shape marked complete completeness layer-part layer first-hit first-touching
 of-grids =
     record {
       corner = record { by-one = λ a. elim a [ X ↦ omega arith | Y ↦ omega arith | Z ↦ omega arith ]; differing = omega arith; within = omega arith };
@@ -99,6 +107,8 @@ of-grids =
       part = record { says = refl };
       layer = record { says = refl; there = record { block = refl; offset = refl } };
       not-marked = record { says = refl; holds = refl };
+      touching-hits = record { says = refl };
+      touching-clear = record { says = refl };
       back-clear = λ w. elim w [ Plain ↦ record { says = refl } | Adaptive ↦ record { says = refl } ];
       back-hits = λ w. elim w [ Plain ↦ record { says = refl } | Adaptive ↦ record { says = refl } ];
       plain-hits = λ how. record { says = sym (as-usual example-counts marked-cells (at 0 0 0) (at 3 1 0) Plain how refl refl) };

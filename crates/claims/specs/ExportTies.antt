@@ -1,16 +1,17 @@
--- The contracts of which Exports speaks are those that the sources of the fifteen calls for C state, as Ties has it of the calls themselves: a call
+-- The contracts of which Exports speaks are those that the sources of the seventeen calls for C state, as Ties has it of the calls themselves: a call
 -- for C asks for nothing, and promises the record of its name, over what C's structs mean. Assumes nothing.
 use lib.ListN.{length}
 use Rattle.walks.specs.declared.Walker.the-variants.{Plain, Adaptive}
-use Rattle.oatmarten.specs.Inputs.{as-cell, as-counts, as-placement, as-point}
-use Rattle.oatmarten.specs.LineCalls.{FlatLine6, FlatLine26}
+use Rattle.oatmarten.specs.Inputs.{as-cell, as-counts, as-start, as-placement, as-point}
+use Rattle.oatmarten.specs.LineCalls.{FlatLine6, FlatLine26, FlatLineTouching}
 use Rattle.oatmarten.specs.GridCalls.{FlatMarks, FlatCompletes, FlatGivesLayerPart}
 use Rattle.oatmarten.specs.BrickCalls.{FlatBuilds, FlatSets, FlatRefills}
-use Rattle.oatmarten.specs.WalkCalls.{FlatFinds}
+use Rattle.oatmarten.specs.WalkCalls.{FlatFinds, FlatFindsTouching}
 use Rattle.oatmarten.specs.SightCalls.{FlatLooksUp, FlatSees}
 use Rattle.oatmarten.specs.RecordCalls.{FlatReadsVenue, FlatReadsPair, FlatWritesVenue}
 use Rattle.oatmarten.proofs.oat_line6.Reads as line6
 use Rattle.oatmarten.proofs.oat_line26.Reads as line26
+use Rattle.oatmarten.proofs.oat_line_touching.Reads as line-touching
 use Rattle.oatmarten.proofs.oat_mark.Reads as mark
 use Rattle.oatmarten.proofs.oat_complete.Reads as complete
 use Rattle.oatmarten.proofs.oat_layer.Reads as layer
@@ -19,6 +20,7 @@ use Rattle.oatmarten.proofs.oat_set.Reads as set
 use Rattle.oatmarten.proofs.oat_refill.Reads as refill
 use Rattle.oatmarten.proofs.oat_plain.Reads as plain
 use Rattle.oatmarten.proofs.oat_adaptive.Reads as adaptive
+use Rattle.oatmarten.proofs.oat_touching.Reads as touching
 use Rattle.oatmarten.proofs.oat_cell_of.Reads as cell-of
 use Rattle.oatmarten.proofs.oat_sight.Reads as sight
 use Rattle.oatmarten.proofs.oat_read_venue.Reads as read-venue
@@ -31,6 +33,8 @@ pub record ExportsPromised : Type 1 where
       FlatLine6 (a .1 .1 .0) (as-cell (a .0)) (as-cell (a .1 .0)) (a .1 .1 .1 .0 .now) r (e .1 .1 .1 .0 .now)
   pub of-line26 : (κs : _) (a : _) (r : _) (e : _) → line26.Post κs a r e →
       FlatLine26 (as-cell (a .0)) (as-cell (a .1 .0)) (a .1 .1 .0 .now) r (e .1 .1 .0 .now)
+  pub of-line-touching : (κs : _) (a : _) (r : _) (e : _) → line-touching.Post κs a r e →
+      FlatLineTouching (as-cell (a .0)) (as-cell (a .1 .0)) (a .1 .1 .0 .now) r (e .1 .1 .0 .now)
   pub of-mark : (κs : _) (a : _) (r : _) (e : _) → mark.Post κs a r e → FlatMarks (as-counts (a .0)) (a .1 .0 .now) r (e .1 .0 .now)
   pub of-complete : (κs : _) (a : _) (r : _) (e : _) → complete.Post κs a r e → FlatCompletes (as-counts (a .0)) (a .1 .0 .now) r
   pub of-layer : (κs : _) (a : _) (r : _) (e : _) → layer.Post κs a r e → FlatGivesLayerPart (as-counts (a .0)) (length (a .1 .0 .now)) (a .1 .1 .0) r
@@ -47,6 +51,8 @@ pub record ExportsPromised : Type 1 where
       FlatFinds Plain (a .1 .1 .1 .1 .0) (as-counts (a .0)) (a .1 .0 .now) (as-cell (a .1 .1 .0)) (as-cell (a .1 .1 .1 .0)) r
   pub of-adaptive : (κs : _) (a : _) (r : _) (e : _) → adaptive.Post κs a r e →
       FlatFinds Adaptive (a .1 .1 .1 .1 .0) (as-counts (a .0)) (a .1 .0 .now) (as-cell (a .1 .1 .0)) (as-cell (a .1 .1 .1 .0)) r
+  pub of-touching : (κs : _) (a : _) (r : _) (e : _) → touching.Post κs a r e →
+      FlatFindsTouching (as-start (a .1 .1 .1 .1 .0)) (as-counts (a .0)) (a .1 .0 .now) (as-cell (a .1 .1 .0)) (as-cell (a .1 .1 .1 .0)) r
   pub of-cell-of : (κs : _) (a : _) (r : _) (e : _) → cell-of.Post κs a r e → FlatLooksUp (as-counts (a .0)) (as-placement (a .1 .0)) (as-point (a .1 .1 .0)) r
   pub of-sight : (κs : _) (a : _) (r : _) (e : _) → sight.Post κs a r e →
       FlatSees (a .1 .1 .1 .1 .1 .0) (as-counts (a .0)) (a .1 .0 .now) (as-placement (a .1 .1 .0)) (as-point (a .1 .1 .1 .0))
@@ -60,6 +66,7 @@ pub record ExportsPromised : Type 1 where
 pub record ExportsAskNothing : Type 1 where
   pub line6-asks : (κs : _) (a : _) → line6.Pre κs a
   pub line26-asks : (κs : _) (a : _) → line26.Pre κs a
+  pub line-touching-asks : (κs : _) (a : _) → line-touching.Pre κs a
   pub mark-asks : (κs : _) (a : _) → mark.Pre κs a
   pub complete-asks : (κs : _) (a : _) → complete.Pre κs a
   pub layer-asks : (κs : _) (a : _) → layer.Pre κs a
@@ -68,6 +75,7 @@ pub record ExportsAskNothing : Type 1 where
   pub refill-asks : (κs : _) (a : _) → refill.Pre κs a
   pub plain-asks : (κs : _) (a : _) → plain.Pre κs a
   pub adaptive-asks : (κs : _) (a : _) → adaptive.Pre κs a
+  pub touching-asks : (κs : _) (a : _) → touching.Pre κs a
   pub cell-of-asks : (κs : _) (a : _) → cell-of.Pre κs a
   pub sight-asks : (κs : _) (a : _) → sight.Pre κs a
   pub read-venue-asks : (κs : _) (a : _) → read-venue.Pre κs a

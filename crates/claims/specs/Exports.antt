@@ -1,4 +1,4 @@
--- What is claimed of the calls for C, by the contracts of the fifteen exports (ExportTies: they are the sources' own). Assumes nothing.
+-- What is claimed of the calls for C, by the contracts of the seventeen exports (ExportTies: they are the sources' own). Assumes nothing.
 use Prim.Native.Nat.{ℕ, _≤_}
 use mathlib.Core.Path.{_≡_}
 use mathlib.Core.List.{List, [], _∷_}
@@ -19,6 +19,7 @@ use Rattle.refills.specs.Refills.{Refills, Sets}
 use Rattle.walks.specs.declared.Walker.{Walker}
 use Rattle.walks.specs.declared.FirstHit.{FirstHit}
 use Rattle.walks.specs.Answers.{Finds}
+use Rattle.touching.specs.Touching.{LineTouching, FindsTouching}
 use Rattle.survey.specs.declared.Placement.{Placement}
 use Rattle.survey.specs.declared.Point.{Point}
 use Rattle.survey.specs.declared.Lookup.{Lookup}
@@ -46,10 +47,10 @@ use Rattle.oatmarten.specs.declared.record_calls.OatVenue.{OatVenue}
 use Rattle.oatmarten.specs.declared.record_calls.OatPair.{OatPair}
 use Rattle.oatmarten.specs.declared.record_calls.OatWritten.{OatWritten}
 use Rattle.oatmarten.specs.Inputs.{as-start}
-use Rattle.oatmarten.specs.LineCalls.{flat-listed, FlatLine6, FlatLine26}
+use Rattle.oatmarten.specs.LineCalls.{flat-listed, FlatLine6, FlatLine26, FlatLineTouching}
 use Rattle.oatmarten.specs.GridCalls.{flat-verdict, flat-complete, flat-part, FlatMarks, FlatCompletes, FlatGivesLayerPart}
 use Rattle.oatmarten.specs.BrickCalls.{flat-tally, FlatBuilds, FlatSets, FlatRefills}
-use Rattle.oatmarten.specs.WalkCalls.{flat-hit, FlatFinds}
+use Rattle.oatmarten.specs.WalkCalls.{flat-hit, FlatFinds, FlatFindsTouching}
 use Rattle.oatmarten.specs.SightCalls.{flat-found, flat-sight, FlatLooksUp, FlatSees}
 use Rattle.oatmarten.specs.RecordCalls.{rule-number, flat-venue, flat-pair, flat-written, FlatReadsVenue, FlatReadsPair, FlatWritesVenue}
 use Rattle.claims.specs.Example.{at, example-counts, example-cells, marked-cells, set-cells}
@@ -74,6 +75,7 @@ OnePair {F} {M} {N} Contract =
 pub record ExportsOnce : Type 0 where
   pub line6 : (rule : ℕ) (p q : Cell) (entry : List ℤ) → OneEach (FlatLine6 rule p q entry)
   pub line26 : (p q : Cell) (entry : List ℤ) → OneEach (FlatLine26 p q entry)
+  pub line-touching : (p q : Cell) (entry : List ℤ) → OneEach (FlatLineTouching p q entry)
   pub mark : (n : Counts) (entry : List ℕ) → OneEach (FlatMarks n entry)
   pub complete : (n : Counts) (cells : List ℕ) → One (FlatCompletes n cells)
   pub layer : (n : Counts) (bytes : ℕ) (z : ℤ) → One (FlatGivesLayerPart n bytes z)
@@ -81,6 +83,7 @@ pub record ExportsOnce : Type 0 where
   pub set : (n : Counts) (cell : Cell) (byte : ℕ) (l m : List ℕ) (total : ℕ) → OnePair (FlatSets n cell byte l m total)
   pub refill : (n : Counts) (low high : Cell) (byte : ℕ) (l m : List ℕ) (total : ℕ) → OnePair (FlatRefills n low high byte l m total)
   pub walks : (w : Walker) (how : OatManner) (n : Counts) (cells : List ℕ) (p q : Cell) → One (FlatFinds w how n cells p q)
+  pub touching : (s : ℕ) (n : Counts) (cells : List ℕ) (p q : Cell) → One (FlatFindsTouching (as-start s) n cells p q)
   pub found : (n : Counts) (at : Placement) (p : Point) → One (FlatLooksUp n at p)
   pub seen : (how : OatManner) (n : Counts) (cells : List ℕ) (at : Placement) (camera ball : Point) → One (FlatSees how n cells at camera ball)
   pub venue : (bytes : List ℕ) → One (FlatReadsVenue bytes)
@@ -99,6 +102,7 @@ BothUntouched Contract l m = (r : OatTally) (l′ m′ : List ℕ) → Contract 
 pub record RefusedUntouched : Type 0 where
   pub line6 : (rule : ℕ) (p q : Cell) (entry : List ℤ) → Untouched (λ f. f .said) (FlatLine6 rule p q entry) entry
   pub line26 : (p q : Cell) (entry : List ℤ) → Untouched (λ f. f .said) (FlatLine26 p q entry) entry
+  pub line-touching : (p q : Cell) (entry : List ℤ) → Untouched (λ f. f .said) (FlatLineTouching p q entry) entry
   pub mark : (n : Counts) (entry : List ℕ) → Untouched (λ f. f .said) (FlatMarks n entry) entry
   pub build : (n : Counts) (cells entry : List ℕ) → Untouched (λ f. f .said) (FlatBuilds n cells entry) entry
   pub set : (n : Counts) (cell : Cell) (byte : ℕ) (l m : List ℕ) (total : ℕ) → BothUntouched (FlatSets n cell byte l m total) l m
@@ -130,6 +134,8 @@ pub record ExportsAre : Type 0 where
       (a : Listed) × Line6 rule p q entry a exit × (r ≡ flat-listed a)
   pub line26 : (p q : Cell) (entry exit : List ℤ) (r : OatListed) → FlatLine26 p q entry r exit →
       (a : Listed) × Line26 p q entry a exit × (r ≡ flat-listed a)
+  pub line-touching : (p q : Cell) (entry exit : List ℤ) (r : OatListed) → FlatLineTouching p q entry r exit →
+      (a : Listed) × LineTouching p q entry a exit × (r ≡ flat-listed a)
   pub mark : (n : Counts) (entry exit : List ℕ) (r : OatVerdict) → FlatMarks n entry r exit → (a : Verdict) × Marks n entry a exit × (r ≡ flat-verdict a)
   pub complete : (n : Counts) (cells : List ℕ) (r : OatComplete) → FlatCompletes n cells r → (a : Completeness) × Completes n cells a × (r ≡ flat-complete a)
   pub layer : (n : Counts) (bytes : ℕ) (z : ℤ) (r : OatPart) → FlatGivesLayerPart n bytes z r →
@@ -143,6 +149,8 @@ pub record ExportsAre : Type 0 where
   pub walks : (w : Walker) (s : ℕ) (rule : Rule) (n : Counts) (cells : List ℕ) (p q : Cell) (r : OatHit) →
       FlatFinds w (record { start = s; rule = rule-number rule }) n cells p q r →
       (a : FirstHit) × Finds w (record { start = as-start s; rule = rule }) n cells p q a × (r ≡ flat-hit a)
+  pub touching : (s : ℕ) (n : Counts) (cells : List ℕ) (p q : Cell) (r : OatHit) → FlatFindsTouching (as-start s) n cells p q r →
+      (a : FirstHit) × FindsTouching (as-start s) n cells p q a × (r ≡ flat-hit a)
   pub found : (n : Counts) (at : Placement) (p : Point) (r : OatFound) → FlatLooksUp n at p r → (a : Lookup) × LooksUp n at p a × (r ≡ flat-found a)
   pub seen : (s : ℕ) (rule : Rule) (n : Counts) (cells : List ℕ) (at : Placement) (camera ball : Point) (r : OatSight) →
       FlatSees (record { start = s; rule = rule-number rule }) n cells at camera ball r →

@@ -11,6 +11,7 @@ use Rattle.cells.specs.declared.Counts.{Counts}
 use Rattle.cells.specs.declared.Manner.{Manner}
 use Rattle.cells.specs.declared.Refusal.{Refusal}
 use Rattle.cells.specs.declared.Rule.{Rule}
+use Rattle.cells.specs.declared.Start.{Start}
 use Rattle.lines.specs.Steps.{total}
 use Rattle.lines.specs.Preference.{by-rule}
 use Rattle.lines.specs.Lines.{differences, six-cell}
@@ -48,6 +49,7 @@ use Rattle.claims.specs.Sights.{SeenOnce, OpenWay}
 use Rattle.claims.specs.Story.{SameStory, NoLater, FirstOnLine, HitFace, HitOnce, WalksEnd, StepByStep, AdaptiveStep, AsItsWalk}
 use Rattle.claims.specs.Starts.{StartTest, TwoStarts}
 use Rattle.claims.specs.Rules.{TheRules, Mirror, BothWays}
+use Rattle.claims.specs.Touching.{TouchedCells, CrossingOrder, OverSixLines, TouchingListed, TouchingHits, BesidePlain, TouchingOnce}
 
 -- 1. Every public call takes any numbers and any lent memory, has one answer and one final memory for each input, and refuses by number exactly
 -- where SCOPE's table says, in its order; a refusal writes nothing.
@@ -60,6 +62,7 @@ pub record TakesAnything : Type 1 where
   pub grid-calls : grids.OneAnswer
   pub marking : (n : Counts) (l : List ℕ) → grids.MarkedCall n l
   pub walks : (how : Manner) (n : Counts) (l : List ℕ) (p q : Cell) → HitOnce how n l p q
+  pub touching : (start : Start) (n : Counts) (l : List ℕ) (p q : Cell) → TouchingOnce start n l p q
   pub counts : KeptOnce
   pub cells : (n : Counts) (at : Placement) (p : Point) → points.OneAnswer n at p
   pub sights : (how : Manner) (n : Counts) (l : List ℕ) (at : Placement) (camera ball : Point) → SeenOnce how n l at camera ball
@@ -126,3 +129,14 @@ pub record KeepsCounts : Type 0 where
   pub builds : (n : Counts) (l m : List ℕ) (t : ℕ) (m′ : List ℕ) → BuildMeans n l m t m′
   pub refills : (n : Counts) (low high : Cell) (byte : ℕ) (l m : List ℕ) (total t : ℕ) (l′ m′ : List ℕ) → RefillMeans n low high byte l m total t l′ m′
   pub sets : (n : Counts) (cell : Cell) (byte : ℕ) (l m : List ℕ) (total t : ℕ) (l′ m′ : List ℕ) → SetMeans n cell byte l m total t l′ m′
+
+-- 5. SCOPE M: the touching line has just the cells whose closed cube the segment meets, each once, in the order in which it comes to them; it has the 6-line
+-- of either rule, and is that line where nothing ties. Its list writes just these cells. The first hit along it is its first solid cell, P excepted where
+-- it is not tested; clear, nothing that the segment touches is solid, but for that P. With the same start and either rule the plain walk is clear where
+-- this one is, and hits no earlier. Demand 3 does not speak of it.
+pub record TouchesAll : Type 0 where
+  pub cells : (p q : Cell) → TouchedCells p q × CrossingOrder p q
+  pub lines : (p q : Cell) → OverSixLines p q
+  pub listed : (p q : Cell) (entry exit : List ℤ) (k : ℕ) → TouchingListed p q entry exit k
+  pub hits : (start : Start) (n : Counts) (l : List ℕ) (p q : Cell) → TouchingHits start n l p q
+  pub beside-plain : (how : Manner) (n : Counts) (l : List ℕ) (p q : Cell) → BesidePlain how n l p q

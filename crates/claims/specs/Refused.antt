@@ -20,12 +20,14 @@ use Rattle.cells.specs.declared.End.{End}
 use Rattle.cells.specs.declared.End.the-variants.{P, Q}
 use Rattle.cells.specs.declared.Part.the-variants.{OriginX, OriginY, OriginZ, Edge}
 use Rattle.cells.specs.declared.Rule.{Rule}
+use Rattle.cells.specs.declared.Start.{Start}
 use Rattle.cells.specs.declared.Verdict.{Verdict}
 use Rattle.cells.specs.Refusals.{Told, alone, at-axis, at-part, at-end, told-verdict}
 use Rattle.cells.specs.Tests.{Tests, _gives_, _else_, First, each-axis, ByTests}
 use Rattle.cells.specs.Touching.{on}
 use Rattle.lines.specs.Steps.{total}
 use Rattle.lines.specs.Lines.{differences, longest}
+use Rattle.lines.specs.Touching.{touching-line}
 use Rattle.lists.specs.declared.Listed.{Listed}
 use Rattle.lists.specs.Lists.{Line6, Line26, told-listed}
 use Rattle.grids.specs.declared.LayerPart.{LayerPart}
@@ -41,6 +43,7 @@ use Rattle.refills.specs.Refills.{ones-in, Refills, Sets}
 use Rattle.walks.specs.declared.Walker.{Walker}
 use Rattle.walks.specs.declared.FirstHit.{FirstHit}
 use Rattle.walks.specs.Answers.{Finds, told-hit}
+use Rattle.touching.specs.Touching.{LineTouching, FindsTouching}
 use Rattle.survey.specs.declared.Lookup.{Lookup}
 use Rattle.survey.specs.declared.Placement.{Placement}
 use Rattle.survey.specs.declared.Point.{Point}
@@ -215,6 +218,7 @@ rule-test number = ((¬ (number ≡ 1)) × (¬ (number ≡ 2))) gives alone 12
 pub record LinesTold (p q : Cell) (entry exit : List ℤ) (r : Listed) : Type 0 where
   pub six : (rule : Rule) → Line6 rule p q entry r exit → ByTests (line-tests p q (total (differences p q) + 1) (length entry)) (told-listed r)
   pub twenty-six : Line26 p q entry r exit → ByTests (line-tests p q (longest (differences p q) + 1) (length entry)) (told-listed r)
+  pub touching : LineTouching p q entry r exit → ByTests (line-tests p q (length (touching-line p q)) (length entry)) (told-listed r)
 
 -- grid calls; a layer is empty exactly where its partner refuses
 pub record GridsTold (n : Counts) (l : List ℕ) : Type 0 where
@@ -225,6 +229,7 @@ pub record GridsTold (n : Counts) (l : List ℕ) : Type 0 where
   pub layer : (z : ℤ) (cells part : RefT (List ℕ)) → GivesLayer n cells z part →
       (part .now ≡ []) ↔ ((t : Told) × First (layer-tests n (length (cells .now)) z) t)
   pub first-hit : (k : Walker) (how : Manner) (p q : Cell) (r : FirstHit) → Finds k how n l p q r → ByTests (walk-tests n (length l) p q) (told-hit r)
+  pub first-touching : (start : Start) (p q : Cell) (r : FirstHit) → FindsTouching start n l p q r → ByTests (walk-tests n (length l) p q) (told-hit r)
 
 -- calls that keep counts; a set is the refill of its cell
 pub record TalliesTold (n : Counts) (l m : List ℕ) : Type 0 where

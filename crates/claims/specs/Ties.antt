@@ -28,6 +28,9 @@ use Rattle.walks.specs.declared.Walker.the-variants.{Plain, Adaptive}
 use Rattle.walks.specs.Answers.{Finds}
 use Rattle.hits.proofs.first_plain.Reads as plain
 use Rattle.hits.proofs.first_adaptive.Reads as adaptive
+use Rattle.touching.specs.Touching.{LineTouching, FindsTouching}
+use Rattle.touching.proofs.line_touching.Reads as line-touching
+use Rattle.touching.proofs.first_touching.Reads as touching
 use Rattle.survey.specs.Survey.{LooksUp}
 use Rattle.survey.proofs.cell_of.Reads as cell-of
 use Rattle.sight.specs.Sight.{Sees}
@@ -51,6 +54,7 @@ pub record Promised : Type 1 where
   pub of-rule-of : (κs : _) (a : _) (r : _) (e : _) → named-rule.Post κs a r e → r ≡ rule-of (a .0)
   pub of-line6 : (κs : _) (a : _) (r : _) (e : _) → line6.Post κs a r e → Line6 (a .1 .1 .0) (a .0) (a .1 .0) (a .1 .1 .1 .0 .now) r (e .1 .1 .1 .0 .now)
   pub of-line26 : (κs : _) (a : _) (r : _) (e : _) → line26.Post κs a r e → Line26 (a .0) (a .1 .0) (a .1 .1 .0 .now) r (e .1 .1 .0 .now)
+  pub of-line-touching : (κs : _) (a : _) (r : _) (e : _) → line-touching.Post κs a r e → LineTouching (a .0) (a .1 .0) (a .1 .1 .0 .now) r (e .1 .1 .0 .now)
   pub of-shape : (κs : _) (a : _) (r : _) (e : _) → shape.Post κs a r e → Shapes (a .0) (a .1 .0) r
   pub of-layer-part : (κs : _) (a : _) (r : _) (e : _) → layer-part.Post κs a r e → GivesLayerPart (a .0) (length (a .1 .0 .now)) (a .1 .1 .0) r
   pub of-layer : (κs : _) (a : _) (r : _) (e : _) → layer.Post κs a r e → GivesLayer (a .0) (a .1 .0) (a .1 .1 .0) r
@@ -66,6 +70,8 @@ pub record Promised : Type 1 where
       Finds Plain (a .1 .1 .1 .1 .0) (a .0) (a .1 .0 .now) (a .1 .1 .0) (a .1 .1 .1 .0) r
   pub of-adaptive : (κs : _) (a : _) (r : _) (e : _) → adaptive.Post κs a r e →
       Finds Adaptive (a .1 .1 .1 .1 .0) (a .0) (a .1 .0 .now) (a .1 .1 .0) (a .1 .1 .1 .0) r
+  pub of-touching : (κs : _) (a : _) (r : _) (e : _) → touching.Post κs a r e →
+      FindsTouching (a .1 .1 .1 .1 .0) (a .0) (a .1 .0 .now) (a .1 .1 .0) (a .1 .1 .1 .0) r
   pub of-cell-of : (κs : _) (a : _) (r : _) (e : _) → cell-of.Post κs a r e → LooksUp (a .0) (a .1 .0) (a .1 .1 .0) r
   pub of-see : (κs : _) (a : _) (r : _) (e : _) → see.Post κs a r e →
       Sees (a .1 .1 .1 .1 .1 .0) (a .0) (a .1 .0 .now) (a .1 .1 .0) (a .1 .1 .1 .0) (a .1 .1 .1 .1 .0) r
@@ -88,6 +94,7 @@ pub record AsksNothing : Type 1 where
   pub rule-of-asks : (κs : _) (a : _) → named-rule.Pre κs a
   pub line6-asks : (κs : _) (a : _) → line6.Pre κs a
   pub line26-asks : (κs : _) (a : _) → line26.Pre κs a
+  pub line-touching-asks : (κs : _) (a : _) → line-touching.Pre κs a
   pub shape-asks : (κs : _) (a : _) → shape.Pre κs a
   pub layer-part-asks : (κs : _) (a : _) → layer-part.Pre κs a
   pub layer-asks : (κs : _) (a : _) → layer.Pre κs a
@@ -98,6 +105,7 @@ pub record AsksNothing : Type 1 where
   pub refill-asks : (κs : _) (a : _) → refill.Pre κs a
   pub plain-asks : (κs : _) (a : _) → plain.Pre κs a
   pub adaptive-asks : (κs : _) (a : _) → adaptive.Pre κs a
+  pub touching-asks : (κs : _) (a : _) → touching.Pre κs a
   pub cell-of-asks : (κs : _) (a : _) → cell-of.Pre κs a
   pub see-asks : (κs : _) (a : _) → see.Pre κs a
   pub read-venue-asks : (κs : _) (a : _) → read-venue.Pre κs a

@@ -5,27 +5,28 @@ use mathlib.Core.Path.{_≡_}
 use mathlib.Core.Bool.{true, false}
 use mathlib.Core.List.{List, [], _∷_, _++_}
 use lib.IntN.{pos}
-use lib.ListN.{length}
+use lib.ListN.{length, replicate}
 use denote.Ref.{RefT}
 use Rattle.bricks.specs.Bricks.{brick-there, bit-there}
 use Rattle.claims.specs.Grids.{Inside}
 use Rattle.buffers.specs.Numbers.{AllBytes}
 use Rattle.cells.specs.declared.Face.the-variants as Face
 use Rattle.cells.specs.declared.Refusal.the-variants.{Bytes, Room, OffSurvey, Record, NoRule, Stale, Corners}
-use Rattle.cells.specs.declared.Axis.the-variants.{X, Y}
+use Rattle.cells.specs.declared.Axis.the-variants.{X, Y, Z}
 use Rattle.cells.specs.declared.End.the-variants.{P}
 use Rattle.cells.specs.declared.Verdict.the-variants as Verdict
 use Rattle.cells.specs.declared.Verdict.the-variants.{Fine}
 use Rattle.cells.specs.Refusals.{NumberOf}
 use Rattle.cells.specs.declared.Manner.{Manner}
 use Rattle.cells.specs.declared.Rule.the-variants.{One, Two}
+use Rattle.cells.specs.declared.Start.the-variants.{Untested, Tested}
 use Rattle.cells.specs.Manners.{usual, tested-by, tested-start}
 use Rattle.cells.specs.Touching.{Touches}
 use Rattle.lines.specs.Steps.{Steps}
 use Rattle.lines.specs.Crossings.{InOrder, LastMade, TieFree, next, place}
 use Rattle.lines.specs.Preference.{y-z-x}
 use Rattle.lines.specs.Lines.{differences, centres, InLimit}
-use Rattle.lines.specs.Segment.{Share, InOpen}
+use Rattle.lines.specs.Segment.{Share, InOpen, InClosed}
 use Rattle.lists.specs.declared.Listed.the-variants as Listed
 use Rattle.lists.specs.Lists.{Line6, Line26, numbers}
 use Rattle.grids.specs.declared.Completeness.the-variants.{Yes, No}
@@ -41,6 +42,7 @@ use Rattle.walks.specs.declared.Walker.the-variants.{Plain, Adaptive}
 use Rattle.walks.specs.declared.Hit.{Hit}
 use Rattle.walks.specs.declared.FirstHit.the-variants as FirstHit
 use Rattle.walks.specs.Answers.{Finds}
+use Rattle.touching.specs.Touching.{LineTouching, FindsTouching}
 use Rattle.survey.specs.declared.Lookup.the-variants as Lookup
 use Rattle.survey.specs.Survey.{PlacedGrid, quotients, look-up, LooksUp}
 use Rattle.sight.specs.declared.Sight.the-variants as Sight
@@ -66,6 +68,7 @@ use Rattle.claims.specs.Records.{Right, RightPair, example-venue, exampl
 use Rattle.claims.specs.ProgramRows.{no-cells}
 use Rattle.claims.specs.Starred.{halves}
 use Rattle.claims.specs.Story.{all-clear}
+use Rattle.claims.specs.Touching.{one-solid}
 
 -- from (0,0,0) to (2,1,0)
 abbrev pub steps-there : Steps
@@ -90,6 +93,11 @@ pub record OfLines : Type 0 where
   pub listed-26 : Line26 (at 0 0 0) (at 2 1 0) room (Listed.Cells 3)
       (pos 0 ∷ pos 0 ∷ pos 0 ∷ pos 1 ∷ pos 1 ∷ pos 0 ∷ pos 2 ∷ pos 1 ∷ pos 0 ∷ pos 7 ∷ pos 7 ∷ pos 7 ∷ pos 7 ∷ [])
   pub no-room : Line6 One (at 0 0 0) (at 2 1 0) [] (Listed.Refused Room) []
+  -- a touching line with just enough room, and one number less; and a point of the segment in the closed cube of a cell that it meets at an edge
+  pub touching : LineTouching (at 0 0 0) (at 1 1 0) (replicate 12 (pos 7)) (Listed.Cells 4)
+      (numbers (at 0 0 0 ∷ at 0 1 0 ∷ at 1 0 0 ∷ at 1 1 0 ∷ []))
+  pub touching-no-room : LineTouching (at 0 0 0) (at 1 1 0) (replicate 11 (pos 7)) (Listed.Refused Room) (replicate 11 (pos 7))
+  pub at-an-edge : InClosed (at 0 0 0) (at 1 1 0) 1 2 (at 1 0 0)
 
 -- memory that a caller lends
 abbrev pub lent : List ℕ → RefT (List ℕ)
@@ -132,6 +140,9 @@ pub record OfGrids : Type 0 where
   pub plain-clear : (how : Manner) → Finds Plain how (counts 3 2 1) all-clear (at 0 0 0) (at 2 1 0) (FirstHit.Clear 4)
   pub adaptive-clear : (how : Manner) → Finds Adaptive how (counts 3 2 1) all-clear (at 0 0 0) (at 2 1 0) (FirstHit.Clear 3)
   -- from the other end, by rule 2
+  pub touching-hits : FindsTouching Tested (counts 2 2 2) (one-solid 5) (at 0 0 0) (at 1 1 1)
+      (FirstHit.Hit (record { cell = at 1 0 1; code = 2; place = record { num = 1; den = 2; face = Face.Plus Z }; reads = 7 }))
+  pub touching-clear : FindsTouching Untested (counts 3 2 1) all-clear (at 0 0 0) (at 2 1 0) (FirstHit.Clear 4)
   pub back-clear : (w : Walker) → Finds w (tested-by Two) (counts 3 2 1) all-clear (at 2 1 0) (at 0 0 0) (FirstHit.Clear (back-reads w))
   pub back-hits : (w : Walker) → Finds w (tested-by Two) example-counts marked-cells (at 3 1 0) (at 0 0 0) (FirstHit.Hit the-hit-back)
   -- from the solid cell: clear where it is not tested, with complete marks; a hit at P where it is
