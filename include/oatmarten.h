@@ -257,8 +257,8 @@ typedef struct {
 } oat_sight_answer;
 
 /* ---- lines: refusals 12 (oat_line6 alone), 1, then 6. A, B, C are the differences of p and q in x, y, z, without sign; M is the largest.
-   By rule 2 the 6-line from q to p is the mirror of the one from p to q: the same cells, last to first. So is the touching line. By rule 1 the
-   6-line need not be, as ties go y, z, x both ways; nor need the 26-line, as halves go towards the end of the line */
+   By rule 2 the 6-line from q to p is the mirror of the one from p to q: the same cells, last to first. By rule 1 it need not be, as ties go
+   y, z, x both ways; nor need the 26-line, as halves go towards the end of the line */
 
 /* Writes the cells of the 6-line from p to q, in order, three numbers a cell (x, y, z), at the front of `out`; the rest of `out` stays.
    It has A + B + C + 1 cells. `room` is the number of numbers that `out` holds; refused 6 exactly when it is below three times the cells.
@@ -308,8 +308,7 @@ oat_hit oat_adaptive(oat_counts n, const uint8_t *cells, size_t bytes, oat_cell 
 /* The first solid cell along the touching line from p to q, in the order of oat_line_touching. `start` is a number of enum oat_start, and says of p
    what it says for oat_plain; there is no rule. Asks for no marks. At a tie, place and side of the hit are those of one crossing: of those that lead
    to the cell, the first in the order y, z, x. `reads` counts the cells of the list up to the hit, and all of them where the way is clear: it may
-   read more cells than oat_plain. Where the way is clear, oat_plain with the same start is clear by either rule. With a tested start the way from q
-   to p is clear exactly where the way from p to q is. */
+   read more cells than oat_plain. Where the way is clear, oat_plain with the same start is clear by either rule. */
 oat_hit oat_touching(oat_counts n, const uint8_t *cells, size_t bytes, oat_cell p, oat_cell q, uint32_t start);
 
 /* ---- solid counts that are kept: refusals 2, 3, 6; of oat_set and oat_refill then 5, 14 (oat_refill alone), 13. `bytes` is the number of bytes at
