@@ -278,8 +278,8 @@ oat_listed oat_line26(oat_cell p, oat_cell q, int32_t *out, size_t room);
    cell before it, first the cells that one of its crossings leads to, y, z, x; then those by two of them, yz, yx, zx; then the one by all three. So
    where two axes tie there are three cells, and where three do there are seven. From (0, 0, 0) to (1, 1, 1) it has (0, 0, 0), then (0, 1, 0),
    (0, 0, 1), (1, 0, 0), then (0, 1, 1), (1, 1, 0), (1, 0, 1), then (1, 1, 1).
-   In all it has A + B + C + 1 cells, one more for each tie of two axes and four more for each tie of three. The longest, from one corner of the
-   limits to the opposite one, has 114,682. */
+   No list takes more than 3 + 7*(A + B + C) numbers, and where `room` is so many the cells need not be counted first. The longest, from one corner of
+   the limits to the opposite one, has 114,682 cells. */
 oat_listed oat_line_touching(oat_cell p, oat_cell q, int32_t *out, size_t room);
 
 /* ---- grids: refusals 2, 3, then 4 or 5; the 12 of oat_plain and oat_adaptive before these. `bytes` is the number of bytes at `cells` */
