@@ -15,6 +15,7 @@ use Rattle.lines.proofs.Steps.{stepped-bump}
 use Rattle.lines.proofs.Fractions.{place-in-order, in-order-is-place, place-total, place-suc, entered-by-last, last-made-one, ahead}
 use Rattle.lines.proofs.Centres.{centres-good, upto-26}
 use Rattle.lines.proofs.Signs.{sign-tells, figure-6-is-next, lowered-moves, lowered-none, shift-most, stays-small, first-longest, second-longest}
+use Rattle.lines.proofs.TieSigns.{tie-by-signs-is}
 use Rattle.lines.proofs.Cells.{six-length, six-numbered, six-start, six-end, six-different, six-by-face, six-touched, six-misses-none, six-at-26}
 use Rattle.lines.proofs.Cells.{length-26, numbered-26, start-26, end-26, moves-by-one-26, longest-moves-26, skipped-touches, limited-difference}
 use Rattle.claims.specs.Lines.{OnePlace, SixLine, Touched, NoneMissing, TwentySixLine, Skipped, Signs, SmallValues, Entered, Moves, LongStep, HalfACell}
@@ -66,6 +67,7 @@ signs-tell D =
       tell = λ r t a b h. sign-tells r D t a b ∙ ap (λ k. ltZ (decision D t a b) (pos k)) (second h);
       pick = λ o. figure-6-is-next o D;
       itself = λ t. lowered-none (values D t);
+      tie = λ t. tie-by-signs-is D t;
       move = λ o t n. ap (λ u. lowered o (values D u)) (stepped-bump t n) ∙ lowered-moves o D t n;
     }
   where

@@ -197,8 +197,7 @@ module _ (from : Start) (n : Counts) (l : List ℕ) (p q : Cell) where
       let a = first-axis (v .by) in
       let there = at-last p q (at 0 0 0) v w in
       let num : h .place .num ≡ 1 + 2 * v .from a = ap (λ x. x .num) entry ∙ reached-upper (crossings p q) (centres-good y-z-x (differences p q)) w in
-      let den : h .place .den ≡ 2 * differences p q a = ap (λ x. x .den) entry ∙ reached-lower (crossings p q) (centres-good y-z-x (differences p q)) w in
-      (
+      let den : h .place .den ≡ 2 * differences p q a = ap (λ x. x .den) entry ∙ reached-lower (crossings p q) (centres-good y-z-x (differences p q)) w in (
         a,
         record {
           made = omega (arith, made a);
@@ -268,8 +267,8 @@ module _ (from : Start) (n : Counts) (l : List ℕ) (p q : Cell) where
           let many : m ≡ 0 + length (visits (crossings p q)) = ap (reads-or m) (sym e ∙ is) in (
             omega (arith, touching-length p q),
             λ k d c s there tested.
-            let (i, lt, at-i) = touched-in p q k d c s there in
-            not-solid c (ap test (sym at-i ∙ touching-at p q i) ∙ all i (subst (λ m. i < m) (touching-length p q) lt)) tested,
+                let (i, lt, at-i) = touched-in p q k d c s there in
+                not-solid c (ap test (sym at-i ∙ touching-at p q i) ∙ all i (subst (λ m. i < m) (touching-length p q) lt)) tested,
           )
 
   pub touching-once : TouchingOnce from n l p q

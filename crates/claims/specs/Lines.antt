@@ -11,11 +11,12 @@ use Rattle.lines.specs.declared.Order.{Order}
 use Rattle.lines.specs.declared.Order.the-variants.{Yzx}
 use Rattle.lines.specs.Steps.{Axis, X, Y, Z, Steps, total, stepped}
 use Rattle.lines.specs.Crossings.{next, place, before, InOrder, LastMade, MadeUpto}
-use Rattle.lines.specs.Preference.{Preference, prefers}
+use Rattle.lines.specs.Preference.{Preference, prefers, y-z-x}
 use Rattle.lines.specs.Lines.{differences, centres, six-cell, six-line, longest, place-26, cell-26, line-26, InLimit}
 use Rattle.lines.specs.Segment.{Share, InClosed, InOpen}
+use Rattle.lines.specs.Touching.{next-tie}
 use Rattle.claims.specs.Example.{at}
-use Rattle.lines.specs.Decisions.{decision, e-xy, e-xz, e-zy, values, by-signs, doubled, moved-values, shift, lowered}
+use Rattle.lines.specs.Decisions.{decision, e-xy, e-xz, e-zy, values, by-signs, tie-by-signs, doubled, moved-values, shift, lowered}
 
 -- 1. For each number of crossings there is one place such that every crossing made comes before every one not made: the 6-line's.
 pub record OnePlace (r : Preference) (D : Steps) : Type 0 where
@@ -69,12 +70,13 @@ pub record Skipped (r : Preference) (p q : Cell) : Type 0 where
 
 -- 6. Which of two axes' next crossings comes first is told by the sign of their decision value with the tie bit: below 1 where a is preferred, below
 -- 0 where not. Figure 6's tests on the values lowered for an order pick that order's next crossing, at every place that is not the end; in the order
--- y, z, x these are the values themselves. Its sums move the lowered values too.
+-- y, z, x these are the values themselves. Their signs and zeros tell the next tie of the touching line. Figure 6's sums move the lowered values too.
 pub record Signs (D : Steps) : Type 0 where
   pub tell-with-tie : (r : Preference) (t : Steps) (a b : Axis) → r .rank a < r .rank b → before (centres r D) a (t a) b (t b) ≡ ltZ (decision D t a b) (pos 1)
   pub tell : (r : Preference) (t : Steps) (a b : Axis) → r .rank b < r .rank a → before (centres r D) a (t a) b (t b) ≡ ltZ (decision D t a b) (pos 0)
   pub pick : (o : Order) (t : Steps) → ((a : Axis) → t a ≤ D a) → total t < total D → by-signs (lowered o (values D t)) ≡ next (centres (prefers o) D) t
   pub itself : (t : Steps) → lowered Yzx (values D t) ≡ values D t
+  pub tie : (t : Steps) → ((a : Axis) → t a ≤ D a) → total t < total D → tie-by-signs (values D t) ≡ next-tie (centres y-z-x D) t
   pub move : (o : Order) (t : Steps) (n : Axis) → lowered o (values D (stepped t n)) ≡ moved-values (doubled D) n (lowered o (values D t))
 
 -- SCOPE L19: the values stay within 536,821,761 of 0; lowered they reach one further down, to -536,821,762.

@@ -34,6 +34,7 @@ abbrev pub HaveBytes : ℕ → List Spot → Type 0
 HaveBytes bytes [] = Unit {0}
 HaveBytes bytes (s ∷ more) = HasByte bytes (s .at) × HaveBytes bytes more
 
+-- so few cells that their number fits: with at most 49,149 crossings there are no more than 1 + 7·49,149 reads
 pub record CanLook (bytes reads : ℕ) (spots : List Spot) : Type 0 where
   pub few : reads + length spots ≤ 344050
   pub there : HaveBytes bytes spots

@@ -1,5 +1,5 @@
 // Every cell that a line touches: the list of the touching line, and the first hit along it. Both go from tie to tie, which is of one axis, of two or of
-// three, by the decision values of the tripod, moved by sums: no product and no division on the way.
+// three, by the decision values of the tripod, which sums move.
 mod hit;
 mod list;
 
