@@ -53,7 +53,20 @@ use Rattle.touching.specs.Looking.{looked, HaveBytes, CanLook, CanLookTi
 use Rattle.touching.proofs.Group.{Together, neither, both, tie-passes, tie-steps-from, tie-counts, tie-few, can-map}
 use Rattle.touching.proofs.Passage.{AtTie, at-start, rest-is, at-next, at-end}
 use Rattle.touching.proofs.Entry.{entered-visit}
-use Rattle.touching.proofs.Looks.{last-spot, looked-last}
+use Rattle.touching.proofs.Looks.{last-spot, look-one, looked-last}
+
+-- the turn over a tie of one axis, by the spot behind it and the test of its byte
+pub one-turned : (l : List ℕ) (k : Route) (s t : Spot) (reads : ℕ) (n : Axis) (b : Bool) → NextTie (s .e) (One n) → t ≡ crossed-spot k n s →
+    solid (byte-of-spot l t) ≡ b → Turned l k s reads (record { turn = record { spot = t; reads = reads + 1; hit = b }; faces = 1 })
+one-turned l k s t reads n b next is there =
+    record {
+      tie = One n;
+      next = next;
+      turn =
+          ap (λ x. record { spot = t; reads = reads + 1; hit = x }) (sym there) ∙ look-one t reads (solid (byte-of-spot l t))
+          ∙ ap (λ u. looked l reads s (u ∷ [])) is;
+      faces = refl;
+    }
 
 module _ (l : List ℕ) (k : Route) (plan : Planned (length l) k) where
   abbrev D : Steps
@@ -245,6 +258,7 @@ module _ (l : List ℕ) (k : Route) (plan : Planned (length l) k) where
   pub record Walking (s : Spot) (m reads : ℕ) : Type 0 where
     pub between : AtTie D At (crossed-spot k) at-step (Rest reads) s m
     pub few : reads ≤ 1 + 7 * m
+    pub least : m < reads
 
   pub walking-start : (s : Spot) → SpotAt k (at 0 0 0) s → Walking s 0 1
   unfolding visits found-in
@@ -253,6 +267,7 @@ module _ (l : List ℕ) (k : Route) (plan : Planned (length l) k) where
         between = at-start D At (crossed-spot k) at-step (Rest 1) s ((λ a. omega (arith, at-even 0 a)), h)
             (record { finds = first; free = λ start miss. start-test start ∙ miss });
         few = omega arith;
+        least = omega arith;
       }
     where
       first : (start : Start) → test start (k .p) ≡ false →
@@ -388,6 +403,7 @@ module _ (l : List ℕ) (k : Route) (plan : Planned (length l) k) where
                 (subst (λ f. AtTie D At (crossed-spot k) at-step (Rest (r .turn .reads)) (tie-end (crossed-spot k) (c .tie) s) (m + f)) (sym (c .faces))
                 (at-next D At (crossed-spot k) at-step (Rest reads) (Rest (r .turn .reads)) s m (h .between) lt (c .tie) is onward));
             few = omega (arith, h .few, w Untested .many, size (c .tie) is, tie-few (c .tie), c .faces);
+            least = omega (arith, h .least, w Untested .many, size (c .tie) is, tie-few (c .tie), c .faces);
           }
         where
           is : c .tie ≡ next-tie (crossings (k .p) (k .q)) t

@@ -164,8 +164,8 @@ module _ (c : Course) (good : Good c) (t : Steps) (wi : Within (c .count) t) (lt
   unfolding tie-steps
   tie-counts = size-by (tied c t X) (tied c t Y) (tied c t Z) (some-tie c good t wi lt)
 
--- at least one face, at most three, and no more than seven cells for three
-pub tie-few : (tie : Tie) → (1 ≤ tie-faces tie) × (tie-size tie ≤ 7 * tie-faces tie) × (1 ≤ tie-size tie) × (tie-size tie ≤ 7)
+-- at least one face, at least as many cells, no more than seven for a face, and seven in all
+pub tie-few : (tie : Tie) → (1 ≤ tie-faces tie) × (tie-size tie ≤ 7 * tie-faces tie) × (tie-faces tie ≤ tie-size tie) × (tie-size tie ≤ 7)
 tie-few (One n) = (omega arith, omega arith, omega arith, omega arith)
 tie-few (Two a b) = (omega arith, omega arith, omega arith, omega arith)
 tie-few Three = (omega arith, omega arith, omega arith, omega arith)

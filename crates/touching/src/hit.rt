@@ -123,7 +123,8 @@ fn tie_turn(cells: &[u8], k: Route, s: Spot, reads: u32) -> TieTurn
     }
 }
 
-// From P, which is passed, from tie to tie: to the first solid cell, or to Q.
+// From P, which is passed, from tie to tie: to the first solid cell, or to Q. A tie of one axis, the most frequent, is passed here: then the cells read grow
+// with the faces, and one number counts both; `more` is how many more they are.
 fn walk_ties(cells: &[u8], k: Route, start: Spot) -> Stop
     requires { ⌜ Planned (length (now cells)) k × (k .order ≡ Yzx) × SpotAt k (at 0 0 0) start ⌝ }
     ensures { λ r. ⌜ WalksTies (now (cells .entry)) k r ⌝ }
@@ -131,24 +132,38 @@ fn walk_ties(cells: &[u8], k: Route, start: Spot) -> Stop
     let d = k.d;
     let faces = d.total();
     let mut s = start;
-    let mut reads: u32 = 1;
+    let mut more: u32 = 1;
     let mut m: u32 = 0;
     while m < faces {
-        let t = tie_turn(cells, k, s, reads);
-        let turn = t.turn;
-        s = turn.spot;
-        reads = turn.reads;
-        if turn.hit {
-            return Stop {
-                spot: s,
-                reads: reads,
-            };
+        match tripod::next_tie(s.e) {
+            Tie::One(n) => {
+                s = routes::crossed(s, k, n);
+                m += 1;
+                if hits::is_solid(routes::byte_at(cells, s)) {
+                    return Stop {
+                        spot: s,
+                        reads: m + more,
+                    };
+                }
+            }
+            _ => {
+                let t = tie_turn(cells, k, s, m + more);
+                let turn = t.turn;
+                s = turn.spot;
+                m += t.faces;
+                if turn.hit {
+                    return Stop {
+                        spot: s,
+                        reads: turn.reads,
+                    };
+                }
+                more = turn.reads - m;
+            }
         }
-        m += t.faces;
     }
     Stop {
         spot: s,
-        reads: reads,
+        reads: m + more,
     }
 }
 
