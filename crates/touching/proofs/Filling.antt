@@ -8,6 +8,7 @@ use lib.ListN.{length, drop, length-append, length-set, length-map}
 use Rattle.cells.specs.declared.Cell.{Cell}
 use Rattle.lines.specs.declared.Order.the-variants.{Yzx}
 use Rattle.lines.specs.declared.Tie.{Tie}
+use Rattle.lines.specs.declared.Tie.the-variants.{One}
 use Rattle.lines.specs.Steps.{Axis, X, Y, Z, Steps, at, total}
 use Rattle.lines.specs.Preference.{y-z-x}
 use Rattle.lines.specs.Lines.{differences, cell-of, InLimit}
@@ -64,6 +65,13 @@ unfolding put-cells
 put-cells-length l at [] = refl
 put-cells-length l at (c ∷ k) =
     put-cells-length (put3 l at c) (at + 3) k ∙ simp length-set
+
+-- the cell of a tie of one axis, by the spot behind it
+pub one-put : (out exit : List ℤ) (i : ℕ) (w : SixWay) (s t : SixSpot) (n : Axis) → NextTie (s .e) (One n) → t ≡ crossed-six w n s →
+    exit ≡ put3 out i (t .at) → Put out i w s (record { spot = t; cells = 1; faces = 1 }) exit
+unfolding put-cells
+one-put out exit i w s t n next is stored =
+    record { tie = One n; next = next; stored = stored ∙ ap (λ u. put3 out i (u .at)) is; spot = is; cells = refl; faces = refl }
 
 -- P before the cells of the ties
 pub put-first : (p q : Cell) (entry : List ℤ) → 3 * length (touching-line p q) ≤ length entry →

@@ -115,7 +115,8 @@ fn put_tie(out: &mut [i32], at: usize, s: SixSpot, w: SixWay) -> PastCells
     }
 }
 
-// The cells of the line, at the front of the slice, and how many they are.
+// The cells of the line, at the front of the slice, and how many they are. A tie of one axis, the most frequent, is passed here: then the cells grow with the
+// faces, and one number counts both; `more` is how many more they are.
 fn fill(out: &mut [i32], p: Cell, q: Cell, d: Diffs) -> u32
     requires { ⌜ Measured p q d × (3 * length (touching-line p q) ≤ length (now out)) ⌝ }
     ensures { λ r. ⌜ (now (out .exit) ≡ filled (touching-line p q) (now (out .entry))) × (r ≡ length (touching-line p q)) ⌝ }
@@ -124,15 +125,27 @@ fn fill(out: &mut [i32], p: Cell, q: Cell, d: Diffs) -> u32
     let mut s = lists::first_spot(p, q, d, Rule::One);
     let crossings = d.total();
     let mut m: u32 = 0;
-    let mut count: u32 = 1;
+    let mut more: u32 = 1;
+    let mut at: usize = 3;
     lists::put(out, 0, p);
     while m < crossings {
-        let past = put_tie(out, 3 * (count as usize), s, w);
-        s = past.spot;
-        count += past.cells;
-        m += past.faces;
+        match tripod::next_tie(s.e) {
+            Tie::One(n) => {
+                s = lists::crossed(s, w, n);
+                lists::put(out, at, s.at);
+                at += 3;
+                m += 1;
+            }
+            _ => {
+                let past = put_tie(out, at, s, w);
+                s = past.spot;
+                at += 3 * (past.cells as usize);
+                m += past.faces;
+                more += past.cells - past.faces;
+            }
+        }
     }
-    count
+    m + more
 }
 
 // The values behind the next tie, and how many cells it has.
