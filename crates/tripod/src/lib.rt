@@ -213,28 +213,28 @@ pub fn next_face(e: Tripod) -> Axis
 }
 
 // The axes of the next faces, crossed at one point: at a place that is not the end, those whose crossings come first. The values are those of figure 6.
-pub fn next_tie(e: Tripod) -> Tie
-    ensures { λ r. ⌜ NextTie e r ⌝ }
+pub fn next_tie(v: Tripod) -> Tie
+    ensures { λ r. ⌜ NextTie v r ⌝ }
 {
-    if e.xy < 0 {
-        if e.xz < 0 {
+    if v.xy < 0 {
+        if v.xz < 0 {
             return Tie::One(Axis::X);
         }
-        if 0 < e.xz {
+        if 0 < v.xz {
             return Tie::One(Axis::Z);
         }
         return Tie::Two(Axis::Z, Axis::X);
     }
-    if e.zy < 0 {
+    if v.zy < 0 {
         return Tie::One(Axis::Z);
     }
-    if 0 < e.zy {
-        if 0 < e.xy {
+    if 0 < v.zy {
+        if 0 < v.xy {
             return Tie::One(Axis::Y);
         }
         return Tie::Two(Axis::Y, Axis::X);
     }
-    if 0 < e.xy {
+    if 0 < v.xy {
         return Tie::Two(Axis::Y, Axis::Z);
     }
     Tie::Three

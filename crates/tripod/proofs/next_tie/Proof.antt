@@ -19,12 +19,12 @@ by e r h = subst (NextTie e) h (by-signs-tie e)
 
 returns : tie.Need-returns
 returns c =
-    let e = c .before .before .before .before .before .before .args .e in
+    let e = c .before .before .before .before .before .before .args .v in
     by e (One X) (simp (negative (e .xy) (search needs) (omega (arith, leZ-true, ltZ-true)), negative (e .xz) (search needs) (omega (arith, leZ-true, ltZ-true))))
 
 returns-2 : tie.Need-returns-2
 returns-2 c =
-    let e = c .before .before .before .before .before .before .before .before .before .args .e in
+    let e = c .before .before .before .before .before .before .before .before .before .args .v in
     by e (One Z) (simp (
       negative (e .xy) (search needs) (omega (arith, leZ-true, ltZ-true)),
       not-negative (e .xz) (search needs) (omega (arith, leZ-false, ltZ-false)),
@@ -33,7 +33,7 @@ returns-2 c =
 
 returns-3 : tie.Need-returns-3
 returns-3 c =
-    let e = c .before .before .before .before .before .before .before .before .before .args .e in
+    let e = c .before .before .before .before .before .before .before .before .before .args .v in
     by e (Two Z X) (simp (
       negative (e .xy) (search needs) (omega (arith, leZ-true, ltZ-true)),
       not-negative (e .xz) (search needs) (omega (arith, leZ-false, ltZ-false)),
@@ -42,7 +42,7 @@ returns-3 c =
 
 returns-4 : tie.Need-returns-4
 returns-4 c =
-    let e = c .before .before .before .before .before .before .args .e in
+    let e = c .before .before .before .before .before .before .args .v in
     by e (One Z) (simp (
       not-negative (e .xy) (search needs) (omega (arith, leZ-false, ltZ-false)),
       negative (e .zy) (search needs) (omega (arith, leZ-true, ltZ-true)),
@@ -50,7 +50,7 @@ returns-4 c =
 
 returns-5 : tie.Need-returns-5
 returns-5 c =
-    let e = c .before .before .before .before .before .before .before .before .before .before .before .before .args .e in
+    let e = c .before .before .before .before .before .before .before .before .before .before .before .before .args .v in
     by e (One Y) (simp (
       not-negative (e .xy) (search needs) (omega (arith, leZ-false, ltZ-false)),
       not-negative (e .zy) (search needs) (omega (arith, leZ-false, ltZ-false)),
@@ -60,7 +60,7 @@ returns-5 c =
 
 returns-6 : tie.Need-returns-6
 returns-6 c =
-    let e = c .before .before .before .before .before .before .before .before .before .before .before .before .args .e in
+    let e = c .before .before .before .before .before .before .before .before .before .before .before .before .args .v in
     by e (Two Y X) (simp (
       not-negative (e .xy) (search needs) (omega (arith, leZ-false, ltZ-false)),
       not-negative (e .zy) (search needs) (omega (arith, leZ-false, ltZ-false)),
@@ -70,7 +70,7 @@ returns-6 c =
 
 returns-7 : tie.Need-returns-7
 returns-7 c =
-    let e = c .before .before .before .before .before .before .before .before .before .before .before .before .args .e in
+    let e = c .before .before .before .before .before .before .before .before .before .before .before .before .args .v in
     by e (Two Y Z) (simp (
       not-negative (e .xy) (search needs) (omega (arith, leZ-false, ltZ-false)),
       not-negative (e .zy) (search needs) (omega (arith, leZ-false, ltZ-false)),
@@ -80,7 +80,7 @@ returns-7 c =
 
 returns-8 : tie.Need-returns-8
 returns-8 c =
-    let e = c .before .before .before .before .before .before .before .before .before .before .before .before .args .e in
+    let e = c .before .before .before .before .before .before .before .before .before .before .before .before .args .v in
     by e Three (simp (
       not-negative (e .xy) (search needs) (omega (arith, leZ-false, ltZ-false)),
       not-negative (e .zy) (search needs) (omega (arith, leZ-false, ltZ-false)),
