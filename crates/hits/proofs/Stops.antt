@@ -16,7 +16,6 @@ use Rattle.lines.proofs.Cells.{six-is, steps-made}
 use Rattle.tripod.specs.Tripod.{steps}
 use Rattle.grids.specs.Grid.{cell-at, byte-of, solid, byte-index}
 use Rattle.walks.specs.declared.FirstHit.the-variants as FirstHit
-use Rattle.walks.specs.Answers.{entered-at}
 use Rattle.walks.proofs.Inside.{cell-inside}
 use Rattle.walks.specs.Numbers.{hits-at, answer-at}
 use Rattle.walks.proofs.Testing.{hits-is}

@@ -1,8 +1,8 @@
 -- How many cells a touching line has: at most seven for three crossings, so many where every tie is one of three, and those of the 6-line where no two
 -- crossings tie. Assumes nothing.
-use mathlib.Core.Path.{_≡_, refl, sym, ap, ap₂, _∙_, subst}
+use mathlib.Core.Path.{_≡_, refl, sym, ap, ap₂, _∙_}
 use mathlib.Core.Logic.{⊎-elim}
-use mathlib.Core.List.{List, [], _∷_, _++_, map}
+use mathlib.Core.List.{[], _∷_, _++_, map}
 use Prim.Native.Nat.{ℕ, zero, suc, _+_, _-_, _*_, _≤_, _<_}
 use native.Mathlib.Omega.{arith, by-contra, both-ways}
 use native.Mathlib.Numerals.{add-one}
@@ -11,18 +11,18 @@ use Rattle.cells.specs.declared.Cell.{Cell}
 use Rattle.cells.specs.Tabulate.{tabulate}
 use Rattle.cells.proofs.Tabulate.{tabulate-first, tabulate-same}
 use Rattle.lines.specs.Steps.{Axis, X, Y, Z, Steps, at, total, same}
-use Rattle.lines.specs.Crossings.{Course, upper, next, place, TieFree}
-use Rattle.lines.specs.Preference.{Preference, y-z-x}
+use Rattle.lines.specs.Crossings.{Course, next, place, TieFree}
+use Rattle.lines.specs.Preference.{Preference}
 use Rattle.lines.specs.Lines.{differences, cell-of, centres, six-cell, six-line}
-use Rattle.lines.specs.Touching.{tied, tie-steps, further, ways, Visit, visits-by, visits-from, visits, visited, visit-cell, crossings, touching-line}
+use Rattle.lines.specs.Touching.{tied, tie-steps, further, ways, visits-by, visits-from, visits, visit-cell, crossings, touching-line}
 use Rattle.lines.proofs.Steps.{Cmp, here, other, cmp, lt-or-ge, same-self, bump}
 use Rattle.lines.proofs.Merge.{Within}
 use Rattle.lines.proofs.Fractions.{Good, place-start, place-suc, place-on, place-total}
 use Rattle.lines.proofs.Centres.{centres-good}
 use Rattle.lines.proofs.Cells.{six-is, six-line-is}
 use Rattle.lines.proofs.Ways.{further-on, total-further, at-even, by-axis, tie-length}
-use Rattle.lines.proofs.Touching.{Leading, passed, passed-on, tie-leads, tie-most, leads-tie, next-leads, passed-within}
-use Rattle.lines.proofs.Touched.{touching-is, touching-length}
+use Rattle.lines.proofs.Touching.{Leading, passed, passed-on, tie-leads, leads-tie, next-leads, passed-within}
+use Rattle.lines.proofs.Touched.{touching-is}
 
 -- ---- the most
 

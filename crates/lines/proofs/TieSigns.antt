@@ -3,15 +3,15 @@ use mathlib.Core.Path.{_≡_, refl, sym, ap, ap₂, _∙_}
 use mathlib.Core.Bool.{Bool, true, false, cond}
 use Prim.Native.Nat.{ℕ, suc, _+_, _*_, _≤_, _<_}
 use native.Mathlib.Omega.{arith, by-contra}
-use native.Mathlib.Nat.{mul-le-mul-right, mul-le-mul-left}
-use lib.IntN.{ℤ, pos, _-ℤ_}
+use native.Mathlib.Nat.{mul-le-mul-left}
+use lib.IntN.{pos, _-ℤ_}
 use lib.Signed.{ltZ}
 use Rattle.cells.proofs.Signed.{diff-is, ltZ-true, ltZ-false}
 use Rattle.lines.specs.Steps.{Axis, X, Y, Z, Steps, total}
 use Rattle.lines.specs.Crossings.{Course, next}
 use Rattle.lines.specs.Preference.{y-z-x}
 use Rattle.lines.specs.Lines.{centres}
-use Rattle.lines.specs.Decisions.{decision, e-xy, e-xz, e-zy, values, tie-by-signs}
+use Rattle.lines.specs.Decisions.{e-xy, e-xz, e-zy, values, tie-by-signs}
 use Rattle.lines.specs.Touching.{tied, tie-of, next-tie}
 use Rattle.lines.proofs.Merge.{Within}
 use Rattle.lines.proofs.Fractions.{Good}

@@ -1,25 +1,24 @@
 -- The touching line in step space, for every course whose ends lie inside their cells: which crossings tie, that just the cells that the segment
 -- touches are visited, each once, and in the order in which it comes to them. Assumes nothing.
-use mathlib.Core.Path.{_≡_, refl, sym, ap, ap₂, _∙_, subst}
-use mathlib.Core.Logic.{_⊎_, inl, inr, ⊎-elim}
-use mathlib.Core.Bool.{Bool, true, false, cond, not, _&&_, _||_}
-use mathlib.Core.List.{List, [], _∷_, _++_}
+use mathlib.Core.Path.{_≡_, refl, sym, ap, _∙_}
+use mathlib.Core.Logic.{_⊎_, ⊎-elim}
+use mathlib.Core.Bool.{Bool, true, false, cond, not, _||_}
 use Prim.Native.Nat.{ℕ, zero, suc, _+_, _-_, _*_, _≤_, _<_}
-use native.Mathlib.Omega.{arith, by-contra, both-ways}
-use native.Mathlib.Nat.{mul-le-mul, mul-le-mul-left, mul-le-mul-right}
-use lib.Dec.{ltb, leb, eqb}
-use borrow.Author.Tests.{ltb-true, ltb-false, lt-ltb, le-ltb, leb-true, leb-false, le-leb, lt-leb, eq-eqb, ne-eqb}
+use native.Mathlib.Omega.{arith, by-contra}
+use native.Mathlib.Nat.{mul-le-mul-left, mul-le-mul-right}
+use lib.Dec.{leb}
+use borrow.Author.Tests.{ltb-true, lt-ltb, leb-true, le-leb}
 use Rattle.cells.proofs.Touching.{and-both}
 use Rattle.lines.specs.Steps.{Axis, X, Y, Z, Steps, at, total, same}
-use Rattle.lines.specs.Crossings.{Course, upper, has-more, next, MadeUpto}
-use Rattle.lines.specs.Touching.{no-later, tied, tie-steps, further, ways, Visit, visits-by, visits-from, visits}
-use Rattle.lines.specs.Touching.{visited, first-axis, is-start, visit-upper, visit-lower}
+use Rattle.lines.specs.Crossings.{Course, upper, has-more, next}
+use Rattle.lines.specs.Touching.{no-later, tied, tie-steps, further, ways, visits-by, visits-from, visits}
+use Rattle.lines.specs.Touching.{visited}
 use Rattle.lines.proofs.Steps.{Cmp, here, other, cmp, lt-or-ge}
 use Rattle.lines.proofs.Merge.{Within, Next, Choice}
-use Rattle.lines.proofs.Fractions.{Before, Good, InClosedSteps, chain-le, chain-lt-le, chain-le-lt, next-rule, start-touched}
-use Rattle.lines.proofs.Every.{Each, no-more, also, Some, this-one, a-later, Pairs, no-pair, and-then}
-use Rattle.lines.proofs.Every.{each-map, some-map, each-append, some-left, some-right, pairs-append}
-use Rattle.lines.proofs.Ways.{further-on, total-further, by-axis, each-or-one, first-has, code, LeadsFrom, tie-each, tie-pairs, tie-some}
+use Rattle.lines.proofs.Fractions.{Before, Good, InClosedSteps, chain-le, next-rule}
+use Rattle.lines.proofs.Every.{Some, this-one, a-later}
+use Rattle.lines.proofs.Every.{some-map, some-left, some-right}
+use Rattle.lines.proofs.Ways.{further-on, total-further, by-axis, each-or-one, tie-some}
 
 -- ---- which axes tie
 

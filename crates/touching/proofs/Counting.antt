@@ -1,7 +1,7 @@
 -- Cells counted tie by tie, by the values alone. Assumes nothing.
 use mathlib.Core.Path.{_≡_, refl, sym, ap, _∙_, subst}
-use mathlib.Core.List.{List, [], _∷_, _++_}
-use Prim.Native.Nat.{ℕ, _+_, _*_, _≤_, _<_}
+use mathlib.Core.List.{List}
+use Prim.Native.Nat.{ℕ, _+_, _≤_, _<_}
 use native.Mathlib.Omega.{arith}
 use lib.ListN.{length, length-append}
 use Rattle.lines.specs.declared.Tie.{Tie}
@@ -37,11 +37,11 @@ module _ (D : Steps) where
   Left count rest = count + length rest ≡ length (visits (course-of D))
 
   abbrev pub Counting : Tripod → ℕ → ℕ → Type 0
-  Counting e m count = AtTie D ValuesAt (moved-values (doubled D)) values-step (λ t. Left count) e m
+  Counting e m count = AtTie D ValuesAt (moved-values (doubled D)) values-step (Left count) e m
 
   pub counting-start : Counting (values D (at 0 0 0)) 0 1
   unfolding visits
-  counting-start = at-start D ValuesAt (moved-values (doubled D)) values-step (λ t. Left 1) _ (none, refl) (omega arith)
+  counting-start = at-start D ValuesAt (moved-values (doubled D)) values-step (Left 1) _ (none, refl) (omega arith)
     where
       none : (a : Axis) → at 0 0 0 a ≤ D a
       none a = omega (arith, at-even 0 a)
@@ -83,8 +83,8 @@ module _ (D : Steps) where
           let size : length (visits-by (h .t) (tie-steps (course-of D) (h .t)) ways) ≡ r .cells =
           tie-counts (course-of D) (centres-good y-z-x D) (h .t) (h .full .within) less .0 ∙ ap tie-size (sym is) ∙ sym (c .cells) in
           rw (c .values, c .faces)
-          (at-next D ValuesAt (moved-values (doubled D)) values-step (λ t. Left count) (λ t. Left (count + r .cells)) e m h lt (c .tie) is
+          (at-next D ValuesAt (moved-values (doubled D)) values-step (Left count) (Left (count + r .cells)) e m h lt (c .tie) is
           (λ more k. omega (arith, k, length-append (visits-by (h .t) (tie-steps (course-of D) (h .t)) ways) more)))
 
     pub counting-end : total D ≤ m → count ≡ length (visits (course-of D))
-    counting-end le = omega (arith, at-end D ValuesAt (moved-values (doubled D)) values-step (λ t. Left count) e m h le)
+    counting-end le = omega (arith, at-end D ValuesAt (moved-values (doubled D)) values-step (Left count) e m h le)

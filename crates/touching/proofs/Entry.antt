@@ -3,26 +3,24 @@
 use mathlib.Core.Path.{_≡_, refl, sym, ap, _∙_}
 use mathlib.Core.Logic.{_⊎_, inl, inr}
 use mathlib.Core.Bool.{Bool, true, false, cond}
-use Prim.Native.Nat.{ℕ, suc, _+_, _-_, _*_, _≤_, _<_}
+use Prim.Native.Nat.{ℕ, _+_, _-_, _*_, _≤_, _<_}
 use native.Mathlib.Omega.{arith}
-use native.Mathlib.Decide.{decLt}
-use lib.Dec.{ltb, eqb}
-use borrow.Author.Tests.{ltb-true, ltb-false, ne-eqb}
+use lib.Dec.{ltb}
+use borrow.Author.Tests.{ltb-false, ne-eqb}
 use Rattle.cells.specs.declared.Cell.{Cell}
 use Rattle.cells.specs.declared.Face.the-variants as Face
 use Rattle.lines.specs.declared.Order.the-variants.{Xzy}
 use Rattle.lines.specs.Steps.{Axis, X, Y, Z, Steps, total, same}
-use Rattle.lines.specs.Crossings.{Course, upper, LastMade}
+use Rattle.lines.specs.Crossings.{Course, LastMade}
 use Rattle.lines.specs.Preference.{prefers, x-z-y-rank, y-z-x-rank, y-z-x}
 use Rattle.lines.specs.Lines.{differences, face-along, centres}
 use Rattle.lines.specs.Touching.{Visit, visited, first-axis, crossings, visit-upper}
 use Rattle.lines.proofs.Steps.{lt-or-ge}
-use Rattle.lines.proofs.Fractions.{Before, Good, ahead, true-before}
+use Rattle.lines.proofs.Fractions.{Before, ahead, true-before}
 use Rattle.lines.proofs.Centres.{centres-good}
 use Rattle.lines.proofs.Ways.{further-on, total-further, first-has}
 use Rattle.lines.proofs.Touching.{Leading, tie-leads, tie-most}
 use Rattle.lines.proofs.Visits.{Visiting, not-start, reached-upper, reached-lower}
-use Rattle.walks.specs.declared.Place.{Place}
 use Rattle.places.specs.Entered.{numerator, last-axis, place-along, place-at-p, entered}
 use Rattle.places.proofs.Entering.{last-axis-is}
 use Rattle.touching.specs.Touching.{visit-place}

@@ -1,7 +1,7 @@
 -- Cells stored tie by tie, at the front of the lent slice. Assumes nothing.
 use mathlib.Core.Path.{_≡_, refl, sym, ap, ap₂, _∙_, subst}
 use mathlib.Core.List.{List, [], _∷_, _++_, map, append-nil, append-assoc, map-append}
-use Prim.Native.Nat.{ℕ, zero, suc, _+_, _*_, _≤_, _<_}
+use Prim.Native.Nat.{ℕ, suc, _+_, _*_, _≤_, _<_}
 use native.Mathlib.Omega.{arith}
 use lib.IntN.{ℤ}
 use lib.ListN.{length, drop, length-append, length-set, length-map}
@@ -11,7 +11,7 @@ use Rattle.lines.specs.declared.Tie.{Tie}
 use Rattle.lines.specs.declared.Tie.the-variants.{One}
 use Rattle.lines.specs.Steps.{Axis, X, Y, Z, Steps, at, total}
 use Rattle.lines.specs.Preference.{y-z-x}
-use Rattle.lines.specs.Lines.{differences, cell-of, InLimit}
+use Rattle.lines.specs.Lines.{differences, InLimit}
 use Rattle.lines.specs.Touching.{tie-steps, next-tie, ways, Visit, visits-by, visits-from, visits, visited, visit-cell, crossings, touching-line}
 use Rattle.lines.proofs.Steps.{bump, bump-within}
 use Rattle.lines.proofs.Merge.{Within}
@@ -24,11 +24,11 @@ use Rattle.tripod.specs.Tripod.{NextTie}
 use Rattle.lists.specs.declared.six.SixWay.{SixWay}
 use Rattle.lists.specs.declared.six.SixSpot.{SixSpot}
 use Rattle.lists.specs.Lists.{numbers, filled}
-use Rattle.lists.specs.Kept.{SixWayOf, SixSpotAt, crossed-six, CanCrossSix, put3}
+use Rattle.lists.specs.Kept.{SixWayOf, SixSpotAt, crossed-six, put3}
 use Rattle.lists.proofs.Front.{put-after}
 use Rattle.lists.proofs.Line.{spot-crossed, can-cross}
 use Rattle.touching.specs.declared.list.PastCells.{PastCells}
-use Rattle.touching.specs.Passing.{of-tie, tie-end, CanTie, tie-size}
+use Rattle.touching.specs.Passing.{of-tie, tie-size}
 use Rattle.touching.specs.Listing.{put-cells, cells-of, CanTieSix, CanPut, Put}
 use Rattle.touching.proofs.Group.{Together, neither, both, tie-passes, tie-steps-from, tie-counts, can-map}
 use Rattle.touching.proofs.Passage.{AtTie, at-start, rest-is, at-next, at-end}
@@ -98,7 +98,7 @@ module _ (p q : Cell) (w : SixWay) (way : SixWayOf p q w) where
     pub stored : put-cells out (3 * count) (map (visit-cell p q) rest) ≡ end
 
   abbrev pub Filling : List ℤ → List ℤ → SixSpot → ℕ → ℕ → Type 0
-  Filling end out s m count = AtTie D SpotAt (crossed-six w) spot-step (λ t. Coming end out count) s m
+  Filling end out s m count = AtTie D SpotAt (crossed-six w) spot-step (Coming end out count) s m
 
   pub filling-start : (out : List ℤ) (s : SixSpot) → SixSpotAt Yzx p q (at 0 0 0) s →
       Filling (put-cells out 3 (map (visit-cell p q) (visits-from (crossings p q) (total D) (at 0 0 0)))) out s 0 1
@@ -121,7 +121,7 @@ module _ (p q : Cell) (w : SixWay) (way : SixWayOf p q w) where
     pub filling-end : total D ≤ m → (out ≡ end) × (count ≡ length (visits (crossings p q)))
     unfolding put-cells
     filling-end le =
-        let k = at-end D SpotAt (crossed-six w) spot-step (λ t. Coming end out count) s m h le in
+        let k = at-end D SpotAt (crossed-six w) spot-step (Coming end out count) s m h le in
         (k .stored, omega (arith, k .left))
 
     module _ (lt : m < total D) where
@@ -163,7 +163,7 @@ module _ (p q : Cell) (w : SixWay) (way : SixWayOf p q w) where
           -- the cells of the tie are among those that are left
           room-for : (tie : Tie) → tie ≡ next-tie (crossings p q) (h .t) → 3 * count + 3 * tie-size tie ≤ length out
           room-for tie is =
-              let (more, e) = rest-is D SpotAt (crossed-six w) spot-step (λ t. Coming end out count) s m h lt in
+              let (more, e) = rest-is D SpotAt (crossed-six w) spot-step (Coming end out count) s m h lt in
               omega (arith, h .rest .left, ap length e, length-append here more, size tie is)
 
       pub filling-next : (r : PastCells) (exit : List ℤ) → Put out (3 * count) w s r exit → Filling end exit (r .spot) (m + r .faces) (count + r .cells)
@@ -172,7 +172,7 @@ module _ (p q : Cell) (w : SixWay) (way : SixWayOf p q w) where
           let many : length here ≡ r .cells = size (c .tie) is ∙ sym (c .cells) in
           let next : 3 * count + 3 * length (map (visit-cell p q) here) ≡ 3 * (count + r .cells) = omega (arith, length-map here (visit-cell p q)) in
           rw (c .spot, c .faces)
-          (at-next D SpotAt (crossed-six w) spot-step (λ t. Coming end out count) (λ t. Coming end exit (count + r .cells)) s m h lt (c .tie) is
+          (at-next D SpotAt (crossed-six w) spot-step (Coming end out count) (Coming end exit (count + r .cells)) s m h lt (c .tie) is
           (λ more k.
           record {
             left = omega (arith, k .left, length-append here more);

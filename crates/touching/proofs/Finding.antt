@@ -5,7 +5,6 @@ use mathlib.Core.List.{List, [], _∷_, _++_}
 use Prim.Native.Nat.{ℕ, suc, _+_, _*_, _≤_, _<_}
 use native.Mathlib.Omega.{arith}
 use lib.Dec.{eqb}
-use lib.IntN.{pos}
 use lib.ListN.{length}
 use borrow.Author.Tests.{eq-eqb, ne-eqb}
 use Rattle.cells.specs.declared.Cell.{Cell}
@@ -27,19 +26,18 @@ use Rattle.lines.proofs.Cells.{cell-start, cell-tells}
 use Rattle.lines.proofs.Every.{Each, no-more, also, each-map}
 use Rattle.lines.proofs.Signs.{lowered-none}
 use Rattle.lines.proofs.Touched.{start-cell}
-use Rattle.lines.proofs.Ways.{further-on, total-further, at-even, tie-each}
-use Rattle.lines.proofs.Touching.{passed, passed-on}
-use Rattle.lines.proofs.Visits.{Full, Visiting, at-tie}
+use Rattle.lines.proofs.Ways.{total-further, at-even, tie-each}
+use Rattle.lines.proofs.Visits.{Visiting, at-tie}
 use Rattle.tripod.specs.Tripod.{NextTie}
-use Rattle.grids.specs.Grid.{byte-of, solid, byte-index}
+use Rattle.grids.specs.Grid.{byte-of, solid}
 use Rattle.walks.specs.declared.FirstHit.{FirstHit}
 use Rattle.walks.specs.declared.FirstHit.the-variants as FirstHit
-use Rattle.walks.specs.Walks.{is-cell, hit-at}
+use Rattle.walks.specs.Walks.{hit-at}
 use Rattle.walks.proofs.Find.{is-cell-self}
 use Rattle.walks.proofs.Testing.{other-test}
 use Rattle.routes.specs.declared.Route.{Route}
 use Rattle.routes.specs.declared.Spot.{Spot}
-use Rattle.routes.specs.Route.{Planned, SpotAt, HasByte, byte-of-spot, crossed-spot, CanCross}
+use Rattle.routes.specs.Route.{Planned, SpotAt, byte-of-spot, crossed-spot, CanCross}
 use Rattle.routes.proofs.Spots.{short-at, spot-crossed, spot-byte, byte-is, can-cross}
 use Rattle.places.specs.Entered.{place-at-p, entered}
 use Rattle.hits.specs.declared.Stop.{Stop}
@@ -48,8 +46,8 @@ use Rattle.hits.specs.Answer.{answer-from}
 use Rattle.hits.proofs.Stops.{place-answers}
 use Rattle.touching.specs.declared.hit.TieTurn.{TieTurn}
 use Rattle.touching.specs.Touching.{visit-place, found-in, walking}
-use Rattle.touching.specs.Passing.{of-tie, tie-end, CanTie, tie-size, tie-faces}
-use Rattle.touching.specs.Looking.{looked, HaveBytes, CanLook, CanLookTie, CanTurn, Turned, told-from, found-along, StopsTouching}
+use Rattle.touching.specs.Passing.{of-tie, tie-end, CanTie, tie-size}
+use Rattle.touching.specs.Looking.{looked, HaveBytes, CanTurn, Turned, told-from, found-along, StopsTouching}
 use Rattle.touching.proofs.Group.{Together, neither, both, tie-passes, tie-steps-from, tie-counts, tie-few, can-map}
 use Rattle.touching.proofs.Passage.{AtTie, at-start, rest-is, at-next, at-end}
 use Rattle.touching.proofs.Entry.{entered-visit}
@@ -71,9 +69,6 @@ one-turned l k s t reads n b next is there =
 module _ (l : List ℕ) (k : Route) (plan : Planned (length l) k) where
   abbrev D : Steps
   D = differences (k .p) (k .q)
-
-  abbrev Here : Steps → Steps → Visit → Type 0
-  Here u t v = Visiting (crossings (k .p) (k .q)) (centres-good y-z-x D) u v
 
   -- a spot of a place between the ends
   abbrev pub At : Steps → Spot → Type 0
@@ -139,12 +134,6 @@ module _ (l : List ℕ) (k : Route) (plan : Planned (length l) k) where
       let c : Cell = cell-of (k .p) (k .q) t in
       FirstHit.Hit (record { cell = c; code = byte-of (k .n) l c; place = entered (k .p) (k .q) Xzy D t; reads = reads })
 
-  -- clear, where its cell is no hit
-  clear-answer : (start : Start) (t : Steps) (r : Stop) → At t (r .spot) → place-test start t ≡ false → answer-from start l (told-from k) r ≡ FirstHit.Clear (r .reads)
-  clear-answer start t r h free =
-      place-answers start (length l) (told-from k) told-planned l t r (h .0) (h .1 .index)
-      ∙ ap (λ b. cond b (hit-at-place t (r .reads)) (FirstHit.Clear (r .reads))) free
-
   -- the hit of a visit, where it is one
   abbrev hit-of : Visit → ℕ → FirstHit
   hit-of v reads =
@@ -179,7 +168,6 @@ module _ (l : List ℕ) (k : Route) (plan : Planned (length l) k) where
 
   record Miss (start : Start) (reads : ℕ) (vs : List Visit) (r : Turn) : Type 0 where
     many : r .reads ≡ reads + length vs
-    free : solid (byte-of-spot l (r .spot)) ≡ false
     goes-on : (more : List Visit) →
         found-in (test start) (k .n) l (k .p) (k .q) reads (vs ++ more) ≡ found-in (test start) (k .n) l (k .p) (k .q) (r .reads) more
 
@@ -206,7 +194,6 @@ module _ (l : List ℕ) (k : Route) (plan : Planned (length l) k) where
   miss-later start reads v vs r miss h =
       record {
         many = omega (arith, h .many);
-        free = h .free;
         goes-on = λ more. ap (λ b. cond b (hit-of v (reads + 1)) (found-in (test start) (k .n) l (k .p) (k .q) (reads + 1) (vs ++ more))) miss ∙ h .goes-on more;
       }
 
@@ -230,10 +217,9 @@ module _ (l : List ℕ) (k : Route) (plan : Planned (length l) k) where
 
   -- spots that belong to visits, looked at one after the other
   scan : (start : Start) (u : Steps) (reads : ℕ) (d : Spot) (vs : List Visit) (ss : List Spot) → Together (λ v s. At (visited v) s) vs ss → Each (Tied u) vs →
-      (length vs ≡ 0 → solid (byte-of-spot l d) ≡ false) → Looked start u reads vs (looked l reads d ss) (looked l reads d ss .hit)
-  scan start u reads d [] [] neither no-more free = record { many = omega arith; free = free refl; goes-on = λ more. refl }
-  scan start u reads d (v ∷ vs) (s ∷ ss) (both r t) (also h e) free =
-      go (solid (byte-of-spot l s)) refl (λ miss. scan start u (reads + 1) s vs ss t e (λ z. miss))
+      Looked start u reads vs (looked l reads d ss) (looked l reads d ss .hit)
+  scan start u reads d [] [] neither no-more = record { many = omega arith; goes-on = λ more. refl }
+  scan start u reads d (v ∷ vs) (s ∷ ss) (both r t) (also h e) = go (solid (byte-of-spot l s)) refl (scan start u (reads + 1) s vs ss t e)
     where
       byte : solid (byte-of-spot l s) ≡ solid (byte-of (k .n) l (visit-cell (k .p) (k .q) v))
       byte = ap solid (byte-is (length l) k plan l (visited v) s (r .1))
@@ -241,19 +227,17 @@ module _ (l : List ℕ) (k : Route) (plan : Planned (length l) k) where
       same : test start (visit-cell (k .p) (k .q) v) ≡ solid (byte-of (k .n) l (visit-cell (k .p) (k .q) v))
       same = past-start start (visited v) (omega (arith, total-further (v .from) (v .by), h .some)) .0
 
-      go : (b : Bool) → solid (byte-of-spot l s) ≡ b →
-          (solid (byte-of-spot l s) ≡ false → Looked start u (reads + 1) vs (looked l (reads + 1) s ss) (looked l (reads + 1) s ss .hit)) →
+      go : (b : Bool) → solid (byte-of-spot l s) ≡ b → Looked start u (reads + 1) vs (looked l (reads + 1) s ss) (looked l (reads + 1) s ss .hit) →
           Looked start u reads (v ∷ vs) (cond b (record { spot = s; reads = reads + 1; hit = true }) (looked l (reads + 1) s ss))
           (cond b (record { spot = s; reads = reads + 1; hit = true }) (looked l (reads + 1) s ss) .hit)
       go true is below = hit-here start u reads v vs s h r (same ∙ sym byte ∙ is) (sym byte ∙ is)
-      go false is below = later-by start u reads v vs (looked l (reads + 1) s ss) (looked l (reads + 1) s ss .hit) (same ∙ sym byte ∙ is) (below is)
+      go false is below = later-by start u reads v vs (looked l (reads + 1) s ss) (looked l (reads + 1) s ss .hit) (same ∙ sym byte ∙ is) below
 
   -- ---- from tie to tie
 
-  -- whichever the start, if P is no hit: what is found from here on, so many cells read, is what the definition finds, and the cell here is no hit
-  pub record Rest (reads : ℕ) (t : Steps) (rest : List Visit) : Type 0 where
-    pub finds : (start : Start) → test start (k .p) ≡ false → found-in (test start) (k .n) l (k .p) (k .q) reads rest ≡ found-along start l k
-    pub free : (start : Start) → test start (k .p) ≡ false → place-test start t ≡ false
+  -- whichever the start, if P is no hit: what is found from here on, so many cells read, is what the definition finds
+  abbrev pub Rest : ℕ → List Visit → Type 0
+  Rest reads rest = (start : Start) → test start (k .p) ≡ false → found-in (test start) (k .n) l (k .p) (k .q) reads rest ≡ found-along start l k
 
   pub record Walking (s : Spot) (m reads : ℕ) : Type 0 where
     pub between : AtTie D At (crossed-spot k) at-step (Rest reads) s m
@@ -264,8 +248,7 @@ module _ (l : List ℕ) (k : Route) (plan : Planned (length l) k) where
   unfolding visits found-in
   walking-start s h =
       record {
-        between = at-start D At (crossed-spot k) at-step (Rest 1) s ((λ a. omega (arith, at-even 0 a)), h)
-            (record { finds = first; free = λ start miss. start-test start ∙ miss });
+        between = at-start D At (crossed-spot k) at-step (Rest 1) s ((λ a. omega (arith, at-even 0 a)), h) first;
         few = omega arith;
         least = omega arith;
       }
@@ -278,7 +261,7 @@ module _ (l : List ℕ) (k : Route) (plan : Planned (length l) k) where
           (ap (test start) (start-cell (k .p) (k .q)) ∙ miss))
 
   -- a P that is tested and solid is the hit
-  pub start-stops : (s : Spot) → SpotAt k (at 0 0 0) s → (start : Start) → test start (k .p) ≡ true → StopsTouching start l k (record { spot = s; reads = 1 })
+  pub start-stops : (s : Spot) → SpotAt k (at 0 0 0) s → (start : Start) → test start (k .p) ≡ true → StopsTouching start l k (record { spot = s; reads = 1; hit = true })
   unfolding entered visit-place visits found-in
   start-stops s h start met =
       record {
@@ -378,20 +361,20 @@ module _ (l : List ℕ) (k : Route) (plan : Planned (length l) k) where
       turned start r c =
           subst (λ u. Looked start t reads here u (u .hit)) (sym (c .turn))
           (scan start t reads s here (of-tie (crossed-spot k) (c .tie) s) (spots (c .tie) (found (c .tie) (c .next)))
-          (each-map (at-tie (crossings (k .p) (k .q)) (centres-good y-z-x D) t (h .between .full)) (tie-each t (tie-steps (crossings (k .p) (k .q)) t)))
-          (λ z. absurd (omega (arith, size (c .tie) (found (c .tie) (c .next)), tie-few (c .tie)))))
+          (each-map (at-tie (crossings (k .p) (k .q)) (centres-good y-z-x D) t (h .between .full)) (tie-each t (tie-steps (crossings (k .p) (k .q)) t))))
 
       -- a turn that hit stops the walk
       pub turn-stops : (r : TieTurn) → Turned l k s reads r → r .turn .hit ≡ true → (start : Start) → test start (k .p) ≡ false →
-          StopsTouching start l k (record { spot = r .turn .spot; reads = r .turn .reads })
+          StopsTouching start l k (r .turn)
       turn-stops r c hit start miss =
           let w = subst (Looked start t reads here (r .turn)) hit (turned start r c) in
           let (more, e) = rest-is D At (crossed-spot k) at-step (Rest reads) s m (h .between) lt in
           record {
             byte = spot-byte (length l) k plan (visited (w .v)) (r .turn .spot) (w .belongs .0) (w .belongs .1);
             answers =
-                hit-answer start t (w .v) (w .visiting) (record { spot = r .turn .spot; reads = r .turn .reads }) (w .belongs) (w .there)
-                ∙ sym (w .finds more) ∙ ap (found-in (test start) (k .n) l (k .p) (k .q) reads) (sym e) ∙ h .between .rest .finds start miss;
+                ap (λ b. cond b (answer-from start l (told-from k) (record { spot = r .turn .spot; reads = r .turn .reads })) (FirstHit.Clear (r .turn .reads))) hit
+                ∙ hit-answer start t (w .v) (w .visiting) (record { spot = r .turn .spot; reads = r .turn .reads }) (w .belongs) (w .there)
+                ∙ sym (w .finds more) ∙ ap (found-in (test start) (k .n) l (k .p) (k .q) reads) (sym e) ∙ h .between .rest start miss;
           }
 
       -- one that missed is past the tie
@@ -421,38 +404,15 @@ module _ (l : List ℕ) (k : Route) (plan : Planned (length l) k) where
           at-last =
               ap (λ u. u .spot) (c .turn) ∙ looked-last l reads s (of-tie (crossed-spot k) (c .tie) s) (ap (λ u. u .hit) (sym (c .turn)) ∙ hit) ∙ last-is (c .tie)
 
-          -- its spot is that behind the tie
-          end : At (passed (crossings (k .p) (k .q)) t) (r .turn .spot)
-          end =
-              subst (At (passed (crossings (k .p) (k .q)) t)) (ap (λ u. tie-end (crossed-spot k) u s) (sym is) ∙ sym at-last)
-              (tie-passes D At (crossed-spot k) at-step (crossings (k .p) (k .q)) (centres-good y-z-x D) refl t s (h .between .belongs)
-              (h .between .full .within) less .1)
-
-          some : 0 < total (passed (crossings (k .p) (k .q)) t)
-          some =
-              omega (
-                arith,
-                total-further t (tie-steps (crossings (k .p) (k .q)) t),
-                tie-counts (crossings (k .p) (k .q)) (centres-good y-z-x D) t (h .between .full .within) less .1,
-                tie-few (next-tie (crossings (k .p) (k .q)) t),
-              )
-
-          onward : (more : List Visit) → Rest reads t (here ++ more) → Rest (r .turn .reads) (passed (crossings (k .p) (k .q)) t) more
-          onward more rest =
-              record {
-                finds = λ start miss. sym (w start .goes-on more) ∙ rest .finds start miss;
-                free = λ start miss.
-                    past-start start (passed (crossings (k .p) (k .q)) t) some .1
-                    ∙ sym (ap solid (byte-is (length l) k plan l (passed (crossings (k .p) (k .q)) t) (r .turn .spot) (end .1))) ∙ w start .free;
-              }
+          onward : (more : List Visit) → Rest reads (here ++ more) → Rest (r .turn .reads) more
+          onward more rest = λ start miss. sym (w start .goes-on more) ∙ rest start miss
 
     -- after the last crossing the way is clear
-    pub walk-stops : total D ≤ m → (start : Start) → test start (k .p) ≡ false → StopsTouching start l k (record { spot = s; reads = reads })
+    pub walk-stops : total D ≤ m → (start : Start) → test start (k .p) ≡ false → StopsTouching start l k (record { spot = s; reads = reads; hit = false })
     unfolding found-in
     walk-stops le start miss =
         let b = h .between in
-        let rest = at-end D At (crossed-spot k) at-step (Rest reads) s m b le in
         record {
           byte = spot-byte (length l) k plan (b .t) s (b .belongs .0) (b .belongs .1);
-          answers = clear-answer start (b .t) (record { spot = s; reads = reads }) (b .belongs) (rest .free start miss) ∙ rest .finds start miss;
+          answers = at-end D At (crossed-spot k) at-step (Rest reads) s m b le start miss;
         }

@@ -1,5 +1,4 @@
--- From tie to tie: what a loop keeps, whatever it moves and whatever it does with the cells. K says of a place and of the cells that are
--- left what is still to come.
+-- From tie to tie: what a loop keeps, whatever it moves and whatever it does with the cells. K says of the cells that are left what is still to come.
 -- Assumes nothing.
 use mathlib.Core.Path.{_≡_, refl, sym, ap, _∙_, subst}
 use mathlib.Core.List.{List, [], _++_}
@@ -15,9 +14,9 @@ use Rattle.lines.proofs.Steps.{bump}
 use Rattle.lines.proofs.Fractions.{Good}
 use Rattle.lines.proofs.Centres.{centres-good}
 use Rattle.lines.proofs.Ways.{further-on, total-further, at-even, by-axis}
-use Rattle.lines.proofs.Touching.{Leading, tie-leads, passed}
+use Rattle.lines.proofs.Touching.{tie-leads, passed}
 use Rattle.lines.proofs.Visits.{Full, full-start, full-passed}
-use Rattle.touching.specs.Passing.{of-tie, tie-end, tie-faces}
+use Rattle.touching.specs.Passing.{tie-end, tie-faces}
 use Rattle.touching.proofs.Group.{tie-passes, tie-counts, tie-few}
 
 -- after the last crossing a tie has no cells
@@ -40,20 +39,20 @@ module _ {S : Type 0} (D : Steps) (R : Steps → S → Type 0) (go : Axis → S 
   G = centres-good y-z-x D
 
   -- between two ties, m faces behind it
-  pub record AtTie (K : Steps → List Visit → Type 0) (s : S) (m : ℕ) : Type 0 where
+  pub record AtTie (K : List Visit → Type 0) (s : S) (m : ℕ) : Type 0 where
     pub t : Steps
     pub ties : ℕ
     pub belongs : R t s
     pub full : Full C G t
     pub made : m ≡ total t
     pub enough : total D ≤ m + ties
-    pub rest : K t (visits-from C ties t)
+    pub rest : K (visits-from C ties t)
 
-  pub at-start : (K : Steps → List Visit → Type 0) (s : S) → R (at 0 0 0) s → K (at 0 0 0) (visits-from C (total D) (at 0 0 0)) → AtTie K s 0
+  pub at-start : (K : List Visit → Type 0) (s : S) → R (at 0 0 0) s → K (visits-from C (total D) (at 0 0 0)) → AtTie K s 0
   at-start K s r k = record { t = at 0 0 0; ties = total D; belongs = r; full = full-start C G; made = refl; enough = omega arith; rest = k }
 
   -- where a crossing is left, the cells of the next tie come first
-  pub rest-is : (K : Steps → List Visit → Type 0) (s : S) (m : ℕ) (h : AtTie K s m) → m < total D →
+  pub rest-is : (K : List Visit → Type 0) (s : S) (m : ℕ) (h : AtTie K s m) → m < total D →
       (more : List Visit) × (visits-from C (h .ties) (h .t) ≡ visits-by (h .t) (tie-steps C (h .t)) ways ++ more)
   unfolding visits-from
   rest-is K s m h lt = by (h .ties) (h .enough)
@@ -63,15 +62,15 @@ module _ {S : Type 0} (D : Steps) (R : Steps → S → Type 0) (go : Axis → S 
       by (suc ties) enough = (visits-from C ties (passed C (h .t)), refl)
 
   pub at-next :
-      (K K′ : Steps → List Visit → Type 0) (s : S) (m : ℕ) (h : AtTie K s m) → m < total D → (tie : Tie) → tie ≡ next-tie C (h .t) →
-      ((more : List Visit) → K (h .t) (visits-by (h .t) (tie-steps C (h .t)) ways ++ more) → K′ (passed C (h .t)) more) → AtTie K′ (tie-end go tie s) (m + tie-faces tie)
+      (K K′ : List Visit → Type 0) (s : S) (m : ℕ) (h : AtTie K s m) → m < total D → (tie : Tie) → tie ≡ next-tie C (h .t) →
+      ((more : List Visit) → K (visits-by (h .t) (tie-steps C (h .t)) ways ++ more) → K′ more) → AtTie K′ (tie-end go tie s) (m + tie-faces tie)
   unfolding visits-from
   at-next K K′ s m h lt tie is then = go-on (h .ties) (h .enough) (h .rest)
     where
       lt-total : total (h .t) < total D
       lt-total = omega (arith, h .made)
 
-      go-on : (ties : ℕ) → total D ≤ m + ties → K (h .t) (visits-from C ties (h .t)) → AtTie K′ (tie-end go tie s) (m + tie-faces tie)
+      go-on : (ties : ℕ) → total D ≤ m + ties → K (visits-from C ties (h .t)) → AtTie K′ (tie-end go tie s) (m + tie-faces tie)
       go-on zero enough k = absurd (omega arith)
       go-on (suc ties) enough k =
           let (size, faces) = tie-counts C G (h .t) (h .full .within) lt-total in
@@ -87,8 +86,8 @@ module _ {S : Type 0} (D : Steps) (R : Steps → S → Type 0) (go : Axis → S 
             rest = then (visits-from C ties (passed C (h .t))) k;
           }
 
-  pub at-end : (K : Steps → List Visit → Type 0) (s : S) (m : ℕ) (h : AtTie K s m) → total D ≤ m → K (h .t) []
-  at-end K s m h le = subst (K (h .t)) (no-more-from C (h .ties) (h .t) (λ a. omega (arith, last a))) (h .rest)
+  pub at-end : (K : List Visit → Type 0) (s : S) (m : ℕ) (h : AtTie K s m) → total D ≤ m → K []
+  at-end K s m h le = subst K (no-more-from C (h .ties) (h .t) (λ a. omega (arith, last a))) (h .rest)
     where
       last : (a : Axis) → h .t a ≡ D a
       last X = omega (arith, h .made, h .full .within X, h .full .within Y, h .full .within Z)

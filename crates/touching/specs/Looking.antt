@@ -1,22 +1,21 @@
 -- What the walk keeps from tie to tie, and what its steps ask and promise. No promise to users rests on this file. Assumes nothing.
 use Prim.Native.Nat.{ℕ, _+_, _≤_}
 use mathlib.Core.Path.{_≡_}
-use mathlib.Core.Bool.{Bool, true, false, cond}
+use mathlib.Core.Bool.{true, false, cond}
 use mathlib.Core.List.{List, [], _∷_}
 use lib.ListN.{length}
-use Rattle.cells.specs.declared.Cell.{Cell}
 use Rattle.cells.specs.declared.Start.{Start}
 use Rattle.lines.specs.declared.Order.the-variants.{Xzy}
 use Rattle.lines.specs.declared.Tie.{Tie}
-use Rattle.lines.specs.Touching.{Visit, visits, crossings}
+use Rattle.lines.specs.Touching.{visits, crossings}
 use Rattle.tripod.specs.Tripod.{NextTie}
 use Rattle.grids.specs.Grid.{solid}
 use Rattle.walks.specs.declared.FirstHit.{FirstHit}
+use Rattle.walks.specs.declared.FirstHit.the-variants as FirstHit
 use Rattle.walks.specs.Walks.{hit-at}
 use Rattle.routes.specs.declared.Route.{Route}
 use Rattle.routes.specs.declared.Spot.{Spot}
 use Rattle.routes.specs.Route.{HasByte, byte-of-spot, crossed-spot, CanCross}
-use Rattle.hits.specs.declared.Stop.{Stop}
 use Rattle.hits.specs.declared.Turn.{Turn}
 use Rattle.hits.specs.Answer.{answer-from}
 use Rattle.touching.specs.declared.hit.TieTurn.{TieTurn}
@@ -61,11 +60,12 @@ told-from k = record { n = k .n; p = k .p; q = k .q; order = Xzy; d = k .d; stri
 abbrev pub found-along : Start → List ℕ → Route → FirstHit
 found-along start l k = found-in (hit-at (walking start) (k .n) l (k .p)) (k .n) l (k .p) (k .q) 0 (visits (crossings (k .p) (k .q)))
 
--- where the walk stopped there is a byte, and the answer from there is the definition's
-pub record StopsTouching (start : Start) (l : List ℕ) (k : Route) (r : Stop) : Type 0 where
+-- where the walk stopped there is a byte. If it hit, the answer from there is the definition's; if not, that is clear, with so many reads.
+pub record StopsTouching (start : Start) (l : List ℕ) (k : Route) (r : Turn) : Type 0 where
   pub byte : HasByte (length l) (r .spot .at)
-  pub answers : answer-from start l (told-from k) r ≡ found-along start l k
+  pub answers :
+      cond (r .hit) (answer-from start l (told-from k) (record { spot = r .spot; reads = r .reads })) (FirstHit.Clear (r .reads)) ≡ found-along start l k
 
 -- whichever the start, if P is no hit
-abbrev pub WalksTies : List ℕ → Route → Stop → Type 0
+abbrev pub WalksTies : List ℕ → Route → Turn → Type 0
 WalksTies l k r = (start : Start) → hit-at (walking start) (k .n) l (k .p) (k .p) ≡ false → StopsTouching start l k r

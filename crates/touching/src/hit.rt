@@ -125,7 +125,7 @@ fn tie_turn(cells: &[u8], k: Route, s: Spot, reads: u32) -> TieTurn
 
 // From P, which is passed, from tie to tie: to the first solid cell, or to Q. A tie of one axis, the most frequent, is passed here: then the cells read grow
 // with the faces, and one number counts both; `more` is how many more they are.
-fn walk_ties(cells: &[u8], k: Route, start: Spot) -> Stop
+fn walk_ties(cells: &[u8], k: Route, start: Spot) -> Turn
     requires { ⌜ Planned (length (now cells)) k × (k .order ≡ Yzx) × SpotAt k (at 0 0 0) start ⌝ }
     ensures { λ r. ⌜ WalksTies (now (cells .entry)) k r ⌝ }
 {
@@ -140,9 +140,10 @@ fn walk_ties(cells: &[u8], k: Route, start: Spot) -> Stop
                 s = routes::crossed(s, k, n);
                 m += 1;
                 if hits::is_solid(routes::byte_at(cells, s)) {
-                    return Stop {
+                    return Turn {
                         spot: s,
                         reads: m + more,
+                        hit: true,
                     };
                 }
             }
@@ -152,18 +153,16 @@ fn walk_ties(cells: &[u8], k: Route, start: Spot) -> Stop
                 s = turn.spot;
                 m += t.faces;
                 if turn.hit {
-                    return Stop {
-                        spot: s,
-                        reads: turn.reads,
-                    };
+                    return turn;
                 }
                 more = turn.reads - m;
             }
         }
     }
-    Stop {
+    Turn {
         spot: s,
         reads: m + more,
+        hit: false,
     }
 }
 
@@ -179,14 +178,15 @@ fn starts_solid(cells: &[u8], s: Spot, how: Manner) -> bool
 }
 
 // The walk: P, where it is tested, then the ties.
-fn walk_touching(cells: &[u8], k: Route, start: Spot, how: Manner) -> Stop
+fn walk_touching(cells: &[u8], k: Route, start: Spot, how: Manner) -> Turn
     requires { ⌜ Planned (length (now cells)) k × (k .order ≡ Yzx) × SpotAt k (at 0 0 0) start ⌝ }
     ensures { λ r. ⌜ StopsTouching (how .start) (now (cells .entry)) k r ⌝ }
 {
     if starts_solid(cells, start, how) {
-        return Stop {
+        return Turn {
             spot: start,
             reads: 1,
+            hit: true,
         };
     }
     walk_ties(cells, k, start)
@@ -213,13 +213,22 @@ fn told_from(k: Route) -> Route
     }
 }
 
-// What the walk finds along a route.
+// What the walk finds along a route. The other route is made first: what it holds then need not be at hand while the walk goes on.
 fn touching_answer(cells: &[u8], k: Route, how: Manner) -> FirstHit
     requires { ⌜ Planned (length (now cells)) k × (k .order ≡ Yzx) ⌝ }
     ensures { λ r. ⌜ r ≡ found-along (how .start) (now (cells .entry)) k ⌝ }
 {
-    let stop = walk_touching(cells, k, routes::first_spot(k), how);
-    hits::answer_of(cells, told_from(k), stop, how)
+    let told = told_from(k);
+    let t = walk_touching(cells, k, routes::first_spot(k), how);
+    if t.hit {
+        let spot = t.spot;
+        let stop = Stop {
+            spot: spot,
+            reads: t.reads,
+        };
+        return hits::answer_of(cells, told, stop, how);
+    }
+    FirstHit::Clear(t.reads)
 }
 
 // The first hit along the touching line from p to q.

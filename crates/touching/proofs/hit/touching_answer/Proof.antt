@@ -1,12 +1,18 @@
--- `touching::hit::touching_answer` meets its contract: the answer is worked out from where the walk stopped. Assumes nothing.
-use mathlib.Core.Path.{sym, ap, _∙_, subst}
+-- `touching::hit::touching_answer` meets its contract: the answer is worked out from where the walk hit, or it is clear. Assumes nothing.
+use mathlib.Core.Path.{_≡_, sym, ap, _∙_, subst}
+use mathlib.Core.Bool.{Bool, true, false, cond}
 use borrow.Author.Needs.{needs}
 use lib.ListN.{length}
+use Rattle.walks.specs.declared.FirstHit.the-variants as FirstHit
 use Rattle.routes.specs.Route.{Planned}
 use Rattle.hits.specs.Answer.{answer-from}
+use Rattle.touching.specs.Looking.{told-from, found-along}
 use Rattle.touching.proofs.Finding.{told-planned}
 use Rattle.touching.proofs.hit.touching_answer.Statement.{statement}
 use Rattle.touching.proofs.hit.touching_answer.Tie as tie
+
+told-from-requires : tie.Need-told-from-requires
+told-from-requires c κs = search needs
 
 first-spot-requires : tie.Need-first-spot-requires
 first-spot-requires c κs = search needs
@@ -14,29 +20,46 @@ first-spot-requires c κs = search needs
 walk-touching-requires : tie.Need-walk-touching-requires
 walk-touching-requires c κs = search needs
 
-told-from-requires : tie.Need-told-from-requires
-told-from-requires c κs = search needs
+-- what the walk says, by whether it hit
+says : (c : tie.After-walk-touching) (hit : Bool) → c .walk-touching .result .hit ≡ hit →
+    let s = c .before .before .before .before in
+    let r = c .walk-touching .result in
+    cond hit (answer-from (s .args .how .start) (s .args .cells .now) (told-from (s .args .k)) (record { spot = r .spot; reads = r .reads })) (FirstHit.Clear (r .reads)) ≡
+    found-along (s .args .how .start) (s .args .cells .now) (s .args .k)
+says c hit is =
+    let s = c .before .before .before .before in
+    let r = c .walk-touching .result in
+    ap (λ b. cond b (answer-from (s .args .how .start) (s .args .cells .now) (told-from (s .args .k)) (record { spot = r .spot; reads = r .reads })) (FirstHit.Clear (r .reads)))
+    (sym is) ∙ c .walk-touching .ensures .answers
 
 answer-of-requires : tie.Need-answer-of-requires
 answer-of-requires c κs =
-    let s = c .before .before .before .before in (
-      subst (Planned (length (s .args .cells .now))) (sym (c .told-from .ensures)) (told-planned (s .args .cells .now) (s .args .k) (s .pre .0)),
-      c .before .walk-touching .ensures .byte,
+    let w = c .before .before in
+    let s = w .before .before .before .before in (
+      subst (Planned (length (s .args .cells .now))) (sym (w .before .before .told-from .ensures)) (told-planned (s .args .cells .now) (s .args .k) (s .pre .0)),
+      w .walk-touching .ensures .byte,
     )
 
 returns : tie.Need-returns
 returns c =
-    let t = c .before in
-    let s = t .before .before .before .before in
-    c .answer-of .ensures ∙ ap (λ k. answer-from (s .args .how .start) (s .args .cells .now) k (t .before .walk-touching .result)) (t .told-from .ensures)
-    ∙ t .before .walk-touching .ensures .answers
+    let e = c .before .before in
+    let w = e .before in
+    let s = w .before .before .before .before in
+    let r = w .walk-touching .result in
+    c .answer-of .ensures
+    ∙ ap (λ k. answer-from (s .args .how .start) (s .args .cells .now) k (record { spot = r .spot; reads = r .reads })) (w .before .before .told-from .ensures)
+    ∙ says w true (e .if1 .taken)
+
+returns-2 : tie.Need-returns-2
+returns-2 c = says (c .before) false (c .if1 .left)
 
 pub touching-answer-spec : {M : Type 1} → statement M
 touching-answer-spec =
     tie.close
     (tie.spec
+    told-from-requires
     first-spot-requires
     walk-touching-requires
-    told-from-requires
     answer-of-requires
-    returns)
+    returns
+    returns-2)

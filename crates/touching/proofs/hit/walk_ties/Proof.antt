@@ -1,21 +1,18 @@
 -- `touching::hit::walk_ties` meets its contract: the invariant: the spot is that of a place between two ties, and what is found from there is what the walk
 -- finds. The measure is how many crossings are left. Assumes nothing.
-use mathlib.Core.Path.{_≡_, sym, ap, _∙_, subst}
-use mathlib.Core.Bool.{Bool}
+use mathlib.Core.Path.{_≡_, refl, sym, ap, _∙_, subst}
+use mathlib.Core.Bool.{Bool, true, false}
 use Prim.Native.Nat.{_+_, _-_, _≤_, _<_}
 use native.Mathlib.Omega.{arith}
 use borrow.Author.Needs.{needs}
 use lib.ListN.{length}
-use Rattle.cells.specs.declared.Start.{Start}
 use Rattle.lines.specs.Steps.{X, Y, Z, total}
 use Rattle.lines.specs.Lines.{differences}
 use Rattle.lines.specs.declared.Tie.the-variants.{One}
 use Rattle.tripod.specs.Tripod.{NextTie}
 use Rattle.grids.specs.Grid.{solid}
-use Rattle.walks.specs.Walks.{hit-at}
-use Rattle.routes.specs.Route.{Planned, HasByte, byte-of-spot}
+use Rattle.routes.specs.Route.{Planned, HasByte}
 use Rattle.routes.proofs.Spots.{short-at}
-use Rattle.touching.specs.Touching.{walking}
 use Rattle.touching.specs.Looking.{CanLookTie, Turned, WalksTies}
 use Rattle.touching.proofs.Group.{tie-few}
 use Rattle.touching.proofs.Finding.{one-turned, Walking, walking-start, faces-most, reads-most, walking-can, turn-stops, turn-goes, walk-stops}
@@ -88,19 +85,19 @@ is-solid-requires : tie.Need-is-solid-requires Inv-loop μ-loop
 is-solid-requires c κs = search needs
 
 -- what the turn says
-turned : (c : tie.After-is-solid Inv-loop μ-loop) →
+turned : (c : tie.After-is-solid Inv-loop μ-loop) (hit : Bool) → c .is-solid .result ≡ hit →
     let x = c .before .before in
     let l = x .before .before .before .before .before .before in
     let s = l .before .before .before .before in
     Turned (s .args .cells .now) (s .args .k) (l .loop .s) (l .loop .m + l .loop .more)
-    (record { turn = record { spot = x .crossed .result; reads = l .loop .m + l .loop .more + 1; hit = c .is-solid .result }; faces = 1 })
-turned c =
+    (record { turn = record { spot = x .crossed .result; reads = l .loop .m + l .loop .more + 1; hit = hit }; faces = 1 })
+turned c hit is =
     let x = c .before .before in
     let n = x .before .before in
     let l = n .before .before .before .before in
     let s = l .before .before .before .before in
-    one-turned (s .args .cells .now) (s .args .k) (l .loop .s) (x .crossed .result) (l .loop .m + l .loop .more) _ (c .is-solid .result) (one n)
-    (x .crossed .ensures) (sym (c .is-solid .ensures ∙ ap solid (c .before .byte-at .ensures)))
+    one-turned (s .args .cells .now) (s .args .k) (l .loop .s) (x .crossed .result) (l .loop .m + l .loop .more) _ hit (one n) (x .crossed .ensures)
+    (sym (c .is-solid .ensures ∙ ap solid (c .before .byte-at .ensures)) ∙ is)
 
 add-t16 : tie.Need-add-t16 Inv-loop μ-loop
 add-t16 c =
@@ -114,8 +111,8 @@ returns c =
     let l = i .before in
     let s = l .before .before .before .before in
     let one-more : l .loop .m + l .loop .more + 1 ≡ l .loop .m + 1 + l .loop .more = omega arith in
-    subst (λ r. WalksTies (s .args .cells .now) (s .args .k) (record { spot = c .before .before .before .crossed .result; reads = r })) one-more
-    (turn-stops (s .args .cells .now) (s .args .k) (s .pre .0) (s .pre .1) _ _ _ (here l) (below i) _ (turned (c .before)) (c .if1 .taken))
+    subst (λ r. WalksTies (s .args .cells .now) (s .args .k) (record { spot = c .before .before .before .crossed .result; reads = r; hit = true })) one-more
+    (turn-stops (s .args .cells .now) (s .args .k) (s .pre .0) (s .pre .1) _ _ _ (here l) (below i) _ (turned (c .before) true (c .if1 .taken)) refl)
 
 loop-less : tie.Need-loop-less Inv-loop μ-loop
 loop-less c = let i = c .before .before .before .before .before .before .before .before in omega (arith, i .loop-test .taken)
@@ -127,7 +124,7 @@ loop-again c =
     let s = l .before .before .before .before in
     let one-more : l .loop .m + l .loop .more + 1 ≡ l .loop .m + 1 + l .loop .more = omega arith in
     λ plan. subst (Walking (s .args .cells .now) (s .args .k) plan (c .before .before .before .crossed .result) (l .loop .m + 1)) one-more
-    (turn-goes (s .args .cells .now) (s .args .k) plan (s .pre .1) _ _ _ (l .loop .inv plan) (below i) _ (turned (c .before)) (c .if1 .left))
+    (turn-goes (s .args .cells .now) (s .args .k) plan (s .pre .1) _ _ _ (l .loop .inv plan) (below i) _ (turned (c .before) false (c .if1 .left)) refl)
 
 -- ---- a tie of more
 

@@ -1,6 +1,6 @@
 -- `touching::list::count_cells` meets its contract: the invariant: the values are those of a place between two ties, and the cells up to it are counted. It
 -- holds for all differences from which the loop may have started. The measure is how many crossings are left. Assumes nothing.
-use mathlib.Core.Path.{_≡_, sym, ap, _∙_, subst}
+use mathlib.Core.Path.{_≡_, sym, subst}
 use Prim.Native.Nat.{_+_, _-_, _≤_, _<_}
 use native.Mathlib.Omega.{arith}
 use borrow.Author.Needs.{needs}

@@ -13,12 +13,11 @@ use Rattle.lines.specs.declared.Tie.the-variants.{One}
 use Rattle.lines.specs.Steps.{X, Y, Z, at, total}
 use Rattle.lines.specs.Preference.{order-of}
 use Rattle.lines.specs.Lines.{differences}
-use Rattle.lines.specs.Touching.{visits-from, visits, visit-cell, crossings, touching-line}
+use Rattle.lines.specs.Touching.{visits-from, visits, visit-cell, crossings}
 use Rattle.lines.proofs.Cells.{limited-difference}
-use Rattle.lines.proofs.Touched.{touching-is, touching-length}
-use Rattle.lists.specs.Lists.{filled}
+use Rattle.lines.proofs.Touched.{touching-length}
 use Rattle.tripod.specs.Tripod.{NextTie}
-use Rattle.lists.specs.Kept.{SixWayOf, SixSpotAt, CanCrossSix, put3}
+use Rattle.lists.specs.Kept.{SixWayOf, SixSpotAt, put3}
 use Rattle.touching.specs.Listing.{put-cells, CanPut, Put}
 use Rattle.touching.proofs.Group.{tie-few}
 use Rattle.touching.proofs.Filling.{one-put, put-first, Filling, filling-start, filling-long, faces-most, cells-most, filling-can, filling-next, filling-end}

@@ -1,6 +1,6 @@
 -- `touching::list::lacks_room` meets its contract: where there is room for seven cells to three crossings nothing is counted, else the cells are.
 -- Assumes nothing.
-use mathlib.Core.Path.{sym, ap, _∙_}
+use mathlib.Core.Path.{sym, ap}
 use Prim.Native.Nat.{_*_}
 use native.Mathlib.Omega.{arith}
 use borrow.Author.Needs.{needs}

@@ -1,7 +1,7 @@
 -- `touching::list::past_tie` meets its contract: each case moves the values by the steps of its tie. Assumes nothing.
 use mathlib.Core.Path.{refl, sym, ap, _∙_, subst}
 use borrow.Author.Needs.{needs}
-use Rattle.lines.specs.Steps.{X, Y, Z}
+use Rattle.lines.specs.Steps.{X, Z}
 use Rattle.lines.specs.declared.Tie.the-variants.{One, Two, Three}
 use Rattle.lines.specs.Decisions.{moved-values}
 use Rattle.tripod.specs.Tripod.{SmallTripod, NextTie}

@@ -6,7 +6,7 @@ use native.Mathlib.Omega.{arith}
 use borrow.Author.Needs.{needs}
 use lib.IntN.{ℤ}
 use Rattle.cells.specs.declared.Cell.{Cell}
-use Rattle.lines.specs.Steps.{X, Y, Z}
+use Rattle.lines.specs.Steps.{X, Z}
 use Rattle.lists.specs.Kept.{crossed-six, CanCrossSix, put3}
 use Rattle.touching.specs.Listing.{put-cells}
 use Rattle.touching.proofs.list.put_all.Statement.{statement}
