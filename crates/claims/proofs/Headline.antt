@@ -1,4 +1,4 @@
--- The three demands and the kept counts, from the claims. Assumes nothing.
+-- The three demands, the kept counts and the touching line, from the claims. Assumes nothing.
 use Rattle.claims.specs.Headline.{TakesAnything, AreThePapers, TellOneStory, KeepsCounts, TouchesAll}
 use Rattle.lines.specs.Preference.{by-rule}
 use Rattle.lines.specs.Lines.{differences}
@@ -19,7 +19,7 @@ use Rattle.claims.proofs.Sights.{seen-once, nothing-in-sight}
 use Rattle.claims.proofs.Story.{hit-once, hit-face, first-on-line, walks-end, step-by-step, adaptive-step, as-its-walk}
 use Rattle.claims.proofs.Story.{one-story, never-invented}
 use Rattle.claims.proofs.Starts.{start-tests, two-starts}
-use Rattle.claims.proofs.Touching.{touched-cells, crossing-order, over-six-lines, touching-listed, touching-hits, beside-plain, touching-once}
+use Rattle.claims.proofs.Touching.{touched-cells, crossing-order, over-six-lines, touching-listed, touching-hits, touching-starts, beside-plain, touching-once}
 use Rattle.claims.proofs.Rules.{the-rules, mirrored, both-ways}
 
 pub takes-anything : TakesAnything
@@ -94,5 +94,6 @@ touches-all =
       lines = over-six-lines;
       listed = touching-listed;
       hits = touching-hits;
+      starts = touching-starts;
       beside-plain = beside-plain;
     }

@@ -42,6 +42,12 @@ start-tests n l p =
       exempt = λ how is. exempt-test how n l p (ap is-tested is);
     }
 
+-- clear with one read, or refused
+pub one-read : (r : FirstHit) (v : Verdict) → r ≡ by-verdict FirstHit.Refused (FirstHit.Clear 1) v →
+    (r ≡ FirstHit.Clear 1) ⊎ ((e : Refusal) × (r ≡ FirstHit.Refused e))
+one-read r Verdict.Fine h = inl h
+one-read r (Verdict.Refused e) h = inr (e, h)
+
 pub two-starts : (n : Counts) (l : List ℕ) (p q : Cell) → TwoStarts n l p q
 two-starts n l p q =
     record {
@@ -63,11 +69,6 @@ two-starts n l p q =
       subst (λ k. 0 < k .num) (sym place) (omega (arith, num-is r p q s)),
       λ e. absurd (some-face r p q s (sym (ap (λ k. k .face) place) ∙ e)),
     )
-
-    one-read : (r : FirstHit) (v : Verdict) → r ≡ by-verdict FirstHit.Refused (FirstHit.Clear 1) v →
-        (r ≡ FirstHit.Clear 1) ⊎ ((e : Refusal) × (r ≡ FirstHit.Refused e))
-    one-read r Verdict.Fine h = inl h
-    one-read r (Verdict.Refused e) h = inr (e, h)
 
 -- ---- wrong starts
 

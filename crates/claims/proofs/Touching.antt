@@ -1,9 +1,9 @@
 -- The claims about the touching line, its list and the first hit along it. Assumes nothing.
 use Prim.Native.Nat.{ℕ, zero, suc, _+_, _-_, _*_, _≤_, _<_}
-use mathlib.Core.Path.{_≡_, refl, sym, ap, ap₂, _∙_, subst}
-use mathlib.Core.Logic.{_↔_, ⊎-map}
-use mathlib.Core.Bool.{Bool, true, false, cond}
-use mathlib.Core.List.{List, [], _∷_}
+use mathlib.Core.Path.{_≡_, refl, sym, ap, _∙_, subst, fun-ext}
+use mathlib.Core.Logic.{_⊎_, _↔_, ⊎-map}
+use mathlib.Core.Bool.{Bool, true, false, cond, not, _&&_, _||_}
+use mathlib.Core.List.{List}
 use native.Mathlib.Omega.{arith, by-contra}
 use lib.IntN.{ℤ, pos, natAbs}
 use lib.ListN.{length, getD}
@@ -22,18 +22,17 @@ use Rattle.cells.specs.Checks.{by-verdict}
 use Rattle.cells.specs.Manners.{is-tested}
 use Rattle.cells.proofs.Checks.{by-fine}
 use Rattle.cells.proofs.Touching.{and-both}
-use Rattle.lines.specs.Steps.{Steps, at, total}
-use Rattle.lines.specs.Crossings.{place, next}
+use Rattle.lines.specs.Steps.{at, total}
 use Rattle.lines.specs.Preference.{Preference, y-z-x, by-rule}
-use Rattle.lines.specs.Lines.{differences, face-along, centres, six-cell}
+use Rattle.lines.specs.Lines.{differences, face-along, six-cell}
 use Rattle.lines.specs.Segment.{Share, InClosed}
-use Rattle.lines.specs.Touching.{Visit, visits, visited, visit-cell, crossings, touching-line, first-axis, visit-upper, visit-lower}
+use Rattle.lines.specs.Touching.{visits, visited, visit-cell, crossings, touching-line, first-axis, visit-upper, visit-lower}
 use Rattle.lines.proofs.Centres.{centres-good}
 use Rattle.lines.proofs.Cells.{limited-difference, six-entered, six-start, steps-made}
 use Rattle.lines.proofs.Counted.{count-most, even-count, tie-free-line}
 use Rattle.lines.proofs.Fractions.{chain-le}
 use Rattle.lines.proofs.Touched.{start, visit, touching-parts, touching-length, touching-at, touched-in, share-at, touched-at, first-at, never-falls}
-use Rattle.lines.proofs.Touched.{all-different, has-six, visiting-at}
+use Rattle.lines.proofs.Touched.{all-different, has-six, ends-at, visiting-at}
 use Rattle.lines.proofs.Visits.{not-start, reached-upper, reached-lower}
 use Rattle.grids.specs.Grid.{byte-of, solid}
 use Rattle.grids.specs.Inside.{walk-check}
@@ -41,9 +40,10 @@ use Rattle.walks.specs.declared.Walker.the-variants.{Plain}
 use Rattle.walks.specs.declared.Hit.{Hit}
 use Rattle.walks.specs.declared.FirstHit.{FirstHit}
 use Rattle.walks.specs.declared.FirstHit.the-variants as FirstHit
-use Rattle.walks.specs.Walks.{hit-at, conduct}
+use Rattle.walks.specs.Walks.{is-cell, hit-at, conduct}
 use Rattle.walks.specs.Answers.{entered-at, Finds}
 use Rattle.walks.specs.Numbers.{hits-at, end-of}
+use Rattle.walks.proofs.Find.{is-cell-same, same-is-cell}
 use Rattle.walks.proofs.Story.{first-hit-is}
 use Rattle.walks.proofs.Places.{num-is}
 use Rattle.walks.proofs.Testing.{tested-test, other-test, exempt-test}
@@ -52,10 +52,11 @@ use Rattle.touching.proofs.Entry.{at-last, earlier-axes}
 use Rattle.touching.proofs.Answers.{hit-on, Search, found, none, search-of}
 use Rattle.claims.specs.Example as example
 use Rattle.claims.specs.Lists.{lowest, highest}
-use Rattle.claims.specs.Tables.{EachRow, no-more, _and_}
+use Rattle.claims.specs.Tables.{no-more, _and_}
 use Rattle.claims.specs.Touching.{touching-cell, InLine, IsTouched, TouchedCells, CrossingOrder, OverSixLines, LongestTouching, TouchingListed}
-use Rattle.claims.specs.Touching.{TouchingRows, ReachedBy, FirstTouched, TouchingHits, BesidePlain, TouchingOnce, TouchingHitRows, WrongTouching, one-solid, row-hit}
+use Rattle.claims.specs.Touching.{TouchingRows, ReachedBy, FirstTouched, TouchingHits, TouchingStarts, BesidePlain, TouchingOnce, TouchingHitRows, WrongTouching, one-solid, row-hit}
 use Rattle.claims.proofs.Lists.{cells-at, longest, accepted, said}
+use Rattle.claims.proofs.Starts.{one-read}
 use Rattle.claims.proofs.Story.{kind, hit-or, reads-or, first-on-line, hit-place, hit-found}
 
 -- ---- the line
@@ -80,6 +81,7 @@ module _ (p q : Cell) where
         sound = touched;
         different = all-different p q;
         starts = ap (λ l. getD l 0 p) (touching-parts p q);
+        ends = ends-at p q;
       }
 
   pub crossing-order : CrossingOrder p q
@@ -115,6 +117,7 @@ longest-touching =
             limited-difference p q hp hq Z,
           ))
           (touching-length lowest highest ∙ even-count y-z-x (differences lowest highest) 16383 far);
+      by-differences = λ p q. omega (arith, touching-length p q, count-most (crossings p q) (centres-good y-z-x (differences p q)));
     }
   where
     far : (a : Axis) → differences lowest highest a ≡ 16383
@@ -239,14 +242,16 @@ module _ (from : Start) (n : Counts) (l : List ℕ) (p q : Cell) where
         share = rw (num, den) (share-at p q i below);
         touched-there = rw (num, den, cell ∙ cell-is i) (touched-at p q i below);
         not-before = λ k d s there. rw (num, den) (first-at p q i below k d (s .some) (subst (InClosed p q k d) (cell ∙ cell-is i) there));
-        at-start = λ at-p. start-place h entry (all-different p q i 0 below (omega arith) (sym (cell-is i) ∙ sym cell ∙ at-p ∙ sym (touched-cells p q .starts)));
+        at-start = λ at-p. start-place h entry reads
+            (all-different p q i 0 below (omega arith) (sym (cell-is i) ∙ sym cell ∙ at-p ∙ sym (touched-cells p q .starts)));
         past-start = reached i below h cell entry;
       }
     where
-      start-place : (h : Hit) → h .place ≡ visit-place p q (visit p q i) → i ≡ 0 → (h .place .num ≡ 0) × (h .place .den ≡ 1) × (h .place .face ≡ Face.None)
-      start-place h entry zero-is =
+      start-place : (h : Hit) → h .place ≡ visit-place p q (visit p q i) → h .reads ≡ 0 + i + 1 → i ≡ 0 →
+          (h .place .num ≡ 0) × (h .place .den ≡ 1) × (h .place .face ≡ Face.None) × (h .reads ≡ 1)
+      start-place h entry reads zero-is =
           let e = entry ∙ ap (λ k. visit-place p q (visit p q k)) zero-is in
-          (ap (λ x. x .num) e, ap (λ x. x .den) e, ap (λ x. x .face) e)
+          (ap (λ x. x .num) e, ap (λ x. x .den) e, ap (λ x. x .face) e, omega arith)
 
   pub touching-hits : TouchingHits from n l p q
   unfolding kind hit-or reads-or
@@ -273,6 +278,60 @@ module _ (from : Start) (n : Counts) (l : List ℕ) (p q : Cell) where
 
   pub touching-once : TouchingOnce from n l p q
   touching-once = record { once = λ r s f g. f .says ∙ sym (g .says) }
+
+-- ---- the start
+
+module _ (n : Counts) (l : List ℕ) (p q : Cell) where
+  -- where P is not solid no test knows the start
+  tests-alike : solid (byte-of n l p) ≡ false → (one other : Start) (c : Cell) → hit-at (walking one) n l p c ≡ hit-at (walking other) n l p c
+  tests-alike clear one other c = by (is-cell c p) refl
+    where
+      none : (from : Start) → is-cell c p ≡ true → hit-at (walking from) n l p c ≡ false
+      none from same = ap (λ d. solid (byte-of n l d) && (is-tested from || not (is-cell c p))) (is-cell-same c p same)
+          ∙ ap (λ b. b && (is-tested from || not (is-cell c p))) clear
+
+      by : (b : Bool) → is-cell c p ≡ b → hit-at (walking one) n l p c ≡ hit-at (walking other) n l p c
+      by true same = none one same ∙ sym (none other same)
+      by false far = other-test (walking one) n l p c away ∙ sym (other-test (walking other) n l p c away)
+        where
+          away : c ≡ p → ⊥
+          away e = let z : _≡_ {A = ℕ} 0 1 = ap (λ b. cond b 1 0) (sym far ∙ same-is-cell c p e) in omega arith
+
+  starts-alike : solid (byte-of n l p) ≡ false → (one other : Start) → first-touching one n l p q ≡ first-touching other n l p q
+  unfolding first-touching
+  starts-alike clear one other =
+      ap (λ test. by-verdict FirstHit.Refused (found-in test n l p q 0 (visits (crossings p q))) (walk-check n (length l) p q))
+      (fun-ext (tests-alike clear one other))
+
+  -- equal ends have one cell
+  one-cell : length (visits (crossings p p)) ≡ 1
+  one-cell = sym (touching-length p p)
+      ∙ omega (arith, all-different p p 0 (length (touching-line p p) - 1) some (omega (arith, some)) (touched-cells p p .starts ∙ sym (touched-cells p p .ends)), some)
+    where
+      some : 0 < length (touching-line p p)
+      some = omega (arith, ap length (touching-parts p p))
+
+  equal-found : Search (hit-at (walking Untested) n l p) n l p p (start p p) 0 (visits (crossings p p)) →
+      found-in (hit-at (walking Untested) n l p) n l p p 0 (visits (crossings p p)) ≡ FirstHit.Clear 1
+  equal-found (none all is) = is ∙ ap FirstHit.Clear (omega (arith, one-cell))
+  equal-found (found i lt met before is) =
+      absurd (let z : _≡_ {A = ℕ} 0 1 = ap (λ b. cond b 1 0) (sym (exempt-test (walking Untested) n l p refl) ∙ sym at-p ∙ met) in omega arith)
+    where
+      at-p : hit-at (walking Untested) n l p (visit-cell p p (visit p p i)) ≡ hit-at (walking Untested) n l p p
+      at-p = ap (hit-at (walking Untested) n l p)
+          (ap (λ j. visit-cell p p (visit p p j)) (omega (arith, one-cell)) ∙ sym (touching-at p p 0) ∙ touched-cells p p .starts)
+
+  pub touching-starts : TouchingStarts n l p q
+  unfolding startcode
+  touching-starts =
+      record {
+        alike = λ clear one other r s f g. f .says ∙ starts-alike clear one other ∙ sym (g .says);
+        never-p = λ h f at-p.
+            let z : _≡_ {A = ℕ} 0 1 = ap startcode (touching-hits Untested n l p q .hit h f .p-tested at-p) in
+            omega arith;
+        equal-ends = λ r f. one-read r (walk-check n (length l) p p)
+            (says Untested n l p p f ∙ ap (λ a. by-verdict FirstHit.Refused a (walk-check n (length l) p p)) (equal-found (search Untested n l p p)));
+      }
 
 -- ---- beside the plain walk
 

@@ -90,6 +90,7 @@ of-lines =
         from = λ a. elim a [ X ↦ record { le = tt } | Y ↦ record { le = tt } | Z ↦ record { le = tt } ];
         upto = λ a. elim a [ X ↦ record { le = tt } | Y ↦ record { le = tt } | Z ↦ record { le = tt } ];
       };
+      in-line = record { number = 2; below = omega arith; is = refl };
     }
 
 pub of-grids : OfGrids

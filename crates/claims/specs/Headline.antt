@@ -1,4 +1,4 @@
--- The users' three demands, a record each, in the words of the calls' contracts. A tester may read this page alone; each name leads to its file.
+-- The users' three demands, the kept counts and the touching line, a record each, in the words of the calls' contracts. A tester may read this page alone; each name leads to its file.
 -- Assumes nothing.
 use Prim.Native.Nat.{ℕ, _≤_}
 use mathlib.Core.Path.{_≡_}
@@ -49,7 +49,7 @@ use Rattle.claims.specs.Sights.{SeenOnce, OpenWay}
 use Rattle.claims.specs.Story.{SameStory, NoLater, FirstOnLine, HitFace, HitOnce, WalksEnd, StepByStep, AdaptiveStep, AsItsWalk}
 use Rattle.claims.specs.Starts.{StartTest, TwoStarts}
 use Rattle.claims.specs.Rules.{TheRules, Mirror, BothWays}
-use Rattle.claims.specs.Touching.{TouchedCells, CrossingOrder, OverSixLines, TouchingListed, TouchingHits, BesidePlain, TouchingOnce}
+use Rattle.claims.specs.Touching.{TouchedCells, CrossingOrder, OverSixLines, TouchingListed, TouchingHits, TouchingStarts, BesidePlain, TouchingOnce}
 
 -- 1. Every public call takes any numbers and any lent memory, has one answer and one final memory for each input, and refuses by number exactly
 -- where SCOPE's table says, in its order; a refusal writes nothing.
@@ -130,13 +130,14 @@ pub record KeepsCounts : Type 0 where
   pub refills : (n : Counts) (low high : Cell) (byte : ℕ) (l m : List ℕ) (total t : ℕ) (l′ m′ : List ℕ) → RefillMeans n low high byte l m total t l′ m′
   pub sets : (n : Counts) (cell : Cell) (byte : ℕ) (l m : List ℕ) (total t : ℕ) (l′ m′ : List ℕ) → SetMeans n cell byte l m total t l′ m′
 
--- 5. SCOPE M: the touching line has just the cells whose closed cube the segment meets, each once, in the order in which it comes to them; it has the 6-line
--- of either rule, and is that line where nothing ties. Its list writes just these cells. The first hit along it is its first solid cell, P excepted where
--- it is not tested; clear, nothing that the segment touches is solid, but for that P. With the same start and either rule the plain walk is clear where
--- this one is, and hits no earlier. Demand 3 does not speak of it.
+-- 5. SCOPE M: the touching line has just the cells whose closed cube the segment meets, each once, from P to Q, in the order in which it comes to them; it
+-- has the 6-line of either rule, and is that line where no two crossings tie. Its list writes just these cells. The first hit along it is its first solid
+-- cell, P excepted where it is not tested; clear, nothing that the segment touches is solid, but for that P. Where P is not solid both starts give one
+-- answer. With the same start and either rule the plain walk is clear where this one is, and hits no earlier. Demand 3 does not speak of it.
 pub record TouchesAll : Type 0 where
   pub cells : (p q : Cell) → TouchedCells p q × CrossingOrder p q
   pub lines : (p q : Cell) → OverSixLines p q
   pub listed : (p q : Cell) (entry exit : List ℤ) (k : ℕ) → TouchingListed p q entry exit k
   pub hits : (start : Start) (n : Counts) (l : List ℕ) (p q : Cell) → TouchingHits start n l p q
+  pub starts : (n : Counts) (l : List ℕ) (p q : Cell) → TouchingStarts n l p q
   pub beside-plain : (how : Manner) (n : Counts) (l : List ℕ) (p q : Cell) → BesidePlain how n l p q

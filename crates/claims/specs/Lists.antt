@@ -15,7 +15,7 @@ use Rattle.lists.specs.declared.Listed.the-variants.{Cells, Refused}
 use Rattle.lists.specs.Lists.{Lists, Line6, Line26, numbers}
 use Rattle.claims.specs.Example.{at}
 
--- one answer and one final memory for each input: of either call, whatever line it lists; a refusal writes nothing
+-- one answer and one final memory for each input: of every list call, whatever line it lists; a refusal writes nothing
 pub record ListedOnce (line : List Cell) (p q : Cell) (entry : List ℤ) : Type 0 where
   pub answer : (r s : Listed) (exit last : List ℤ) → Lists line p q entry r exit → Lists line p q entry s last → r ≡ s
   pub memory : (r s : Listed) (exit last : List ℤ) → Lists line p q entry r exit → Lists line p q entry s last → exit ≡ last

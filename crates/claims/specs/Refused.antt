@@ -214,7 +214,7 @@ rule-test number = ((¬ (number ≡ 1)) × (¬ (number ≡ 2))) gives alone 12
 
 -- ---- the claims: every answer that meets a call's contract is given by the call's tests
 
--- line lists, of A+B+C+1 cells under either rule, and M+1 cells
+-- line lists, of A+B+C+1 cells under either rule, of M+1 cells, and of as many as the touching line has
 pub record LinesTold (p q : Cell) (entry exit : List ℤ) (r : Listed) : Type 0 where
   pub six : (rule : Rule) → Line6 rule p q entry r exit → ByTests (line-tests p q (total (differences p q) + 1) (length entry)) (told-listed r)
   pub twenty-six : Line26 p q entry r exit → ByTests (line-tests p q (longest (differences p q) + 1) (length entry)) (told-listed r)

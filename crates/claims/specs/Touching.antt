@@ -57,12 +57,13 @@ pub record IsTouched (p q c : Cell) : Type 0 where
 
 -- ---- the line
 
--- 1. It has just the cells of the lattice that the segment touches, also outside the box of P and Q if there were any; each once; first P.
+-- 1. It has just the cells of the lattice that the segment touches, also outside the box of P and Q if there were any; each once; first P, last Q.
 pub record TouchedCells (p q : Cell) : Type 0 where
   pub complete : (k d : ℕ) (c : Cell) → Share k d → InClosed p q k d c → InLine p q c
   pub sound : (c : Cell) → InLine p q c → IsTouched p q c
   pub different : (i j : ℕ) → i < length (touching-line p q) → j < length (touching-line p q) → touching-cell p q i ≡ touching-cell p q j → i ≡ j
   pub starts : touching-cell p q 0 ≡ p
+  pub ends : touching-cell p q (length (touching-line p q) - 1) ≡ q
 
 -- 2. In crossing order: where a cell of the line is touched, each one before it was touched at no greater a fraction. So the fraction at which a cell is
 -- first touched never falls along the line.
@@ -77,9 +78,10 @@ pub record OverSixLines (p q : Cell) : Type 0 where
   pub tie-free : (r : Preference) → TieFree (centres r (differences p q)) → touching-line p q ≡ six-line r p q
 
 -- 4. Within the coordinate limit it has at most 114,682 cells, 344,046 numbers, and the one between the corners of the limit has so many: the header's
--- OAT_TOUCHING_ROOM.
+-- OAT_TOUCHING_ROOM. Between any two ends 3 + 7(A + B + C) numbers hold it.
 pub record LongestTouching : Type 0 where
   pub longest : Longest touching-line 114682 344046
+  pub by-differences : (p q : Cell) → 3 * length (touching-line p q) ≤ 3 + 7 * total (differences p q)
 
 -- 5. SCOPE M8: what an accepted list answers and writes, cell by cell.
 pub record TouchingListed (p q : Cell) (entry exit : List ℤ) (k : ℕ) : Type 0 where
@@ -143,8 +145,8 @@ pub record FirstTouched (start : Start) (n : Counts) (l : List ℕ) (p q : Cell)
   pub share : Share (h .place .num) (h .place .den)
   pub touched-there : InClosed p q (h .place .num) (h .place .den) (h .cell)
   pub not-before : (k d : ℕ) → Share k d → InClosed p q k d (h .cell) → h .place .num * d ≤ k * h .place .den
-  -- at P it is 0 over 1, by no face; elsewhere it is that of a crossing
-  pub at-start : h .cell ≡ p → (h .place .num ≡ 0) × (h .place .den ≡ 1) × (h .place .face ≡ Face.None)
+  -- at P it is 0 over 1, by no face, after one read; elsewhere it is that of a crossing
+  pub at-start : h .cell ≡ p → (h .place .num ≡ 0) × (h .place .den ≡ 1) × (h .place .face ≡ Face.None) × (h .reads ≡ 1)
   pub past-start : (h .cell ≡ p → ⊥) → (a : Axis) × ReachedBy p q h a
 
 -- 7. What the call finds: the first such cell; or, clear, no cell whose closed cube meets the segment is solid, P excepted exactly where it is not tested, and
@@ -165,11 +167,18 @@ pub record BesidePlain (how : Manner) (n : Counts) (l : List ℕ) (p q : Cell) :
   pub refuses-too : (e : Refusal) (r s : FirstHit) → Finds Plain how n l p q r → FindsTouching (how .start) n l p q s →
       (r ≡ FirstHit.Refused e) ↔ (s ≡ FirstHit.Refused e)
 
--- 9. One answer for each input. (Of the list: `ListedOnce`.)
+-- 9. The start. Where P is not solid both starts give one answer. Where it is not tested a hit is never P, and equal ends are clear with one read, or
+-- refused.
+pub record TouchingStarts (n : Counts) (l : List ℕ) (p q : Cell) : Type 0 where
+  pub alike : solid (byte-of n l p) ≡ false → (one other : Start) (r s : FirstHit) → FindsTouching one n l p q r → FindsTouching other n l p q s → r ≡ s
+  pub never-p : (h : Hit) → FindsTouching Untested n l p q (FirstHit.Hit h) → h .cell ≡ p → ⊥
+  pub equal-ends : (r : FirstHit) → FindsTouching Untested n l p p r → (r ≡ FirstHit.Clear 1) ⊎ ((e : Refusal) × (r ≡ FirstHit.Refused e))
+
+-- 10. One answer for each input. (Of the list: `ListedOnce`.)
 pub record TouchingOnce (start : Start) (n : Counts) (l : List ℕ) (p q : Cell) : Type 0 where
   pub once : (r s : FirstHit) → FindsTouching start n l p q r → FindsTouching start n l p q s → r ≡ s
 
--- ---- 10. worked hits
+-- ---- 11. worked hits
 
 -- 2 by 2 by 2, solid at byte i alone
 abbrev pub one-solid : ℕ → List ℕ
@@ -224,7 +233,7 @@ pub record TouchingHitRows : Type 0 where
   -- where y crosses at 1 over 2 and x at 3 over 6, the place is that of y
   pub by-y : (start : Start) → first-touching start (counts 4 2 1) post-at-tie (at 0 0 0) (at 3 1 0) ≡ FirstHit.Hit (tie-hit 1 2 (Face.Plus Y))
 
--- ---- 11. wrong answers that the contracts shut out, on named inputs
+-- ---- 12. wrong answers that the contracts shut out, on named inputs
 
 -- from (0,0,0) to (1,1,1), the pairs in the order yz, zx, yx
 abbrev pub pairs-turned : List ℤ

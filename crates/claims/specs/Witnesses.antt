@@ -68,7 +68,7 @@ use Rattle.claims.specs.Records.{Right, RightPair, example-venue, exampl
 use Rattle.claims.specs.ProgramRows.{no-cells}
 use Rattle.claims.specs.Starred.{halves}
 use Rattle.claims.specs.Story.{all-clear}
-use Rattle.claims.specs.Touching.{one-solid}
+use Rattle.claims.specs.Touching.{InLine, one-solid}
 
 -- from (0,0,0) to (2,1,0)
 abbrev pub steps-there : Steps
@@ -93,11 +93,13 @@ pub record OfLines : Type 0 where
   pub listed-26 : Line26 (at 0 0 0) (at 2 1 0) room (Listed.Cells 3)
       (pos 0 ∷ pos 0 ∷ pos 0 ∷ pos 1 ∷ pos 1 ∷ pos 0 ∷ pos 2 ∷ pos 1 ∷ pos 0 ∷ pos 7 ∷ pos 7 ∷ pos 7 ∷ pos 7 ∷ [])
   pub no-room : Line6 One (at 0 0 0) (at 2 1 0) [] (Listed.Refused Room) []
-  -- a touching line with just enough room, and one number less; and a point of the segment in the closed cube of a cell that it meets at an edge
+  -- a touching line with just enough room, and one number less; a point of the segment in the closed cube of a cell that it meets at an edge, and that cell's
+  -- number in the line
   pub touching : LineTouching (at 0 0 0) (at 1 1 0) (replicate 12 (pos 7)) (Listed.Cells 4)
       (numbers (at 0 0 0 ∷ at 0 1 0 ∷ at 1 0 0 ∷ at 1 1 0 ∷ []))
   pub touching-no-room : LineTouching (at 0 0 0) (at 1 1 0) (replicate 11 (pos 7)) (Listed.Refused Room) (replicate 11 (pos 7))
   pub at-an-edge : InClosed (at 0 0 0) (at 1 1 0) 1 2 (at 1 0 0)
+  pub in-line : InLine (at 0 0 0) (at 1 1 0) (at 1 0 0)
 
 -- memory that a caller lends
 abbrev pub lent : List ℕ → RefT (List ℕ)
@@ -139,10 +141,11 @@ pub record OfGrids : Type 0 where
   pub clear-marks : complete 3 (counts 3 2 1) all-clear ≡ true
   pub plain-clear : (how : Manner) → Finds Plain how (counts 3 2 1) all-clear (at 0 0 0) (at 2 1 0) (FirstHit.Clear 4)
   pub adaptive-clear : (how : Manner) → Finds Adaptive how (counts 3 2 1) all-clear (at 0 0 0) (at 2 1 0) (FirstHit.Clear 3)
-  -- from the other end, by rule 2
+  -- the touching walk: a hit, and a clear one
   pub touching-hits : FindsTouching Tested (counts 2 2 2) (one-solid 5) (at 0 0 0) (at 1 1 1)
       (FirstHit.Hit (record { cell = at 1 0 1; code = 2; place = record { num = 1; den = 2; face = Face.Plus Z }; reads = 7 }))
   pub touching-clear : FindsTouching Untested (counts 3 2 1) all-clear (at 0 0 0) (at 2 1 0) (FirstHit.Clear 4)
+  -- from the other end, by rule 2
   pub back-clear : (w : Walker) → Finds w (tested-by Two) (counts 3 2 1) all-clear (at 2 1 0) (at 0 0 0) (FirstHit.Clear (back-reads w))
   pub back-hits : (w : Walker) → Finds w (tested-by Two) example-counts marked-cells (at 3 1 0) (at 0 0 0) (FirstHit.Hit the-hit-back)
   -- from the solid cell: clear where it is not tested, with complete marks; a hit at P where it is

@@ -1,9 +1,9 @@
 -- The touching line as cells: it has just the cells of the lattice whose closed cube meets the segment, each once, in the order in which the segment
--- comes to them; so it has every cell of the 6-line, whatever the order of preference. Assumes nothing.
+-- comes to them; so it has every cell of the 6-line, whatever the order of preference, and its last one is Q. Assumes nothing.
 use mathlib.Core.Path.{_≡_, refl, sym, ap, ap₂, _∙_, subst}
 use mathlib.Core.Logic.{⊎-elim}
 use mathlib.Core.List.{_∷_, map}
-use Prim.Native.Nat.{ℕ, zero, suc, _+_, _*_, _≤_, _<_}
+use Prim.Native.Nat.{ℕ, zero, suc, _-_, _*_, _≤_, _<_}
 use native.Mathlib.Omega.{arith, by-contra, both-ways}
 use lib.ListN.{length, getD, length-map, List·getD-map}
 use Rattle.cells.specs.declared.Cell.{Cell}
@@ -11,14 +11,14 @@ use Rattle.cells.specs.Touching.{on}
 use Rattle.lines.specs.Steps.{Axis, X, Y, Z, Steps, at, total}
 use Rattle.lines.specs.Crossings.{Course}
 use Rattle.lines.specs.Preference.{Preference, y-z-x}
-use Rattle.lines.specs.Lines.{differences, cell-of, centres, six-cell}
+use Rattle.lines.specs.Lines.{differences, cell-of, six-cell}
 use Rattle.lines.specs.Segment.{Share, InClosed}
 use Rattle.lines.specs.Touching.{Visit, visits-from, visits, visited, visit-cell, crossings, touching-line, visit-upper, visit-lower}
 use Rattle.lines.proofs.Steps.{lt-or-ge}
 use Rattle.lines.proofs.Fractions.{Good, InClosedSteps}
 use Rattle.lines.proofs.Centres.{centres-good}
 use Rattle.lines.proofs.Towards.{Passed, closed-passed}
-use Rattle.lines.proofs.Cells.{same-cell, cell-on, cell-start, cell-tells, closed-cell, six-touched}
+use Rattle.lines.proofs.Cells.{same-cell, cell-on, cell-start, cell-end, cell-tells, closed-cell, six-end, six-touched}
 use Rattle.lines.proofs.Every.{each-at, some-at, pairs-at}
 use Rattle.lines.proofs.Ways.{further-on, at-even, by-axis}
 use Rattle.lines.proofs.Touching.{closed-close, closed-within, complete}
@@ -135,3 +135,19 @@ module _ (p q : Cell) where
   has-six r n le =
       let (k, d, s, h) = six-touched r p q n le in
       touched-in k d (six-cell r p q n) s h
+
+  -- ---- the last cell
+
+  -- so it has Q, and behind Q no crossing is left
+  pub ends-at : getD (touching-line p q) (length (touching-line p q) - 1) p ≡ q
+  ends-at =
+      let (i, lt, is) = has-six y-z-x (total D) (omega arith) in
+      let at-q = is ∙ six-end y-z-x p q in
+      let last : i ≡ length (touching-line p q) - 1 = both-ways i (length (touching-line p q) - 1) (omega arith)
+      (by-contra (length (touching-line p q) - 1) i (λ less. earlier i less at-q)) in
+      subst (λ j. getD (touching-line p q) j p ≡ q) last at-q
+    where
+      earlier : (i : ℕ) → i < length (touching-line p q) - 1 → getD (touching-line p q) i p ≡ q → ⊥
+      earlier i less at-q =
+          let all = cell-tells p q (visited (visit i)) D (sym (touching-at i) ∙ at-q ∙ sym (cell-end p q D (λ a. refl))) in
+          omega (arith, precedes i (length (touching-line p q) - 1) less (omega arith) .unfinished, all X, all Y, all Z)

@@ -1,13 +1,12 @@
--- The visits of the touching line: each is touched, and not before the crossing by which it is reached; no two are the same, and their fractions never
--- fall. For every course whose ends lie inside their cells. Assumes nothing.
+-- The visits of the touching line: each is touched, and not before the crossing by which it is reached; no two are the same, their fractions never
+-- fall, and none but the last is behind all crossings. For every course whose ends lie inside their cells. Assumes nothing.
 use mathlib.Core.Path.{_≡_, refl, sym, ap, subst}
 use mathlib.Core.Logic.{⊎-elim}
-use mathlib.Core.Bool.{Bool, true, false, cond}
-use mathlib.Core.List.{_++_}
+use mathlib.Core.Bool.{true, false, cond}
 use Prim.Native.Nat.{ℕ, zero, suc, _+_, _*_, _≤_, _<_}
 use native.Mathlib.Omega.{arith, by-contra}
-use native.Mathlib.Nat.{mul-le-mul, mul-le-mul-left, mul-le-mul-right}
-use lib.Dec.{ltb, eqb}
+use native.Mathlib.Nat.{mul-le-mul, mul-le-mul-right}
+use lib.Dec.{ltb}
 use borrow.Author.Tests.{ltb-true, ne-eqb}
 use Rattle.lines.specs.Steps.{Axis, X, Y, Z, Steps, at, total}
 use Rattle.lines.specs.Crossings.{Course, upper}
@@ -171,9 +170,10 @@ module _ (c : Course) (good : Good c) where
 
   -- ---- every two
 
-  -- the one is another cell than the other, and reached at no greater a fraction
+  -- the one is another cell than the other, reached at no greater a fraction, and behind it crossings are left
   pub record Precedes (v w : Visit) : Type 0 where
     pub apart : ((a : Axis) → visited v a ≡ visited w a) → ⊥
+    pub unfinished : total (visited v) < total (c .count)
     pub order : visit-upper c v * visit-lower c w ≤ visit-upper c w * visit-lower c v
 
   -- from a tie on, the fractions do not fall
@@ -191,6 +191,12 @@ module _ (c : Course) (good : Good c) where
             mul-le-mul-right (c .lower a) (further-up c good b (v .from b) (w .from b) (le b)),
           )
 
+  -- behind a tie there are no more crossings than there are
+  tie-within : (u : Steps) → Full u → total u + total (tie-steps c u) ≤ total (c .count)
+  tie-within u full =
+      let within = passed-within c good u (full .within) in
+      omega (arith, within X, within Y, within Z, passed-on c u X, passed-on c u Y, passed-on c u Z)
+
   -- two of one tie
   pair-in-tie :
       (u : Steps) → Full u → (v w : Visit) → LeadsFrom u (tie-steps c u) v → LeadsFrom u (tie-steps c u) w → ltb (code (v .by)) (code (w .by)) ≡ true →
@@ -198,6 +204,19 @@ module _ (c : Course) (good : Good c) where
   pair-in-tie u full v w h k less =
       record {
         apart = λ e. apart e;
+        unfinished = omega (
+          arith,
+          tie-within u full,
+          total-further (v .from) (v .by),
+          ap total (h .from),
+          ltb-true (code (v .by)) (code (w .by)) less,
+          h .among X,
+          h .among Y,
+          h .among Z,
+          k .among X,
+          k .among Y,
+          k .among Z,
+        );
         order = no-fall u v w (at-tie u full v h) (λ a. omega (arith, on (h .from) a, on (k .from) a)) (at-tie u full w k);
       }
     where
@@ -222,6 +241,18 @@ module _ (c : Course) (good : Good c) where
           total-further (v .from) (v .by),
           total-further (w .from) (w .by),
           k .some,
+          later X,
+          later Y,
+          later Z,
+        );
+        unfinished = omega (
+          arith,
+          tie-within (w .from) (k .full),
+          total-further (v .from) (v .by),
+          k .some,
+          k .among X,
+          k .among Y,
+          k .among Z,
           later X,
           later Y,
           later Z,
@@ -258,6 +289,7 @@ module _ (c : Course) (good : Good c) where
   start-precedes w h =
       record {
         apart = λ e. omega (arith, e X, e Y, e Z, total-further (at 0 0 0) (at 0 0 0), total-further (w .from) (w .by), h .some);
+        unfinished = omega (arith, tie-within (w .from) (h .full), total-further (at 0 0 0) (at 0 0 0), h .some, h .among X, h .among Y, h .among Z);
         order = omega arith;
       }
 
