@@ -272,9 +272,9 @@ oat_listed oat_line6(oat_cell p, oat_cell q, uint32_t rule, int32_t *out, size_t
 oat_listed oat_line26(oat_cell p, oat_cell q, int32_t *out, size_t room);
 
 /* The same for the touching line, which knows no rule either: every cell that has a point of the segment between the two centres, if only on a
-   face, an edge or a corner; each once. It is for what is one cell thick and drawn from corner to corner, such as netting: through an edge a 6-line
-   goes by one of the two cells beside it, and leaves out the other. The touching line has both, and every cell of the 6-line by either rule.
-   The first cell is p; the others come in the order of the crossings. Where one face is crossed, the cell behind it comes. At a tie come, from the
+   face, an edge or a corner; each once. It is for single layers of cells that run along a diagonal, such as netting: through an edge a 6-line goes by
+   one of the two cells beside it, and leaves out the other. The touching line has both, and every cell of the 6-line by either rule.
+   The first cell is p and the last is q; the others come in the order of the crossings. Where one face is crossed, the cell behind it comes. At a tie come, from the
    cell before it, first the cells that one of its crossings leads to, y, z, x; then those by two of them, yz, yx, zx; then the one by all three. So
    where two axes tie there are three cells, and where three do there are seven. From (0, 0, 0) to (1, 1, 1) it has (0, 0, 0), then (0, 1, 0),
    (0, 0, 1), (1, 0, 0), then (0, 1, 1), (1, 1, 0), (1, 0, 1), then (1, 1, 1).
