@@ -41,21 +41,25 @@ use Rattle.sight.specs.Sight.{sight, Sees}
 use Rattle.records.specs.Venues.{venue-head}
 use Rattle.records.specs.declared.writing.Written.the-variants as Written
 use Rattle.records.specs.Writing.{record-length, write-check, after-writing}
-use Rattle.oatmarten.specs.declared.inputs.OatManner.{OatManner}
-use Rattle.oatmarten.specs.declared.refusals.OatSaid.{OatSaid}
-use Rattle.oatmarten.specs.declared.line_calls.OatListed.{OatListed}
-use Rattle.oatmarten.specs.declared.brick_calls.OatTally.{OatTally}
-use Rattle.oatmarten.specs.declared.walk_calls.OatHit.{OatHit}
-use Rattle.oatmarten.specs.declared.sight_calls.OatSight.{OatSight}
-use Rattle.oatmarten.specs.Refusals.{accepted}
+use Rattle.structs.specs.declared.inputs.OatManner.{OatManner}
+use Rattle.structs.specs.declared.refusals.OatSaid.{OatSaid}
+use Rattle.structs.specs.declared.line_answers.OatListed.{OatListed}
+use Rattle.structs.specs.declared.brick_answers.OatTally.{OatTally}
+use Rattle.structs.specs.declared.walk_answers.OatHit.{OatHit}
+use Rattle.structs.specs.declared.sight_answers.OatSight.{OatSight}
+use Rattle.structs.specs.Refusals.{accepted}
 use Rattle.oatmarten.specs.Flattening.{Flattens, After}
-use Rattle.oatmarten.specs.Inputs.{as-start, as-manner}
-use Rattle.oatmarten.specs.LineCalls.{flat-listed, FlatLine6}
-use Rattle.oatmarten.specs.GridCalls.{flat-verdict, flat-complete, flat-part}
-use Rattle.oatmarten.specs.BrickCalls.{flat-tally, FlatRefills}
-use Rattle.oatmarten.specs.WalkCalls.{flat-hit, FlatFinds}
-use Rattle.oatmarten.specs.SightCalls.{flat-found, flat-sight, FlatSees}
-use Rattle.oatmarten.specs.RecordCalls.{rule-number, flat-venue, flat-pair, flat-written}
+use Rattle.structs.specs.Inputs.{as-start, as-manner}
+use Rattle.structs.specs.LineAnswers.{flat-listed}
+use Rattle.oatmarten.specs.LineCalls.{FlatLine6}
+use Rattle.structs.specs.GridAnswers.{flat-verdict, flat-complete, flat-part}
+use Rattle.structs.specs.BrickAnswers.{flat-tally}
+use Rattle.oatmarten.specs.BrickCalls.{FlatRefills}
+use Rattle.structs.specs.WalkAnswers.{flat-hit}
+use Rattle.oatmarten.specs.WalkCalls.{FlatFinds}
+use Rattle.structs.specs.SightAnswers.{flat-found, flat-sight}
+use Rattle.oatmarten.specs.SightCalls.{FlatSees}
+use Rattle.structs.specs.RecordAnswers.{rule-number, flat-venue, flat-pair, flat-written}
 use Rattle.claims.proofs.Grids.{one}
 use Rattle.claims.proofs.Flattenings.{input-rows}
 use Rattle.claims.proofs.Refused.{after-says}

@@ -72,7 +72,7 @@ use Rattle.records.specs.Venues.{venue-in, venue-read, ReadsVenue, part-of, ven
 use Rattle.records.specs.Pairs.{pair-in, pair-read, told-pair}
 use Rattle.records.specs.Writing.{record-length, told-written}
 use Rattle.oatmarten.specs.Flattening.{After}
-use Rattle.oatmarten.specs.Inputs.{as-manner}
+use Rattle.structs.specs.Inputs.{as-manner}
 use Rattle.claims.specs.Refused.{box-tests, set-tests, TalliesTold}
 use Rattle.claims.specs.Refused.{line-tests, LinesTold, layer-tests, GridsTold, cell-tests, sight-tests, PointsTold, venue-tests, RecordsTold, RulesTold}
 use Rattle.claims.proofs.Records.{the-part}

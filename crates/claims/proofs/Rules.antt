@@ -41,7 +41,7 @@ use Rattle.walks.specs.declared.FirstHit.the-variants as FirstHit
 use Rattle.walks.specs.Walks.{conduct}
 use Rattle.walks.specs.Answers.{first-hit, Finds}
 use Rattle.walks.proofs.Testing.{tested-test}
-use Rattle.oatmarten.specs.Faces.{face-number}
+use Rattle.structs.specs.Faces.{face-number}
 use Rattle.cells.proofs.Signed.{up, dn, ltZ-true}
 use Rattle.claims.specs.Example.{at, example-counts, example-cells}
 use Rattle.claims.specs.Lists.{three-at}

@@ -52,7 +52,7 @@ use Rattle.walks.proofs.Places.{enters, never-falls, face-is, some-face, face-l
 use Rattle.walks.proofs.Story.{first-hit-is, walk-stops, end-below, no-earlier, not-invented, ends-alike, reads-no-more}
 use Rattle.walks.proofs.Story.{plain-clear, plain-clear-reads, adaptive-clear-most, adaptive-clear-least}
 use Rattle.survey.proofs.Tests.{neither}
-use Rattle.oatmarten.specs.Faces.{face-number}
+use Rattle.structs.specs.Faces.{face-number}
 use Rattle.claims.specs.Story.{SameStory, hits, clears, refusals, OneStory, NeverInvented, NothingInTheWay, Reads, WalksEnd}
 use Rattle.claims.specs.Story.{FirstOnLine, HitInside, MarkedFirst, HitOnce, WrongWalks, OnTheLine, HitPlace, CameInBy, HitFace, StepByStep}
 use Rattle.claims.specs.Story.{AdaptiveStep, AsItsWalk, long-hit}

@@ -2,7 +2,7 @@
 -- for C asks for nothing, and promises the record of its name, over what C's structs mean. Assumes nothing.
 use lib.ListN.{length}
 use Rattle.walks.specs.declared.Walker.the-variants.{Plain, Adaptive}
-use Rattle.oatmarten.specs.Inputs.{as-cell, as-counts, as-start, as-placement, as-point}
+use Rattle.structs.specs.Inputs.{as-cell, as-counts, as-start, as-placement, as-point}
 use Rattle.oatmarten.specs.LineCalls.{FlatLine6, FlatLine26, FlatLineTouching}
 use Rattle.oatmarten.specs.GridCalls.{FlatMarks, FlatCompletes, FlatGivesLayerPart}
 use Rattle.oatmarten.specs.BrickCalls.{FlatBuilds, FlatSets, FlatRefills}

@@ -41,19 +41,20 @@ use Rattle.records.specs.declared.writing.Written.the-variants as Written
 use Rattle.records.specs.Venues.{told-venue}
 use Rattle.records.specs.Pairs.{told-pair}
 use Rattle.records.specs.Writing.{told-written}
-use Rattle.oatmarten.specs.declared.refusals.OatSaid.{OatSaid}
-use Rattle.oatmarten.specs.declared.walk_calls.OatHit.{OatHit}
-use Rattle.oatmarten.specs.Refusals.{end-number, axis-number, part-number, accepted, flat-refusal, said-of}
-use Rattle.oatmarten.specs.Faces.{face-number}
-use Rattle.oatmarten.specs.Inputs.{as-cell, as-counts, as-manner, as-placement, as-point}
-use Rattle.oatmarten.specs.LineCalls.{flat-listed}
-use Rattle.oatmarten.specs.GridCalls.{flat-verdict, flat-complete, flat-part}
+use Rattle.structs.specs.declared.refusals.OatSaid.{OatSaid}
+use Rattle.structs.specs.declared.walk_answers.OatHit.{OatHit}
+use Rattle.structs.specs.Refusals.{end-number, axis-number, part-number, accepted, flat-refusal, said-of}
+use Rattle.structs.specs.Faces.{face-number}
+use Rattle.structs.specs.Inputs.{as-cell, as-counts, as-manner, as-placement, as-point}
+use Rattle.structs.specs.LineAnswers.{flat-listed}
+use Rattle.structs.specs.GridAnswers.{flat-verdict, flat-complete, flat-part}
 use Rattle.bricks.specs.declared.Tally.the-variants as Tally
 use Rattle.bricks.specs.Builds.{told-tally}
-use Rattle.oatmarten.specs.BrickCalls.{flat-tally}
-use Rattle.oatmarten.specs.WalkCalls.{flat-hit, FlatFinds}
-use Rattle.oatmarten.specs.SightCalls.{flat-found, flat-sight}
-use Rattle.oatmarten.specs.RecordCalls.{rule-number, flat-venue, flat-pair, flat-written}
+use Rattle.structs.specs.BrickAnswers.{flat-tally}
+use Rattle.structs.specs.WalkAnswers.{flat-hit}
+use Rattle.oatmarten.specs.WalkCalls.{FlatFinds}
+use Rattle.structs.specs.SightAnswers.{flat-found, flat-sight}
+use Rattle.structs.specs.RecordAnswers.{rule-number, flat-venue, flat-pair, flat-written}
 use Rattle.claims.specs.Example.{at, example-counts, example-cells}
 
 -- 1. What C reads, over what SCOPE says of the answer.

@@ -58,13 +58,16 @@ use Rattle.records.specs.declared.writing.Written.{Written}
 use Rattle.records.specs.Venues.{ReadsVenue, GivesCells, told-venue}
 use Rattle.records.specs.Pairs.{ReadsPair, told-pair}
 use Rattle.records.specs.Writing.{WritesVenue, told-written}
-use Rattle.oatmarten.specs.declared.inputs.OatManner.{OatManner}
-use Rattle.oatmarten.specs.declared.line_calls.OatListed.{OatListed}
-use Rattle.oatmarten.specs.declared.walk_calls.OatHit.{OatHit}
-use Rattle.oatmarten.specs.declared.sight_calls.OatSight.{OatSight}
-use Rattle.oatmarten.specs.LineCalls.{flat-listed, FlatLine6}
-use Rattle.oatmarten.specs.WalkCalls.{flat-hit, FlatFinds}
-use Rattle.oatmarten.specs.SightCalls.{flat-sight, FlatSees}
+use Rattle.structs.specs.declared.inputs.OatManner.{OatManner}
+use Rattle.structs.specs.declared.line_answers.OatListed.{OatListed}
+use Rattle.structs.specs.declared.walk_answers.OatHit.{OatHit}
+use Rattle.structs.specs.declared.sight_answers.OatSight.{OatSight}
+use Rattle.structs.specs.LineAnswers.{flat-listed}
+use Rattle.oatmarten.specs.LineCalls.{FlatLine6}
+use Rattle.structs.specs.WalkAnswers.{flat-hit}
+use Rattle.oatmarten.specs.WalkCalls.{FlatFinds}
+use Rattle.structs.specs.SightAnswers.{flat-sight}
+use Rattle.oatmarten.specs.SightCalls.{FlatSees}
 use Rattle.claims.specs.Kept.{HoldsNamed}
 
 -- ---- line lists

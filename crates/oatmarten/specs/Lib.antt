@@ -1,7 +1,4 @@
-pub mod Refusals
-pub mod Faces
 pub mod Flattening
-pub mod Inputs
 pub mod LineCalls
 pub mod GridCalls
 pub mod WalkCalls

@@ -1,23 +1,17 @@
--- How the answer of a list call is flattened for C: what SCOPE says of it, as numbers. Assumes nothing.
+-- The contracts of the three list calls for C: the struct is the flattening of an answer that meets the call's own contract. Of the 6-line 12 comes first,
+-- and leaves the memory as it was. Assumes nothing.
 use Prim.Native.Nat.{ℕ}
 use mathlib.Core.Path.{_≡_}
 use mathlib.Core.List.{List}
 use lib.IntN.{ℤ}
 use Rattle.cells.specs.declared.Cell.{Cell}
 use Rattle.cells.specs.Manners.{rule-of, rule-check}
-use Rattle.lists.specs.declared.Listed.{Listed}
-use Rattle.lists.specs.declared.Listed.the-variants.{Cells, Refused}
+use Rattle.lists.specs.declared.Listed.the-variants.{Refused}
 use Rattle.lists.specs.Lists.{Line6, Line26}
 use Rattle.touching.specs.Touching.{LineTouching}
-use Rattle.oatmarten.specs.declared.line_calls.OatListed.{OatListed}
-use Rattle.oatmarten.specs.Refusals.{accepted, flat-refusal}
+use Rattle.structs.specs.declared.line_answers.OatListed.{OatListed}
 use Rattle.oatmarten.specs.Flattening.{Flattens, After}
-
-abbrev pub flat-listed : Listed → OatListed
-flat-listed (Cells n) = record { said = accepted; count = n }
-flat-listed (Refused r) = record { said = flat-refusal r; count = 0 }
-
--- ---- the contracts of the three calls; of the 6-line 12 comes first, and leaves the memory as it was
+use Rattle.structs.specs.LineAnswers.{flat-listed}
 
 abbrev pub FlatLine6 : ℕ → Cell → Cell → List ℤ → OatListed → List ℤ → Type 0
 FlatLine6 rule p q entry r exit =

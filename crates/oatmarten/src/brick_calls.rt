@@ -1,37 +1,12 @@
 // Solid counts that are kept, for C: the build, one cell set, a box refilled.
-ghost use mathlib.Core.Path.{_≡_};
-ghost use Rattle.oatmarten.specs.Inputs.{as-cell, as-counts};
-ghost use Rattle.oatmarten.specs.BrickCalls.{flat-tally, FlatBuilds, FlatSets, FlatRefills};
-use crate::inputs::OatCell;
-use crate::inputs::OatCounts;
-use crate::inputs::cell;
-use crate::inputs::counts;
-use crate::refusals::ACCEPTED;
-use crate::refusals::OatSaid;
-use crate::refusals::flatten;
-use bricks::Tally;
-
-// The answer of the three calls: the number of solid cells.
-#[repr(C)]
-pub struct OatTally {
-    pub said: OatSaid,
-    pub total: u64,
-}
-
-fn flat_tally(t: Tally) -> OatTally
-    ensures { λ r. ⌜ r ≡ flat-tally t ⌝ }
-{
-    match t {
-        Tally::Total(many) => OatTally {
-            said: ACCEPTED,
-            total: many,
-        },
-        Tally::Refused(r) => OatTally {
-            said: flatten(r),
-            total: 0,
-        },
-    }
-}
+ghost use Rattle.structs.specs.Inputs.{as-cell, as-counts};
+ghost use Rattle.oatmarten.specs.BrickCalls.{FlatBuilds, FlatSets, FlatRefills};
+use structs::OatCell;
+use structs::OatCounts;
+use structs::OatTally;
+use structs::cell;
+use structs::counts;
+use structs::flat_tally;
 
 // The masks of all bricks, and the total.
 #[no_mangle]

@@ -1,36 +1,12 @@
 // The list calls for C.
-ghost use mathlib.Core.Path.{_≡_};
-ghost use Rattle.oatmarten.specs.Inputs.{as-cell};
-ghost use Rattle.oatmarten.specs.LineCalls.{flat-listed, FlatLine6, FlatLine26, FlatLineTouching};
-use crate::inputs::OatCell;
-use crate::inputs::cell;
-use crate::refusals::ACCEPTED;
-use crate::refusals::OatSaid;
-use crate::refusals::flatten;
+ghost use Rattle.structs.specs.Inputs.{as-cell};
+ghost use Rattle.oatmarten.specs.LineCalls.{FlatLine6, FlatLine26, FlatLineTouching};
 use cells::Verdict;
 use lists::Listed;
-
-// The answer of a line list: the number of cells.
-#[repr(C)]
-pub struct OatListed {
-    pub said: OatSaid,
-    pub count: u32,
-}
-
-fn flat_listed(l: Listed) -> OatListed
-    ensures { λ r. ⌜ r ≡ flat-listed l ⌝ }
-{
-    match l {
-        Listed::Cells(n) => OatListed {
-            said: ACCEPTED,
-            count: n,
-        },
-        Listed::Refused(r) => OatListed {
-            said: flatten(r),
-            count: 0,
-        },
-    }
-}
+use structs::OatCell;
+use structs::OatListed;
+use structs::cell;
+use structs::flat_listed;
 
 // The 6-line from p to q, ties by the rule of a number.
 #[no_mangle]

@@ -3,7 +3,7 @@
 use mathlib.Core.Path.{refl, sym, _∙_, subst, subst₂}
 use borrow.Author.Needs.{needs}
 use Rattle.lists.specs.Lists.{Line6}
-use Rattle.oatmarten.specs.Inputs.{as-cell}
+use Rattle.structs.specs.Inputs.{as-cell}
 use Rattle.oatmarten.proofs.After.{after-refusal, after-all}
 use Rattle.oatmarten.proofs.line_calls.oat_line6.Statement.{statement}
 use Rattle.oatmarten.proofs.line_calls.oat_line6.Tie as tie

@@ -1,0 +1,9 @@
+pub mod Refusals
+pub mod Faces
+pub mod Inputs
+pub mod LineAnswers
+pub mod GridAnswers
+pub mod WalkAnswers
+pub mod SightAnswers
+pub mod RecordAnswers
+pub mod BrickAnswers
