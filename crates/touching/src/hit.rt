@@ -23,6 +23,7 @@ use hits::Stop;
 use hits::Turn;
 use lines::Order;
 use lines::Tie;
+use lines::Tripod;
 use routes::Route;
 use routes::Spot;
 use walks::FirstHit;
@@ -213,7 +214,8 @@ fn told_from(k: Route) -> Route
     }
 }
 
-// What the walk finds along a route. The other route is made first: what it holds then need not be at hand while the walk goes on.
+// What the walk finds along a route. The other route is made first: what it holds then need not be at hand while the walk goes on. The answer does not
+// ask for the decision values where the walk stopped: without them none are worked out for a cell of a tie that is left there.
 fn touching_answer(cells: &[u8], k: Route, how: Manner) -> FirstHit
     requires { ⌜ Planned (length (now cells)) k × (k .order ≡ Yzx) ⌝ }
     ensures { λ r. ⌜ r ≡ found-along (how .start) (now (cells .entry)) k ⌝ }
@@ -222,8 +224,15 @@ fn touching_answer(cells: &[u8], k: Route, how: Manner) -> FirstHit
     let t = walk_touching(cells, k, routes::first_spot(k), how);
     if t.hit {
         let spot = t.spot;
+        let at = spot.at;
+        let none = Tripod {
+            xy: 0,
+            xz: 0,
+            zy: 0,
+        };
+        let there = Spot { at: at, e: none };
         let stop = Stop {
-            spot: spot,
+            spot: there,
             reads: t.reads,
         };
         return hits::answer_of(cells, told, stop, how);
