@@ -17,6 +17,19 @@ and-both true true h = (refl, refl)
 and-both true false h = (refl, h)
 and-both false t h = (h, absurd (let z : _≡_ {A = ℕ} 0 1 = cc in omega arith))
 
+-- who touches within j axes does so within k
+pub touches-within : {j k : ℕ} {c d : Cell} → j ≤ k → Touches j c d → Touches k c d
+touches-within le t = record { by-one = t .by-one; differing = t .differing; within = omega (arith, t .within) }
+
+-- and there are but three
+pub touches-at-3 : {k : ℕ} {c d : Cell} → Touches k c d → Touches 3 c d
+touches-at-3 {k} {c} {d} t =
+    record {
+      by-one = t .by-one;
+      differing = t .differing;
+      within = omega arith;
+    }
+
 pub touching-iff : (k : ℕ) (c d : Cell) → (touching k c d ≡ true) ↔ Touches k c d
 touching-iff k c d = (told, says)
   where

@@ -15,9 +15,10 @@ use Rattle.claims.proofs.Kept.{kept-once, masks, build-means, refill-me
 use Rattle.claims.proofs.Sequences.{from-a-build-on, keeping}
 use Rattle.claims.proofs.Points as points
 use Rattle.claims.proofs.Records as records
-use Rattle.claims.proofs.Sights.{seen-once, nothing-in-sight}
+use Rattle.claims.proofs.Shells.{shells, asks-less}
+use Rattle.claims.proofs.Sights.{seen-once}
 use Rattle.claims.proofs.Story.{hit-once, hit-face, first-on-line, walks-end, step-by-step, adaptive-step, as-its-walk}
-use Rattle.claims.proofs.Story.{one-story, never-invented}
+use Rattle.claims.proofs.Story.{never-invented}
 use Rattle.claims.proofs.Starts.{start-tests, two-starts}
 use Rattle.claims.proofs.Touching.{touched-cells, crossing-order, over-six-lines, touching-listed, touching-hits, touching-starts, beside-plain, touching-once}
 use Rattle.claims.proofs.Rules.{the-rules, mirrored, both-ways}
@@ -68,8 +69,10 @@ are-the-papers =
 pub tell-one-story : TellOneStory
 tell-one-story =
     record {
-      same = λ how n l p q yes. one-story how n l p q .story (grids.says-complete n l .yes yes);
-      clear = λ how n l at camera ball yes. nothing-in-sight how n l at camera ball .open-way (grids.says-complete n l .yes yes);
+      same = λ how n l p q yes. shells .full .story how n l p q .story (grids.says-complete n l .yes yes);
+      clear = λ how n l at camera ball yes. shells .full .sight how n l at camera ball .open-way (grids.says-complete n l .yes yes);
+      shells = shells;
+      less = asks-less;
       never-invented = λ how n l p q k plain ha hp. let (h, is, place, order) = never-invented how n l p q .plain-too k plain ha hp in (h, is, order);
       faces = hit-face;
       starts = two-starts;

@@ -13,6 +13,7 @@ pub mod Touching
 pub mod Points
 pub mod FarWall
 pub mod Sights
+pub mod Shells
 pub mod Records
 pub mod Judged
 pub mod Refused

@@ -45,8 +45,8 @@ use Rattle.structs.specs.Faces.{face-number}
 use Rattle.cells.proofs.Signed.{up, dn, ltZ-true}
 use Rattle.claims.specs.Example.{at, example-counts, example-cells}
 use Rattle.claims.specs.Lists.{three-at}
-use Rattle.claims.specs.Story.{SameStory, hits, clears}
-use Rattle.claims.specs.Rules.{ComesFirst, TheRules, Mirror, SameLine, BothWays, WrongRules, low-post}
+use Rattle.claims.specs.Story.{SameStory, hits, clears, OneStory}
+use Rattle.claims.specs.Rules.{ComesFirst, TheRules, Mirror, SameLine, BothWays, AdaptiveBothWays, WrongRules, low-post}
 use Rattle.claims.proofs.Lists.{cells-listed, fits, roomy}
 use Rattle.claims.proofs.Story.{kind, face-or, hit-found, clear-found, not-refused, first-on-line, reads-hold, one-story}
 
@@ -208,7 +208,7 @@ hit-back n l p q h (FirstHit.Refused r) a g =
     absurd (not-refused (tested-by Two) n l q p Plain (back-fine n l p q (hit-found (tested-by Two) n l p q Plain h a .0)) r g)
 
 -- of one story both are clear, or both hit
-plain-clear : {a : FirstHit} {m : ℕ} → SameStory a (FirstHit.Clear m) → (r : ℕ) × (a ≡ FirstHit.Clear r)
+pub plain-clear : {a : FirstHit} {m : ℕ} → SameStory a (FirstHit.Clear m) → (r : ℕ) × (a ≡ FirstHit.Clear r)
 plain-clear (clears {r} le) = (r, refl)
 
 plain-hit : {a : FirstHit} {k : Hit} → SameStory a (FirstHit.Hit k) → (h : Hit) × (a ≡ FirstHit.Hit h)
@@ -225,16 +225,24 @@ both-ways n l p q =
     record {
       clear = clear-back n l p q;
       hit = hit-back n l p q;
-      adaptive-clear = λ whole reads s h g.
-          let (m, e) = plain-clear (one-story (tested-by Two) n l p q .story whole _ _ (plain p q) h) in
+    }
+
+pub adaptive-both-ways : (k : ℕ) → 2 ≤ k → (n : Counts) (l : List ℕ) (p q : Cell) → AdaptiveBothWays k n l p q
+adaptive-both-ways k two n l p q =
+    record {
+      clear = λ whole reads s h g.
+          let (m, e) = plain-clear (story p q .story whole _ _ (plain p q) h) in
           let f = clear-back n l p q m _ (subst (Finds Plain (tested-by Two) n l p q) e (plain p q)) (plain q p) in
-          then-clear (subst (λ a. SameStory a s) f (one-story (tested-by Two) n l q p .story whole _ _ (plain q p) g));
-      adaptive-hit = λ whole h s a g.
-          let (m, e) = plain-hit (one-story (tested-by Two) n l p q .story whole _ _ (plain p q) a) in
+          then-clear (subst (λ a. SameStory a s) f (story q p .story whole _ _ (plain q p) g));
+      hit = λ whole h s a g.
+          let (m, e) = plain-hit (story p q .story whole _ _ (plain p q) a) in
           let (k, f) = hit-back n l p q m _ (subst (Finds Plain (tested-by Two) n l p q) e (plain p q)) (plain q p) in
-          then-hit (subst (λ a. SameStory a s) f (one-story (tested-by Two) n l q p .story whole _ _ (plain q p) g));
+          then-hit (subst (λ a. SameStory a s) f (story q p .story whole _ _ (plain q p) g));
     }
   where
+    story : (p q : Cell) → OneStory k (tested-by Two) n l p q
+    story p q = one-story (tested-by Two) n l p q k two
+
     plain : (p q : Cell) → Finds Plain (tested-by Two) n l p q (first-hit Plain (tested-by Two) n l p q)
     plain p q = record { says = refl }
 

@@ -1,5 +1,5 @@
 -- The claims about the sight call, from its definition and the claims about the adaptive walk. Assumes nothing.
-use Prim.Native.Nat.{ℕ}
+use Prim.Native.Nat.{ℕ, _≤_}
 use mathlib.Core.Path.{_≡_, refl, sym, ap, ap₂, _∙_}
 use mathlib.Core.Bool.{cond}
 use mathlib.Core.List.{List}
@@ -120,18 +120,18 @@ module _ (how : Manner) (n : Counts) (l : List ℕ) (at : Placement) (camera bal
       let (fine, is) = by-fine Refused (shape n (length l) then placement-check at) _ other (sym (sight-is how n l at camera ball) ∙ sym (sees .says)) in
       seen-by how n l _ _ other (sym (looked-is how n l at camera ball) ∙ is)
 
-  pub nothing-in-sight : NothingInSight how n l at camera ball
-  nothing-in-sight =
+  pub nothing-in-sight : (k : ℕ) → 2 ≤ k → NothingInSight how n l at k camera ball
+  nothing-in-sight k two =
       record {
         open-way = λ whole sees.
-            let k = looked-by not-clear sees in
-            let (reads, is) = walk-clear _ (k .walk) in
+            let found = looked-by not-clear sees in
+            let (reads, is) = walk-clear _ (found .walk) in
             record {
-              from = k .from;
-              to = k .to;
-              from-is = k .from-is;
-              to-is = k .to-is;
-              free = nothing-in-the-way how n l (k .from) (k .to) .open-way whole reads (record { says = sym is });
+              from = found .from;
+              to = found .to;
+              from-is = found .from-is;
+              to-is = found .to-is;
+              free = nothing-in-the-way how n l (found .from) (found .to) k two .open-way whole reads (record { says = sym is });
             };
       }
 

@@ -26,7 +26,7 @@ use Rattle.program.specs.Program.{beyond, output}
 use Rattle.sight.specs.Sight.{sight}
 use Rattle.claims.specs.Program.{example-input, example-output}
 use Rattle.claims.specs.Tables.{no-more, _and_}
-use Rattle.claims.specs.Starred.{after-refill, RowsMeant, Every, program-rows, record-rows, sight-rows, rule-rows, start-rows, count-rows, table}
+use Rattle.claims.specs.Starred.{after-refill, RowsMeant, Every, program-rows, record-rows, sight-rows, rule-rows, start-rows, count-rows, shell-rows, table}
 
 pub rows-meant : RowsMeant
 rows-meant =
@@ -87,10 +87,16 @@ counts-hold =
     refl and refl and refl and refl and refl and refl and refl and refl and refl and refl and refl and refl and refl and
     refl and refl and refl and refl and refl and refl and refl and refl and refl and refl and refl and refl and starts-hold
 
+shells-hold : Every shell-rows
+unfolding shape count-check completeness complete marked marked-byte touches-solid any first-hit
+shells-hold =
+    refl and refl and refl and refl and refl and refl and refl and refl and refl and refl and refl and refl and refl and refl and refl and
+    refl and refl and refl and refl and refl and refl and refl and refl and refl and refl and refl and refl and refl and counts-hold
+
 pub starred : Every table
 unfolding six-line order-of line-26 marked first-hit
 starred =
     refl and refl and refl and refl and refl and refl and refl and refl and refl and refl and refl and refl and refl and refl and refl and refl and
     refl and refl and refl and refl and refl and refl and refl and refl and refl and refl and refl and
     refl and refl and refl and refl and refl and refl and refl and refl and refl and refl and refl and
-    refl and refl and refl and refl and refl and refl and refl and refl and refl and refl and counts-hold
+    refl and refl and refl and refl and refl and refl and refl and refl and refl and refl and shells-hold

@@ -97,17 +97,17 @@ module _ (how : Manner) (n : Counts) (l : List ℕ) (p q : Cell) where
   found : {w : Walker} {r : FirstHit} → Finds w how n l p q r → r ≡ by-verdict FirstHit.Refused (answered w) check
   found {w} h = h .says ∙ first-hit-is how n l p q w
 
-  -- where the marks are complete and the ends are in the grid, both walks end at the same number
-  alike : check ≡ Verdict.Fine → complete 3 n l ≡ true → E Adaptive ≡ E Plain
-  alike fine whole =
+  -- where the marks are complete, by edges too, and the ends are in the grid, both walks end at the same number
+  alike : (k : ℕ) → 2 ≤ k → check ≡ Verdict.Fine → complete k n l ≡ true → E Adaptive ≡ E Plain
+  alike k two fine whole =
       let a = accepted n (length l) p q fine in
-      ends-alike C n l p q 3 (omega arith) (a .p-in) (a .q-in) (complete-safe 3 n l (a .shaped) whole)
+      ends-alike C n l p q k two (a .p-in) (a .q-in) (complete-safe k n l (a .shaped) whole)
 
-  same-answers : complete 3 n l ≡ true → (v : Verdict) → check ≡ v →
+  same-answers : (k : ℕ) → 2 ≤ k → complete k n l ≡ true → (v : Verdict) → check ≡ v →
       SameStory (by-verdict FirstHit.Refused (answered Plain) v) (by-verdict FirstHit.Refused (answered Adaptive) v)
-  same-answers whole (Verdict.Refused r) h = refusals
-  same-answers whole Verdict.Fine h =
-      let e = alike h whole in
+  same-answers k two whole (Verdict.Refused r) h = refusals
+  same-answers k two whole Verdict.Fine h =
+      let e = alike k two h whole in
       subst (λ k. SameStory (answered Plain) (answer-at C n l p q k (reads-of C n l p q Adaptive))) (sym e)
       (by (hits-at C n l p q (E Plain)) _ _ _ (reads-no-more C n l p q e))
     where
@@ -118,8 +118,8 @@ module _ (how : Manner) (n : Counts) (l : List ℕ) (p q : Cell) where
       by true c code place le = hits refl refl refl le
       by false c code place le = clears le
 
-  pub one-story : OneStory how n l p q
-  one-story = record { story = λ whole rp ra hp ha. subst₂ SameStory (sym (found hp)) (sym (found ha)) (same-answers whole check refl) }
+  pub one-story : (k : ℕ) → 2 ≤ k → OneStory k how n l p q
+  one-story k two = record { story = λ whole rp ra hp ha. subst₂ SameStory (sym (found hp)) (sym (found ha)) (same-answers k two whole check refl) }
 
   -- ---- in any grid
 
@@ -273,13 +273,13 @@ module _ (how : Manner) (n : Counts) (l : List ℕ) (p q : Cell) where
 
   -- ---- clear
 
-  pub nothing-in-the-way : NothingInTheWay how n l p q
-  nothing-in-the-way =
+  pub nothing-in-the-way : (k : ℕ) → 2 ≤ k → NothingInTheWay k how n l p q
+  nothing-in-the-way k two =
       record {
-        open-way = λ whole reads ha k d c share inside tested.
+        open-way = λ whole reads ha m d c share inside tested.
             let (fine, none, many) = clear-found Adaptive reads ha in
-            let free = subst (λ e. hits-at C n l p q e ≡ false) (alike fine whole) none in
-            let (s, le, is) = six-misses-none R p q k d c share inside in
+            let free = subst (λ e. hits-at C n l p q e ≡ false) (alike k two fine whole) none in
+            let (s, le, is) = six-misses-none R p q m d c share inside in
             subst (λ w. solid (byte-of n l w) ≡ false) is
             (not-solid C n l p q s (plain-clear C n l p q free s le) (λ e. ap is-tested (tested (sym is ∙ e))));
       }

@@ -15,6 +15,7 @@ pub mod Touching
 pub mod Points
 pub mod FarWall
 pub mod Sights
+pub mod Shells
 pub mod Records
 pub mod Refused
 pub mod Texts

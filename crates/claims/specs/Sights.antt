@@ -57,9 +57,9 @@ module _ (how : Manner) (n : Counts) (l : List ℕ) (at : Placement) where
     pub to-is : look-up Q n at ball ≡ Lookup.Cell to
     pub free : (k d : ℕ) (c : cell.Cell) → Share k d → InOpen from to k d c → (c ≡ from → how .start ≡ Tested) → solid (byte-of n l c) ≡ false
 
-  -- 3. Nothing in the way: marks complete and the sight clear.
-  pub record NothingInSight (camera ball : Point) : Type 0 where
-    pub open-way : complete 3 n l ≡ true → Sees how n l at camera ball Clear → OpenWay camera ball
+  -- 3. Nothing in the way: marks complete at k and the sight clear (Shells: from 2 on).
+  pub record NothingInSight (k : ℕ) (camera ball : Point) : Type 0 where
+    pub open-way : complete k n l ≡ true → Sees how n l at camera ball Clear → OpenWay camera ball
 
   -- 4. Where the camera's point has no cell, its refusal is the answer; so the answer does not depend on the ball, whatever else is refused.
   pub record CameraFirst (camera : Point) : Type 0 where

@@ -26,7 +26,7 @@ use Rattle.lines.specs.Preference.{order-of, by-rule}
 use Rattle.lines.specs.Lines.{six-line, line-26}
 use Rattle.lists.specs.declared.Listed.the-variants as Listed
 use Rattle.lists.specs.Lists.{list-check, told-listed}
-use Rattle.grids.specs.Marks.{marked, completeness, told-completeness}
+use Rattle.grids.specs.Marks.{marked, complete, completeness, told-completeness}
 use Rattle.bricks.specs.declared.Tally.{Tally}
 use Rattle.bricks.specs.declared.Tally.the-variants as Tally
 use Rattle.bricks.specs.Bricks.{solids}
@@ -48,6 +48,7 @@ use Rattle.sight.specs.Sight.{sight, told-sight, blocked}
 use Rattle.claims.specs.Points.{metres, next-above, one-metre, point}
 use Rattle.claims.specs.Tables.{EachRow}
 use Rattle.claims.specs.Example.{counts, at, example-counts, example-cells, marked-cells, set-cells, all-solid}
+use Rattle.claims.specs.Example.{corner-counts, corner-cells, corner-thin, corner-full, far-counts, far-thin, faces-there, faces-back, faces-inside}
 use Rattle.claims.specs.Rules.{low-post}
 use Rattle.claims.specs.Story.{long-bytes}
 use Rattle.claims.specs.Records.{example-venue, example-pair, minus-one-pair}
@@ -96,7 +97,8 @@ pub record RowsMeant : Type 0 where
       Sets n cell byte l m total r l′ m′ ↔ (after-refill n cell cell byte l m total ≡ (r, l′, m′))
 
 -- a row: the ends P and Q and the cells of the line between them, of the 6-line by a rule; two ends and the order of rule 2 between them; the ends,
--- room for so many numbers, and what the 6-line's call answers; counts, bytes, and the bytes marked, or whether their marks are complete; counts,
+-- room for so many numbers, and what the 6-line's call answers; the number k of touching, counts, bytes, and the bytes marked at k, or whether their marks
+-- are complete at k; counts, bytes, and what the completeness call says; counts,
 -- bytes and lent masks, what a build answers, and the masks after it; a cell or two corners, a byte, bytes, masks and total, what a set or refill
 -- answers, and bytes and masks after it; a walk, its manner, its grid and ends, and what it finds; a venue's record, its counts and its cells; a
 -- pair's record, P, Q and the rule, or what is said of its refusal; the program's whole input and output; or a manner, a grid, its placement, camera
@@ -107,7 +109,8 @@ pub data Row : Type 0 where
   orders : Cell → Cell → Order → Row
   twenty-six : Cell → Cell → List Cell → Row
   lists : Cell → Cell → ℕ → Told ⊎ ℕ → Row
-  marks : Counts → List ℕ → List ℕ → Row
+  marks : ℕ → Counts → List ℕ → List ℕ → Row
+  complete-at : ℕ → Counts → List ℕ → Bool → Row
   complete-is : Counts → List ℕ → Bool → Row
   builds : Counts → (bytes masks : List ℕ) → Tally → List ℕ → Row
   sets : Counts → Cell → ℕ → (bytes masks : List ℕ) → ℕ → Tally → (bytes masks : List ℕ) → Row
@@ -129,7 +132,8 @@ Holds (orders p q o) = order-of Two p q ≡ o
 Holds (twenty-six p q l) = line-26 p q ≡ l
 Holds (lists p q room says) = told-listed
     (by-verdict Listed.Refused (Listed.Cells (length (six-line (by-rule One p q) p q))) (list-check p q (length (six-line (by-rule One p q) p q)) room)) ≡ says
-Holds (marks n l m) = marked 3 n l ≡ m
+Holds (marks k n l m) = marked k n l ≡ m
+Holds (complete-at k n l whether) = complete k n l ≡ whether
 Holds (complete-is n l whether) = told-completeness (completeness n l) ≡ inr whether
 Holds (builds n l m r m′) = after-build n l m ≡ (r, m′)
 Holds (sets n cell byte l m total r l′ m′) = after-refill n cell cell byte l m total ≡ (r, l′, m′)
@@ -323,10 +327,47 @@ count-rows =
     ∷ complete-is (counts 3 1 1) (0 ∷ 0 ∷ 0 ∷ []) true
     ∷ sets (counts 3 1 1) (at 0 0 0) 2 (0 ∷ 0 ∷ 0 ∷ []) (0 ∷ []) 0 (Tally.Total 1) (2 ∷ 0 ∷ 0 ∷ []) (1 ∷ [])
     ∷ complete-is (counts 3 1 1) (2 ∷ 0 ∷ 0 ∷ []) false
-    ∷ marks (counts 3 1 1) (2 ∷ 0 ∷ 0 ∷ []) (2 ∷ 1 ∷ 0 ∷ [])
+    ∷ marks 3 (counts 3 1 1) (2 ∷ 0 ∷ 0 ∷ []) (2 ∷ 1 ∷ 0 ∷ [])
     ∷ complete-is (counts 3 1 1) (2 ∷ 1 ∷ 0 ∷ []) true
     ∷ builds (counts 3 1 1) (2 ∷ 1 ∷ 0 ∷ []) (0 ∷ []) (Tally.Total 1) (1 ∷ [])
     ∷ start-rows
+
+-- shells of marks. A grid in the thin shell: complete at 2 and not at 3, so that the completeness call says no of it
+abbrev pub shell-rows : List Row
+shell-rows =
+    marks 2 corner-counts corner-cells corner-thin
+    ∷ marks 3 corner-counts corner-cells corner-full
+    ∷ complete-at 2 corner-counts corner-thin true
+    ∷ complete-at 3 corner-counts corner-thin false
+    ∷ complete-is corner-counts corner-thin false
+    ∷ complete-is corner-counts corner-full true
+    -- past the solid cell's corner, (1,1,1): two reads in the thin shell, and three in the full one, as plain
+    ∷ finds Plain usual corner-counts corner-thin (at 1 1 1) (at 2 0 1) (clear 3)
+    ∷ finds Adaptive usual corner-counts corner-thin (at 1 1 1) (at 2 0 1) (clear 2)
+    ∷ finds Adaptive usual corner-counts corner-full (at 1 1 1) (at 2 0 1) (clear 3)
+    ∷ finds Adaptive (tested-by Two) corner-counts corner-thin (at 1 1 1) (at 2 0 1) (clear 2)
+    -- and onto it: one long step reaches the hit, by the face that each rule crosses last; from that corner marked near, face by face
+    ∷ finds Plain usual corner-counts corner-thin (at 1 1 1) (at 0 0 0) (hit (at 0 0 0) 2 1 2 (Face.Minus X) 4)
+    ∷ finds Adaptive usual corner-counts corner-thin (at 1 1 1) (at 0 0 0) (hit (at 0 0 0) 2 1 2 (Face.Minus X) 2)
+    ∷ finds Adaptive usual corner-counts corner-full (at 1 1 1) (at 0 0 0) (hit (at 0 0 0) 2 1 2 (Face.Minus X) 4)
+    ∷ finds Plain (tested-by Two) corner-counts corner-thin (at 1 1 1) (at 0 0 0) (hit (at 0 0 0) 2 1 2 (Face.Minus Y) 4)
+    ∷ finds Adaptive (tested-by Two) corner-counts corner-thin (at 1 1 1) (at 0 0 0) (hit (at 0 0 0) 2 1 2 (Face.Minus Y) 2)
+    -- a long step that crosses y and z at 3 over 4, and last x at 5 over 6, by which the 6-line enters
+    ∷ complete-at 2 far-counts far-thin true
+    ∷ finds Plain usual far-counts far-thin (at 0 0 0) (at 3 2 2) (hit (at 3 2 2) 2 5 6 (Face.Plus X) 8)
+    ∷ finds Adaptive usual far-counts far-thin (at 0 0 0) (at 3 2 2) (hit (at 3 2 2) 2 5 6 (Face.Plus X) 4)
+    -- faces alone: complete at 1 and not at 2, and the adaptive walk steps over what the plain one hits
+    ∷ complete-at 1 (counts 2 2 2) faces-there true
+    ∷ complete-at 2 (counts 2 2 2) faces-there false
+    ∷ finds Plain usual (counts 2 2 2) faces-there (at 0 0 0) (at 1 1 1) (hit (at 0 1 1) 2 1 2 (Face.Plus Z) 3)
+    ∷ finds Adaptive usual (counts 2 2 2) faces-there (at 0 0 0) (at 1 1 1) (clear 2)
+    ∷ finds Plain (tested-by Two) (counts 2 2 2) faces-back (at 1 1 1) (at 0 0 0) (hit (at 0 1 0) 2 1 2 (Face.Minus Z) 3)
+    ∷ finds Adaptive (tested-by Two) (counts 2 2 2) faces-back (at 1 1 1) (at 0 0 0) (clear 2)
+    ∷ finds Plain (tested-by One) (counts 2 2 2) faces-back (at 1 1 1) (at 0 0 0) (clear 4)
+    ∷ finds Adaptive (tested-by One) (counts 2 2 2) faces-back (at 1 1 1) (at 0 0 0) (clear 2)
+    ∷ finds Plain usual far-counts faces-inside (at 0 0 0) (at 3 2 2) (hit (at 2 2 2) 2 3 4 (Face.Plus Z) 7)
+    ∷ finds Adaptive usual far-counts faces-inside (at 0 0 0) (at 3 2 2) (clear 4)
+    ∷ count-rows
 
 -- every case; where a row says nothing else, the start is tested and ties go by rule 1
 abbrev pub table : List Row
@@ -349,14 +390,14 @@ table =
     ∷ lists (at 0 0 0) (at 0 8192 0) 0 (inl (at-end 1 Q Y))
     ∷ lists (at-minus 8193 0 8192) (at 8192 0 0) 0 (inl (at-end 1 P X))
     -- the program's venue: its marks; its walks, unmarked and marked
-    ∷ marks example-counts example-cells marked-cells
+    ∷ marks 3 example-counts example-cells marked-cells
     -- a near byte far from anything solid is cleared
-    ∷ marks (counts 4 1 1) (1 ∷ 1 ∷ 0 ∷ 2 ∷ []) (0 ∷ 0 ∷ 1 ∷ 2 ∷ [])
+    ∷ marks 3 (counts 4 1 1) (1 ∷ 1 ∷ 0 ∷ 2 ∷ []) (0 ∷ 0 ∷ 1 ∷ 2 ∷ [])
     -- along y and along z too, a cell touches no further than the next
-    ∷ marks (counts 1 3 1) (2 ∷ 0 ∷ 0 ∷ []) (2 ∷ 1 ∷ 0 ∷ [])
-    ∷ marks (counts 1 1 3) (2 ∷ 0 ∷ 0 ∷ []) (2 ∷ 1 ∷ 0 ∷ [])
+    ∷ marks 3 (counts 1 3 1) (2 ∷ 0 ∷ 0 ∷ []) (2 ∷ 1 ∷ 0 ∷ [])
+    ∷ marks 3 (counts 1 1 3) (2 ∷ 0 ∷ 0 ∷ []) (2 ∷ 1 ∷ 0 ∷ [])
     -- a corner touches
-    ∷ marks (counts 2 2 2) (0 ∷ 0 ∷ 0 ∷ 0 ∷ 0 ∷ 0 ∷ 0 ∷ 9 ∷ []) (1 ∷ 1 ∷ 1 ∷ 1 ∷ 1 ∷ 1 ∷ 1 ∷ 9 ∷ [])
+    ∷ marks 3 (counts 2 2 2) (0 ∷ 0 ∷ 0 ∷ 0 ∷ 0 ∷ 0 ∷ 0 ∷ 9 ∷ []) (1 ∷ 1 ∷ 1 ∷ 1 ∷ 1 ∷ 1 ∷ 1 ∷ 9 ∷ [])
     ∷ finds Plain tested-start example-counts example-cells (at 0 0 0) (at 3 1 0) (hit (at 1 1 0) 2 1 2 (Face.Plus Y) 3)
     ∷ finds Adaptive tested-start example-counts example-cells (at 0 0 0) (at 3 1 0) (clear 4)
     ∷ finds Plain tested-start example-counts marked-cells (at 0 0 0) (at 3 1 0) (hit (at 1 1 0) 2 1 2 (Face.Plus Y) 3)
@@ -394,4 +435,4 @@ table =
     -- missing marks: the adaptive walk is clear and reads more than the plain one
     ∷ finds Plain tested-start (counts 3 2 1) (0 ∷ 0 ∷ 0 ∷ 0 ∷ 2 ∷ 0 ∷ []) (at 0 1 0) (at 2 0 0) (hit (at 1 1 0) 2 1 4 (Face.Plus X) 2)
     ∷ finds Adaptive tested-start (counts 3 2 1) (0 ∷ 0 ∷ 0 ∷ 0 ∷ 2 ∷ 0 ∷ []) (at 0 1 0) (at 2 0 0) (clear 3)
-    ∷ count-rows
+    ∷ shell-rows

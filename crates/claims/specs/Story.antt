@@ -42,9 +42,9 @@ pub data SameStory : FirstHit → FirstHit → Type 0 where
   clears : {r s : ℕ} → s ≤ r → SameStory (FirstHit.Clear r) (FirstHit.Clear s)
   refusals : {r : Refusal} → SameStory (FirstHit.Refused r) (FirstHit.Refused r)
 
--- 1. Same story: where no clear cell touches a solid one by face, edge or corner.
-pub record OneStory (how : Manner) (n : Counts) (l : List ℕ) (p q : Cell) : Type 0 where
-  pub story : complete 3 n l ≡ true → (rp ra : FirstHit) → Finds Plain how n l p q rp → Finds Adaptive how n l p q ra → SameStory rp ra
+-- 1. Same story: where no clear cell touches a solid one; the number k says how near counts (Shells: from 2 on this holds).
+pub record OneStory (k : ℕ) (how : Manner) (n : Counts) (l : List ℕ) (p q : Cell) : Type 0 where
+  pub story : complete k n l ≡ true → (rp ra : FirstHit) → Finds Plain how n l p q rp → Finds Adaptive how n l p q ra → SameStory rp ra
 
 -- cell c stands in the 6-line of a preference where d stands, or before it
 pub record NoLater (r : Preference) (p q c d : Cell) : Type 0 where
@@ -61,11 +61,11 @@ pub record NeverInvented (how : Manner) (n : Counts) (l : List ℕ) (p q : Cell)
       (h : Hit) × (rp ≡ FirstHit.Hit h) × (h .place .num * k .place .den ≤ k .place .num * h .place .den)
       × NoLater (by-rule (how .rule) p q) p q (h .cell) (k .cell)
 
--- 3. Nothing in the way: marks complete and the adaptive answer clear, then no cell whose open inside the segment meets is solid, P excepted exactly
--- where it is not tested.
-pub record NothingInTheWay (how : Manner) (n : Counts) (l : List ℕ) (p q : Cell) : Type 0 where
-  pub open-way : complete 3 n l ≡ true → (reads : ℕ) → Finds Adaptive how n l p q (FirstHit.Clear reads) → (k d : ℕ) (c : Cell) → Share k d →
-      InOpen p q k d c → (c ≡ p → how .start ≡ Tested) → solid (byte-of n l c) ≡ false
+-- 3. Nothing in the way: marks complete at k and the adaptive answer clear, then no cell whose open inside the segment meets is solid, P excepted exactly
+-- where it is not tested (Shells: from 2 on).
+pub record NothingInTheWay (k : ℕ) (how : Manner) (n : Counts) (l : List ℕ) (p q : Cell) : Type 0 where
+  pub open-way : complete k n l ≡ true → (reads : ℕ) → Finds Adaptive how n l p q (FirstHit.Clear reads) → (m d : ℕ) (c : Cell) → Share m d →
+      InOpen p q m d c → (c ≡ p → how .start ≡ Tested) → solid (byte-of n l c) ≡ false
 
 -- 4. With no hit plain reads A+B+C+1 cells, and adaptive between M+1 and A+B+C+1.
 pub record Reads (how : Manner) (n : Counts) (l : List ℕ) (p q : Cell) : Type 0 where
@@ -109,7 +109,7 @@ cells-of w how n l p q = walk-of w (conduct how p q) n l p q
 pub record WalksEnd (how : Manner) (n : Counts) (l : List ℕ) (p q : Cell) : Type 0 where
   pub ends : (w : Walker) → (hit-at (conduct how p q) n l p (last-of p (cells-of w how n l p q)) ≡ true) ⊎ (last-of p (cells-of w how n l p q) ≡ q)
 
--- 8. Mark, then walk, or ask first: after an accepted marking the premise of 1 and 3 holds, and where the completeness call says yes.
+-- 8. Mark, then walk, or ask first: after an accepted marking the premise of 1 and 3 holds at 3, and where the completeness call says yes.
 pub record MarkedFirst (n : Counts) (l exit : List ℕ) : Type 0 where
   pub premise : Marks n l Fine exit → complete 3 n exit ≡ true
   pub asked : Completes n l Yes → complete 3 n l ≡ true

@@ -12,7 +12,7 @@ use borrow.Author.Tests.{eqb-true, le-ltb, not-true}
 use Rattle.cells.specs.declared.Cell.{Cell}
 use Rattle.cells.specs.declared.Counts.{Counts}
 use Rattle.cells.specs.Touching.{Touches, touching}
-use Rattle.cells.proofs.Touching.{and-both, touching-iff}
+use Rattle.cells.proofs.Touching.{and-both, touches-within, touches-at-3, touching-iff}
 use Rattle.cells.proofs.Tabulate.{tabulate-length, tabulate-at}
 use Rattle.grids.specs.Grid.{cell-at, clear, solid}
 use Rattle.grids.specs.Marks.{any, touches-solid, marked-byte, marked, complete}
@@ -117,6 +117,16 @@ complete-iff k n l = (apart, whole)
         let (j, hj, both) = any-which _ (length l) t in
         let (s, near) = and-both _ _ both in
         h i j hi hj c s (touching-iff k (cell-at n i) (cell-at n j) .0 near))))
+
+-- where cells that touch at j touch at k, marks that are complete at k are so at j
+complete-by : (j k : ℕ) (n : Counts) (l : List ℕ) → ((c d : Cell) → Touches j c d → Touches k c d) → complete k n l ≡ true → complete j n l ≡ true
+complete-by j k n l further e = complete-iff j n l .1 (λ a b ha hb c s t. complete-iff k n l .0 e a b ha hb c s (further _ _ t))
+
+pub complete-below : (j k : ℕ) (n : Counts) (l : List ℕ) → j ≤ k → complete k n l ≡ true → complete j n l ≡ true
+complete-below j k n l le = complete-by j k n l (λ c d. touches-within le)
+
+pub complete-at-3 : (k : ℕ) (n : Counts) (l : List ℕ) → complete 3 n l ≡ true → complete k n l ≡ true
+complete-at-3 k n l = complete-by k 3 n l (λ c d. touches-at-3)
 
 -- marking makes the marks complete
 pub marked-complete : (k : ℕ) (n : Counts) (l : List ℕ) → complete k n (marked k n l) ≡ true

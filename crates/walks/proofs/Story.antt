@@ -10,7 +10,7 @@ use lib.ListN.{length}
 use Rattle.cells.specs.declared.Cell.{Cell}
 use Rattle.cells.specs.declared.Counts.{Counts}
 use Rattle.cells.specs.declared.Manner.{Manner}
-use Rattle.cells.specs.Touching.{Touches}
+use Rattle.cells.proofs.Touching.{touches-within}
 use Rattle.lines.specs.Steps.{Axis, same}
 use Rattle.lines.specs.Crossings.{next, place}
 use Rattle.lines.specs.Lines.{differences, centres, longest, six-cell, number-26}
@@ -81,9 +81,6 @@ module _ (how : Conduct) (n : Counts) (l : List ℕ) (p q : Cell) where
   pub ends-alike : (k : ℕ) → 2 ≤ k → InGrid n p → InGrid n q → NoClearTouches k n l → end-of how n l p q Adaptive ≡ end-of how n l p q Plain
   ends-alike k two hp hq safe = same-end (hits-at how n l p q) N (go (how .preference) n l p q) (go-rises (how .preference) n l p q) none-skipped
     where
-      wider : {c d : Cell} → Touches 2 c d → Touches k c d
-      wider t = record { by-one = t .by-one; differing = t .differing; within = omega (arith, t .within) }
-
       none-skipped : (s t : ℕ) → s < N → s < t → t < go (how .preference) n l p q s → hits-at how n l p q t ≡ false
       none-skipped s t lt lo hi = by (hits-at how n l p q t) refl
         where
@@ -94,7 +91,7 @@ module _ (how : Conduct) (n : Counts) (l : List ℕ) (p q : Cell) where
               let most : go (how .preference) n l p q s ≤ N = go-rises (how .preference) n l p q .most s lt in
               absurd (safe .none (f s) (f t) (six-inside (how .preference) n p q hp hq s (omega arith))
               (six-inside (how .preference) n p q hp hq t (omega arith)) clear
-              (hit-solid how n l p q t e) (wider touch))
+              (hit-solid how n l p q t e) (touches-within two touch))
 
   pub reads-no-more : end-of how n l p q Adaptive ≡ end-of how n l p q Plain → reads-of how n l p q Adaptive ≤ reads-of how n l p q Plain
   reads-no-more = no-more-visits (hits-at how n l p q) N (go (how .preference) n l p q) (go-rises (how .preference) n l p q)

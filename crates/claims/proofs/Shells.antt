@@ -1,0 +1,169 @@
+-- The claims about shells of marks: over k from the laws, and faces alone by computation on named grids. Assumes nothing.
+use Prim.Native.Nat.{ℕ, _≤_}
+use mathlib.Core.Path.{_≡_, refl, sym, ap, _∙_, subst₂}
+use mathlib.Core.Bool.{false, true≢false}
+use mathlib.Core.List.{List}
+use native.Mathlib.Omega.{arith}
+use lib.Dec.{lit<}
+use lib.Ieee.{eq, le, lt, ofInt, div, sub}
+use lib.IntN.{natAbs}
+use Rattle.cells.specs.declared.Axis.the-variants.{X, Y, Z}
+use Rattle.cells.specs.declared.Cell.{Cell}
+use Rattle.cells.specs.declared.Counts.{Counts}
+use Rattle.cells.specs.declared.End.the-variants.{P, Q}
+use Rattle.cells.specs.declared.Face.the-variants as Face
+use Rattle.cells.specs.declared.Manner.{Manner}
+use Rattle.cells.specs.declared.Rule.the-variants.{One, Two}
+use Rattle.cells.specs.declared.Start.{Start}
+use Rattle.cells.specs.declared.Start.the-variants.{Untested, Tested}
+use Rattle.cells.specs.Manners.{usual}
+use Rattle.lines.specs.Preference.{comes-before}
+use Rattle.lines.specs.Segment.{Share, InOpen}
+use Rattle.grids.specs.Grid.{byte-of, solid, shape}
+use Rattle.grids.specs.Marks.{any, touches-solid, complete}
+use Rattle.grids.proofs.Marking.{complete-below, complete-at-3}
+use Rattle.walks.specs.declared.Walker.{Walker}
+use Rattle.walks.specs.declared.Walker.the-variants.{Plain, Adaptive}
+use Rattle.walks.specs.declared.Hit.{Hit}
+use Rattle.walks.specs.declared.FirstHit.the-variants as FirstHit
+use Rattle.walks.specs.Answers.{first-hit, Finds}
+use Rattle.walks.proofs.Modes.{as-usual}
+use Rattle.survey.specs.declared.Lookup.{Lookup}
+use Rattle.survey.specs.declared.Lookup.the-variants as Lookup
+use Rattle.survey.specs.Survey.{placement-check, look-up}
+use Rattle.sight.specs.declared.Sight.the-variants as Sight
+use Rattle.sight.specs.Sight.{Sees}
+use Rattle.claims.specs.Example.{counts, at, faces-there, faces-back, far-counts, faces-inside}
+use Rattle.claims.specs.Points.{one-metre}
+use Rattle.claims.specs.Shells.{AsksLess, DemandThree, Shells, FacesAlone, tie-hit, corner-reads, camera, ball}
+use Rattle.claims.specs.Story.{SameStory}
+use Rattle.claims.proofs.Rules.{plain-clear, adaptive-both-ways}
+use Rattle.claims.proofs.Sights.{as-the-walk, nothing-in-sight}
+use Rattle.claims.proofs.Story.{kind, one-story, nothing-in-the-way}
+
+pub asks-less : (n : Counts) (l : List ℕ) → AsksLess n l
+asks-less n l =
+    record {
+      below = λ j k. complete-below j k n l;
+      full-then-thin = complete-below 2 3 n l (omega arith);
+      full-then-any = λ k. complete-at-3 k n l;
+    }
+
+enough : (k : ℕ) → 2 ≤ k → DemandThree k
+enough k two =
+    record {
+      story = λ how n l p q. one-story how n l p q k two;
+      way = λ how n l p q. nothing-in-the-way how n l p q k two;
+      sight = λ how n l at camera ball. nothing-in-sight how n l at camera ball k two;
+      back = adaptive-both-ways k two;
+    }
+
+-- ---- faces alone
+
+-- a hit and a clear walk are two stories
+two-stories : (h : Hit) (reads : ℕ) → SameStory (FirstHit.Hit h) (FirstHit.Clear reads) → ⊥
+unfolding kind
+two-stories h reads s = let (r, e) = plain-clear s in let z : _≡_ {A = ℕ} 0 1 = ap kind e in omega arith
+
+there : (w : Walker) (how : Manner) → Finds w how (counts 2 2 2) faces-there (at 0 0 0) (at 1 1 1) (first-hit w usual (counts 2 2 2) faces-there (at 0 0 0) (at 1 1 1))
+unfolding comes-before
+there w how = record { says = sym (as-usual (counts 2 2 2) faces-there (at 0 0 0) (at 1 1 1) w how refl refl) }
+
+plain-there : (how : Manner) → Finds Plain how (counts 2 2 2) faces-there (at 0 0 0) (at 1 1 1) (FirstHit.Hit (tie-hit (at 0 1 1) (Face.Plus Z)))
+unfolding first-hit
+plain-there = there Plain
+
+adaptive-there : (how : Manner) → Finds Adaptive how (counts 2 2 2) faces-there (at 0 0 0) (at 1 1 1) (FirstHit.Clear 2)
+unfolding first-hit
+adaptive-there = there Adaptive
+
+plain-back : (start : Start) →
+    Finds Plain (record { start = start; rule = Two }) (counts 2 2 2) faces-back (at 1 1 1) (at 0 0 0) (FirstHit.Hit (tie-hit (at 0 1 0) (Face.Minus Z)))
+unfolding first-hit
+plain-back Untested = record { says = refl }
+plain-back Tested = record { says = refl }
+
+adaptive-back : (start : Start) → Finds Adaptive (record { start = start; rule = Two }) (counts 2 2 2) faces-back (at 1 1 1) (at 0 0 0) (FirstHit.Clear 2)
+unfolding first-hit
+adaptive-back Untested = record { says = refl }
+adaptive-back Tested = record { says = refl }
+
+both-clear : (w : Walker) (start : Start) →
+    Finds w (record { start = start; rule = One }) (counts 2 2 2) faces-back (at 1 1 1) (at 0 0 0) (FirstHit.Clear (corner-reads w))
+unfolding first-hit
+both-clear Plain Untested = record { says = refl }
+both-clear Plain Tested = record { says = refl }
+both-clear Adaptive Untested = record { says = refl }
+both-clear Adaptive Tested = record { says = refl }
+
+-- 19 over 24 of the way the segment is inside (2,2,2)
+share : Share 19 24
+share = record { some = lit< tt; most = omega arith }
+
+entered : InOpen (at 0 0 0) (at 3 2 2) 19 24 (at 2 2 2)
+entered =
+    record {
+      from = λ a. elim a [ X ↦ record { lt = tt } | Y ↦ record { lt = tt } | Z ↦ record { lt = tt } ];
+      upto = λ a. elim a [ X ↦ record { lt = tt } | Y ↦ record { lt = tt } | Z ↦ record { lt = tt } ];
+    }
+
+stepped-over : (how : Manner) → Finds Adaptive how far-counts faces-inside (at 0 0 0) (at 3 2 2) (FirstHit.Clear 4)
+unfolding first-hit comes-before
+stepped-over how = record { says = sym (as-usual far-counts faces-inside (at 0 0 0) (at 3 2 2) Adaptive how refl refl) }
+
+-- the way from a cell that is (0,0,0) to one that is (3,2,2) is not free
+not-free : (how : Manner) (from to : Cell) → from ≡ at 0 0 0 → to ≡ at 3 2 2 →
+    ((m d : ℕ) (c : Cell) → Share m d → InOpen from to m d c → (c ≡ from → how .start ≡ Tested) → solid (byte-of far-counts faces-inside c) ≡ false) → ⊥
+not-free how from to f t free =
+    true≢false (free 19 24 (at 2 2 2) share (subst₂ (λ v w. InOpen v w 19 24 (at 2 2 2)) (sym f) (sym t) entered)
+    (λ e. absurd (let z : _≡_ {A = ℕ} 2 0 = ap (λ c. natAbs (c .x)) (e ∙ f) in omega arith)))
+
+found-or : Cell → Lookup → Cell
+found-or c (Lookup.Cell found) = found
+found-or c (Lookup.Refused r) = c
+
+camera-in : look-up P far-counts one-metre camera ≡ Lookup.Cell (at 0 0 0)
+unfolding look-up eq le lt ofInt div sub
+camera-in = refl
+
+ball-in : look-up Q far-counts one-metre ball ≡ Lookup.Cell (at 3 2 2)
+unfolding look-up eq le lt ofInt div sub
+ball-in = refl
+
+seen-clear : (how : Manner) → Sees how far-counts faces-inside one-metre camera ball Sight.Clear
+unfolding shape placement-check eq le lt ofInt div sub
+seen-clear how =
+    record {
+      says = sym (as-the-walk how far-counts faces-inside one-metre camera ball .same _ _ _ _ refl refl camera-in ball-in (record { says = refl })
+      (stepped-over how));
+    }
+
+pub faces-alone : FacesAlone
+unfolding complete touches-solid any found-or
+faces-alone =
+    record {
+      there = (refl, refl);
+      plain = plain-there;
+      adaptive = adaptive-there;
+      two-stories = λ how s. two-stories _ _ (s .story refl _ _ (plain-there how) (adaptive-there how));
+      back = (refl, refl);
+      plain-by-2 = plain-back;
+      adaptive-by-2 = adaptive-back;
+      two-stories-by-2 = λ start s. two-stories _ _ (s .story refl _ _ (plain-back start) (adaptive-back start));
+      by-1 = both-clear;
+      inside = (refl, refl);
+      in-the-way = λ how w. not-free how (at 0 0 0) (at 3 2 2) refl refl (w .open-way refl 4 (stepped-over how));
+      in-sight = λ how s.
+          let way = s .open-way refl (seen-clear how) in
+          not-free how (way .from) (way .to) (ap (found-or (way .from)) (sym (way .from-is) ∙ camera-in))
+          (ap (found-or (way .to)) (sym (way .to-is) ∙ ball-in)) (way .free);
+    }
+
+pub shells : Shells
+shells =
+    record {
+      enough = enough;
+      full = enough 3 (omega arith);
+      thin = enough 2 (omega arith);
+      faces-too-few = λ d. faces-alone .two-stories usual (d .story usual (counts 2 2 2) faces-there (at 0 0 0) (at 1 1 1));
+    }

@@ -1,0 +1,89 @@
+-- Which marks are enough for demand 3 (SCOPE D3, N5). Claims over the number k of touching, so of shells of marks around what is solid: 1 by face; 2 by face or
+-- edge, the thin shell; 3 by face, edge or corner, the full one, which the calls mark and test. Assumes nothing.
+use Prim.Native.Nat.{ℕ, _≤_}
+use mathlib.Core.Path.{_≡_}
+use mathlib.Core.Bool.{true, false}
+use mathlib.Core.List.{List}
+use Rattle.cells.specs.declared.Axis.the-variants.{Z}
+use Rattle.cells.specs.declared.Cell.{Cell}
+use Rattle.cells.specs.declared.Counts.{Counts}
+use Rattle.cells.specs.declared.Face.{Face}
+use Rattle.cells.specs.declared.Face.the-variants as Face
+use Rattle.cells.specs.declared.Manner.{Manner}
+use Rattle.cells.specs.declared.Rule.the-variants.{One, Two}
+use Rattle.cells.specs.declared.Start.{Start}
+use Rattle.grids.specs.Marks.{complete}
+use Rattle.walks.specs.declared.Walker.{Walker}
+use Rattle.walks.specs.declared.Walker.the-variants.{Plain, Adaptive}
+use Rattle.walks.specs.declared.Hit.{Hit}
+use Rattle.walks.specs.declared.FirstHit.the-variants as FirstHit
+use Rattle.walks.specs.Answers.{Finds}
+use Rattle.survey.specs.declared.Placement.{Placement}
+use Rattle.survey.specs.declared.Point.{Point}
+use Rattle.claims.specs.Example.{counts, at, faces-there, faces-back, far-counts, faces-inside}
+use Rattle.claims.specs.Points.{one-metre, point}
+use Rattle.claims.specs.Rules.{AdaptiveBothWays}
+use Rattle.claims.specs.Sights.{NothingInSight}
+use Rattle.claims.specs.Starred.{halves}
+use Rattle.claims.specs.Story.{OneStory, NothingInTheWay}
+
+-- 1. A smaller k asks less: marks that are complete at k are so at every number below it. So full marks are complete in the thin shell. And no k asks more
+-- than 3.
+pub record AsksLess (n : Counts) (l : List ℕ) : Type 0 where
+  pub below : (j k : ℕ) → j ≤ k → complete k n l ≡ true → complete j n l ≡ true
+  pub full-then-thin : complete 3 n l ≡ true → complete 2 n l ≡ true
+  pub full-then-any : (k : ℕ) → complete 3 n l ≡ true → complete k n l ≡ true
+
+-- Demand 3 where marks are complete at k, for every grid, either start mode and either rule: one story; nothing in the way of a clear adaptive walk, nor of a
+-- clear sight; and there and back by rule 2.
+pub record DemandThree (k : ℕ) : Type 0 where
+  pub story : (how : Manner) (n : Counts) (l : List ℕ) (p q : Cell) → OneStory k how n l p q
+  pub way : (how : Manner) (n : Counts) (l : List ℕ) (p q : Cell) → NothingInTheWay k how n l p q
+  pub sight : (how : Manner) (n : Counts) (l : List ℕ) (at : Placement) (camera ball : Point) → NothingInSight how n l at k camera ball
+  pub back : (n : Counts) (l : List ℕ) (p q : Cell) → AdaptiveBothWays k n l p q
+
+-- 2. It holds from 2 on: in the full shell, as it did before, and in the thin one. By faces alone it does not.
+pub record Shells : Type 0 where
+  pub enough : (k : ℕ) → 2 ≤ k → DemandThree k
+  pub full : DemandThree 3
+  pub thin : DemandThree 2
+  pub faces-too-few : DemandThree 1 → ⊥
+
+-- ---- 3. Faces alone, on named grids: complete at 1, not at 2, and the adaptive walk is clear where the plain one is not
+
+-- the plain walk's hit at a tie of three, by its second face
+abbrev pub tie-hit : Cell → Face → Hit
+tie-hit c face = record { cell = c; code = 2; place = record { num = 1; den = 2; face = face }; reads = 3 }
+
+-- how many cells each walk reads from (1,1,1) to (0,0,0), where nothing is in the way
+abbrev pub corner-reads : Walker → ℕ
+corner-reads Plain = 4
+corner-reads Adaptive = 2
+
+-- the middles of (0,0,0) and (3,2,2)
+abbrev pub camera : Point
+camera = point (halves 1) (halves 1) (halves 1)
+
+abbrev pub ball : Point
+ball = point (halves 7) (halves 5) (halves 5)
+
+pub record FacesAlone : Type 0 where
+  -- solid at (0,1,1), from (0,0,0) to (1,1,1): either rule goes y, z, x
+  pub there : (complete 1 (counts 2 2 2) faces-there ≡ true) × (complete 2 (counts 2 2 2) faces-there ≡ false)
+  pub plain : (how : Manner) → Finds Plain how (counts 2 2 2) faces-there (at 0 0 0) (at 1 1 1) (FirstHit.Hit (tie-hit (at 0 1 1) (Face.Plus Z)))
+  pub adaptive : (how : Manner) → Finds Adaptive how (counts 2 2 2) faces-there (at 0 0 0) (at 1 1 1) (FirstHit.Clear 2)
+  pub two-stories : (how : Manner) → OneStory 1 how (counts 2 2 2) faces-there (at 0 0 0) (at 1 1 1) → ⊥
+  -- solid at (0,1,0), from (1,1,1) to (0,0,0): rule 2 goes x, z, y
+  pub back : (complete 1 (counts 2 2 2) faces-back ≡ true) × (complete 2 (counts 2 2 2) faces-back ≡ false)
+  pub plain-by-2 : (start : Start) →
+      Finds Plain (record { start = start; rule = Two }) (counts 2 2 2) faces-back (at 1 1 1) (at 0 0 0) (FirstHit.Hit (tie-hit (at 0 1 0) (Face.Minus Z)))
+  pub adaptive-by-2 : (start : Start) →
+      Finds Adaptive (record { start = start; rule = Two }) (counts 2 2 2) faces-back (at 1 1 1) (at 0 0 0) (FirstHit.Clear 2)
+  pub two-stories-by-2 : (start : Start) → OneStory 1 (record { start = start; rule = Two }) (counts 2 2 2) faces-back (at 1 1 1) (at 0 0 0) → ⊥
+  -- by rule 1 both are clear there
+  pub by-1 : (w : Walker) (start : Start) →
+      Finds w (record { start = start; rule = One }) (counts 2 2 2) faces-back (at 1 1 1) (at 0 0 0) (FirstHit.Clear (corner-reads w))
+  -- solid at (2,2,2), from (0,0,0) to (3,2,2): the segment enters its inside, and the adaptive walk and the sight are clear
+  pub inside : (complete 1 far-counts faces-inside ≡ true) × (complete 2 far-counts faces-inside ≡ false)
+  pub in-the-way : (how : Manner) → NothingInTheWay 1 how far-counts faces-inside (at 0 0 0) (at 3 2 2) → ⊥
+  pub in-sight : (how : Manner) → NothingInSight how far-counts faces-inside one-metre 1 camera ball → ⊥
