@@ -288,7 +288,7 @@ oat_listed oat_line_touching(oat_cell p, oat_cell q, int32_t *out, size_t room);
    whatever it was. */
 oat_verdict oat_mark(oat_counts n, uint8_t *cells, size_t bytes);
 
-/* Whether the marks are complete: no clear cell touches a solid one. It holds after oat_mark. */
+/* Whether the marks are complete: no clear cell touches a solid one. It holds after oat_mark. It is more than oat_adaptive and oat_sight need. */
 oat_complete_answer oat_complete(oat_counts n, const uint8_t *cells, size_t bytes);
 
 /* Where layer z lies: nx*ny bytes. Nothing is copied. */
@@ -301,8 +301,8 @@ oat_hit oat_plain(oat_counts n, const uint8_t *cells, size_t bytes, oat_cell p, 
 
 /* The same with long steps over clear cells: from a clear cell of the 26-line to the next cell of the 26-line; from every other cell to the
    next of the 6-line by the rule of `how`, from a solid p that is not tested too. A cell that a long step leads to has the place and the
-   side by which that 6-line enters it. Where the marks are complete it gives the answer that oat_plain gives for the same `how`, with no
-   more reads; where they are not, it may miss a solid cell, and never makes one up. */
+   side by which that 6-line enters it. Where no clear cell shares a face or an edge with a solid one, so after oat_mark, it gives the answer that
+   oat_plain gives for the same `how`, with no more reads; elsewhere it may miss a solid cell, and never makes one up. */
 oat_hit oat_adaptive(oat_counts n, const uint8_t *cells, size_t bytes, oat_cell p, oat_cell q, oat_manner how);
 
 /* The first solid cell along the touching line from p to q, in the order of oat_line_touching. `start` is a number of enum oat_start, and says of p

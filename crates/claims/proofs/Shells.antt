@@ -1,12 +1,13 @@
 -- The claims about shells of marks: over k from the laws, and faces alone by computation on named grids. Assumes nothing.
 use Prim.Native.Nat.{ℕ, _≤_}
-use mathlib.Core.Path.{_≡_, refl, sym, ap, _∙_, subst₂}
-use mathlib.Core.Bool.{false, true≢false}
+use mathlib.Core.Path.{_≡_, refl, sym, ap, _∙_, subst, subst₂}
+use mathlib.Core.Bool.{Bool, true, false, cond, true≢false}
 use mathlib.Core.List.{List}
 use native.Mathlib.Omega.{arith}
 use lib.Dec.{lit<}
 use lib.Ieee.{eq, le, lt, ofInt, div, sub}
 use lib.IntN.{natAbs}
+use lib.ListN.{length}
 use Rattle.cells.specs.declared.Axis.the-variants.{X, Y, Z}
 use Rattle.cells.specs.declared.Cell.{Cell}
 use Rattle.cells.specs.declared.Counts.{Counts}
@@ -16,18 +17,29 @@ use Rattle.cells.specs.declared.Manner.{Manner}
 use Rattle.cells.specs.declared.Rule.the-variants.{One, Two}
 use Rattle.cells.specs.declared.Start.{Start}
 use Rattle.cells.specs.declared.Start.the-variants.{Untested, Tested}
+use Rattle.cells.specs.declared.Verdict.{Verdict}
+use Rattle.cells.specs.declared.Verdict.the-variants as Verdict
+use Rattle.cells.specs.Checks.{by-verdict}
 use Rattle.cells.specs.Manners.{usual}
 use Rattle.lines.specs.Preference.{comes-before}
+use Rattle.lines.specs.Lines.{six-cell}
 use Rattle.lines.specs.Segment.{Share, InOpen}
-use Rattle.grids.specs.Grid.{byte-of, solid, shape}
-use Rattle.grids.specs.Marks.{any, touches-solid, complete}
-use Rattle.grids.proofs.Marking.{complete-below, complete-at-3}
+use Rattle.grids.specs.Grid.{byte-index, byte-of, solid, shape}
+use Rattle.grids.specs.Inside.{walk-check}
+use Rattle.grids.specs.Marks.{any, touches-solid, marked, complete}
+use Rattle.grids.proofs.Marking.{marked-length, marked-same, marked-keeps, marked-complete, marked-clear, complete-below, complete-at-3}
 use Rattle.walks.specs.declared.Walker.{Walker}
 use Rattle.walks.specs.declared.Walker.the-variants.{Plain, Adaptive}
+use Rattle.walks.specs.declared.Place.{Place}
 use Rattle.walks.specs.declared.Hit.{Hit}
+use Rattle.walks.specs.declared.FirstHit.{FirstHit}
 use Rattle.walks.specs.declared.FirstHit.the-variants as FirstHit
 use Rattle.walks.specs.Answers.{first-hit, Finds}
+use Rattle.walks.specs.Numbers.{hits-at, end-of, reads-of, answer-at}
+use Rattle.walks.specs.Walks.{Conduct, conduct}
 use Rattle.walks.proofs.Modes.{as-usual}
+use Rattle.walks.proofs.MoreClear.{MoreClear, hits-alike, plain-alike, clearer-reads}
+use Rattle.walks.proofs.Testing.{hit-solid}
 use Rattle.survey.specs.declared.Lookup.{Lookup}
 use Rattle.survey.specs.declared.Lookup.the-variants as Lookup
 use Rattle.survey.specs.Survey.{placement-check, look-up}
@@ -35,11 +47,11 @@ use Rattle.sight.specs.declared.Sight.the-variants as Sight
 use Rattle.sight.specs.Sight.{Sees}
 use Rattle.claims.specs.Example.{counts, at, faces-there, faces-back, far-counts, faces-inside}
 use Rattle.claims.specs.Points.{one-metre}
-use Rattle.claims.specs.Shells.{AsksLess, DemandThree, Shells, FacesAlone, tie-hit, corner-reads, camera, ball}
-use Rattle.claims.specs.Story.{SameStory}
+use Rattle.claims.specs.Shells.{AsksLess, DemandThree, Shells, NoDearer, FacesAlone, tie-hit, corner-reads, camera, ball}
+use Rattle.claims.specs.Story.{SameStory, hits, clears, refusals}
 use Rattle.claims.proofs.Rules.{plain-clear, adaptive-both-ways}
 use Rattle.claims.proofs.Sights.{as-the-walk, nothing-in-sight}
-use Rattle.claims.proofs.Story.{kind, one-story, nothing-in-the-way}
+use Rattle.claims.proofs.Story.{kind, found, alike, one-story, nothing-in-the-way}
 
 pub asks-less : (n : Counts) (l : List ℕ) → AsksLess n l
 asks-less n l =
@@ -56,6 +68,74 @@ enough k two =
       way = λ how n l p q. nothing-in-the-way how n l p q k two;
       sight = λ how n l at camera ball. nothing-in-sight how n l at camera ball k two;
       back = adaptive-both-ways k two;
+    }
+
+-- ---- the same cells in a closer shell
+
+module _ (how : Manner) (n : Counts) (p q : Cell) (a b : List ℕ) (clearer : MoreClear n a b) where
+  abbrev C : Conduct
+  C = conduct how p q
+
+  -- answers at one number, where each hit has the same code
+  one-answer : (e r s : ℕ) → s ≤ r → ((c : Cell) → solid (byte-of n b c) ≡ true → byte-of n b c ≡ byte-of n a c) →
+      SameStory (answer-at C n b p q e r) (answer-at C n a p q e s)
+  one-answer e r s fewer codes =
+      by (hits-at C n b p q e) (hits-at C n a p q e) (ap (λ hits. hits e) (hits-alike n a b clearer p q C)) _ _
+      (λ hit. codes (six-cell (C .preference) p q e) (hit-solid C n b p q e hit))
+    where
+      by : (t u : Bool) → u ≡ t → (c : Cell) (place : Place) {x y : ℕ} → (t ≡ true → x ≡ y) →
+          SameStory (cond t (FirstHit.Hit (record { cell = c; code = x; place = place; reads = r })) (FirstHit.Clear r))
+          (cond u (FirstHit.Hit (record { cell = c; code = y; place = place; reads = s })) (FirstHit.Clear s))
+      by true true e c place code = hits refl (code refl) refl fewer
+      by false false e c place code = clears fewer
+      by true false e c place code = absurd (true≢false (sym e))
+      by false true e c place code = absurd (true≢false e)
+
+  -- where the marks of both are complete, from 2 on, and the ends lie in the grid
+  same-answers : (j k : ℕ) → 2 ≤ j → 2 ≤ k → complete j n a ≡ true → complete k n b ≡ true → walk-check n (length a) p q ≡ Verdict.Fine →
+      walk-check n (length b) p q ≡ Verdict.Fine → ((c : Cell) → solid (byte-of n b c) ≡ true → byte-of n b c ≡ byte-of n a c) →
+      SameStory (answer-at C n b p q (end-of C n b p q Adaptive) (reads-of C n b p q Adaptive))
+      (answer-at C n a p q (end-of C n a p q Adaptive) (reads-of C n a p q Adaptive))
+  same-answers j k two-j two-k whole-a whole-b fine-a fine-b codes =
+      let e : end-of C n a p q Adaptive ≡ end-of C n b p q Adaptive =
+      alike how n a p q j two-j fine-a whole-a ∙ plain-alike n a b clearer p q C ∙ sym (alike how n b p q k two-k fine-b whole-b) in
+      subst (λ t. SameStory (answer-at C n b p q (end-of C n b p q Adaptive) (reads-of C n b p q Adaptive)) (answer-at C n a p q t (reads-of C n a p q Adaptive)))
+      (sym e) (one-answer (end-of C n b p q Adaptive) _ _ (clearer-reads n a b clearer p q C e) codes)
+
+module _ (how : Manner) (n : Counts) (l : List ℕ) (p q : Cell) (j k : ℕ) (le : j ≤ k) where
+  closer-clearer : MoreClear n (marked j n l) (marked k n l)
+  closer-clearer =
+      record {
+        same-solid = λ c. marked-same j n l .alike (byte-index n c) ∙ sym (marked-same k n l .alike (byte-index n c));
+        clear-too = λ c. marked-clear j k n l (byte-index n c) le;
+      }
+
+  same-code : (c : Cell) → solid (byte-of n (marked k n l) c) ≡ true → byte-of n (marked k n l) c ≡ byte-of n (marked j n l) c
+  same-code c hit =
+      let e = sym (marked-same k n l .alike (byte-index n c)) ∙ hit in
+      marked-keeps k n l (byte-index n c) e ∙ sym (marked-keeps j n l (byte-index n c) e)
+
+  -- the answer over the cells marked at i, by the test of the shape that both share
+  abbrev answered : ℕ → Verdict → FirstHit
+  answered i = by-verdict FirstHit.Refused
+      (answer-at (conduct how p q) n (marked i n l) p q (end-of (conduct how p q) n (marked i n l) p q Adaptive)
+      (reads-of (conduct how p q) n (marked i n l) p q Adaptive))
+
+  found-marked : (i : ℕ) {r : FirstHit} → Finds Adaptive how n (marked i n l) p q r → r ≡ answered i (walk-check n (length l) p q)
+  found-marked i h = found how n (marked i n l) p q h ∙ ap (λ long. answered i (walk-check n long p q)) (marked-length i n l)
+
+  by-test : 2 ≤ j → (v : Verdict) → walk-check n (length l) p q ≡ v → SameStory (answered k v) (answered j v)
+  by-test two (Verdict.Refused r) h = refusals
+  by-test two Verdict.Fine h =
+      same-answers how n p q (marked j n l) (marked k n l) closer-clearer j k two (omega arith) (marked-complete j n l) (marked-complete k n l)
+      (ap (λ long. walk-check n long p q) (marked-length j n l) ∙ h) (ap (λ long. walk-check n long p q) (marked-length k n l) ∙ h) same-code
+
+pub no-dearer : (how : Manner) (n : Counts) (l : List ℕ) (p q : Cell) → NoDearer how n l p q
+no-dearer how n l p q =
+    record {
+      reads = λ j k two le wider closer hw hc.
+          subst₂ SameStory (sym (found-marked how n l p q j k le k hw)) (sym (found-marked how n l p q j k le j hc))
+          (by-test how n l p q j k le two (walk-check n (length l) p q) refl);
     }
 
 -- ---- faces alone
@@ -135,7 +215,7 @@ unfolding shape placement-check eq le lt ofInt div sub
 seen-clear how =
     record {
       says = sym (as-the-walk how far-counts faces-inside one-metre camera ball .same _ _ _ _ refl refl camera-in ball-in (record { says = refl })
-      (stepped-over how));
+          (stepped-over how));
     }
 
 pub faces-alone : FacesAlone

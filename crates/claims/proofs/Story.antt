@@ -94,11 +94,11 @@ module _ (how : Manner) (n : Counts) (l : List ℕ) (p q : Cell) where
   abbrev answered : Walker → FirstHit
   answered w = answer-at C n l p q (E w) (reads-of C n l p q w)
 
-  found : {w : Walker} {r : FirstHit} → Finds w how n l p q r → r ≡ by-verdict FirstHit.Refused (answered w) check
+  pub found : {w : Walker} {r : FirstHit} → Finds w how n l p q r → r ≡ by-verdict FirstHit.Refused (answered w) check
   found {w} h = h .says ∙ first-hit-is how n l p q w
 
   -- where the marks are complete, by edges too, and the ends are in the grid, both walks end at the same number
-  alike : (k : ℕ) → 2 ≤ k → check ≡ Verdict.Fine → complete k n l ≡ true → E Adaptive ≡ E Plain
+  pub alike : (k : ℕ) → 2 ≤ k → check ≡ Verdict.Fine → complete k n l ≡ true → E Adaptive ≡ E Plain
   alike k two fine whole =
       let a = accepted n (length l) p q fine in
       ends-alike C n l p q k two (a .p-in) (a .q-in) (complete-safe k n l (a .shaped) whole)

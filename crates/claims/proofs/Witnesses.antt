@@ -108,6 +108,11 @@ of-grids =
       part = record { says = refl };
       layer = record { says = refl; there = record { block = refl; offset = refl } };
       not-marked = record { says = refl; holds = refl };
+      thin-marks = refl;
+      not-full = refl;
+      thin-made = refl;
+      thin-clear = λ w. elim w [ Plain ↦ record { says = refl } | Adaptive ↦ record { says = refl } ];
+      thin-hits = λ w. elim w [ Plain ↦ record { says = refl } | Adaptive ↦ record { says = refl } ];
       touching-hits = record { says = refl };
       touching-clear = record { says = refl };
       back-clear = λ w. elim w [ Plain ↦ record { says = refl } | Adaptive ↦ record { says = refl } ];
@@ -210,6 +215,7 @@ of-points =
       behind-first = refl;
       off-survey = refl;
       seen = record { says = refl };
+      seen-thin = record { says = refl };
       blocked = record { says = refl };
     }
 

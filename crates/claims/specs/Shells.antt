@@ -12,10 +12,11 @@ use Rattle.cells.specs.declared.Face.the-variants as Face
 use Rattle.cells.specs.declared.Manner.{Manner}
 use Rattle.cells.specs.declared.Rule.the-variants.{One, Two}
 use Rattle.cells.specs.declared.Start.{Start}
-use Rattle.grids.specs.Marks.{complete}
+use Rattle.grids.specs.Marks.{complete, marked}
 use Rattle.walks.specs.declared.Walker.{Walker}
 use Rattle.walks.specs.declared.Walker.the-variants.{Plain, Adaptive}
 use Rattle.walks.specs.declared.Hit.{Hit}
+use Rattle.walks.specs.declared.FirstHit.{FirstHit}
 use Rattle.walks.specs.declared.FirstHit.the-variants as FirstHit
 use Rattle.walks.specs.Answers.{Finds}
 use Rattle.survey.specs.declared.Placement.{Placement}
@@ -25,7 +26,7 @@ use Rattle.claims.specs.Points.{one-metre, point}
 use Rattle.claims.specs.Rules.{AdaptiveBothWays}
 use Rattle.claims.specs.Sights.{NothingInSight}
 use Rattle.claims.specs.Starred.{halves}
-use Rattle.claims.specs.Story.{OneStory, NothingInTheWay}
+use Rattle.claims.specs.Story.{SameStory, OneStory, NothingInTheWay}
 
 -- 1. A smaller k asks less: marks that are complete at k are so at every number below it. So full marks are complete in the thin shell. And no k asks more
 -- than 3.
@@ -49,7 +50,13 @@ pub record Shells : Type 0 where
   pub thin : DemandThree 2
   pub faces-too-few : DemandThree 1 → ⊥
 
--- ---- 3. Faces alone, on named grids: complete at 1, not at 2, and the adaptive walk is clear where the plain one is not
+-- 3. What it buys: over the same cells marked at a smaller number, from 2 on, the adaptive walk gives the same answer by no more reads; so over the thin shell,
+-- and the full one costs reads or none. (`SameStory`: the reads of the second are no more.)
+pub record NoDearer (how : Manner) (n : Counts) (l : List ℕ) (p q : Cell) : Type 0 where
+  pub reads : (j k : ℕ) → 2 ≤ j → j ≤ k → (wider closer : FirstHit) → Finds Adaptive how n (marked k n l) p q wider →
+      Finds Adaptive how n (marked j n l) p q closer → SameStory wider closer
+
+-- ---- 4. Faces alone, on named grids: complete at 1, not at 2, and the adaptive walk is clear where the plain one is not
 
 -- the plain walk's hit at a tie of three, by its second face
 abbrev pub tie-hit : Cell → Face → Hit

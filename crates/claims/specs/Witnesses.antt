@@ -32,7 +32,7 @@ use Rattle.lists.specs.Lists.{Line6, Line26, numbers}
 use Rattle.grids.specs.declared.Completeness.the-variants.{Yes, No}
 use Rattle.grids.specs.declared.LayerPart.the-variants.{Part}
 use Rattle.grids.specs.Grid.{size, count-check, byte-of, solid, Shapes, GivesLayerPart, GivesLayer}
-use Rattle.grids.specs.Marks.{complete, Marks, Completes}
+use Rattle.grids.specs.Marks.{complete, marked, Marks, Completes}
 use Rattle.bricks.specs.declared.Tally.the-variants as Tally
 use Rattle.bricks.specs.Builds.{Builds}
 use Rattle.bricks.specs.Kept.{Kept}
@@ -57,7 +57,7 @@ use Rattle.records.specs.Writing.{WritesVenue}
 use Rattle.texts.specs.Text.{decimal, Puts}
 use Rattle.oatmarten.specs.GridCalls.{FlatMarks, FlatCompletes}
 use Rattle.claims.specs.Program.{Runs, example-input, example-output}
-use Rattle.claims.specs.Example.{counts, at, example-counts, example-cells, marked-cells, set-cells, all-solid}
+use Rattle.claims.specs.Example.{counts, at, example-counts, example-cells, marked-cells, set-cells, all-solid, corner-counts, corner-cells, corner-thin}
 use Rattle.claims.specs.Lists.{lowest, highest, room}
 use Rattle.claims.specs.Kept.{HoldsNamed}
 use Rattle.claims.specs.Sequences.{Sequence, Set, AllRight, Mark, Refill, Build}
@@ -66,6 +66,7 @@ use Rattle.claims.specs.Points.{Finite, InItsCell, cube, metres, tenths,
 use Rattle.claims.specs.FarWall.{look-up-before, on-wall}
 use Rattle.claims.specs.Records.{Right, RightPair, example-venue, example-pair, example-room, pair-by}
 use Rattle.claims.specs.ProgramRows.{no-cells}
+use Rattle.claims.specs.Shells.{corner-reads}
 use Rattle.claims.specs.Starred.{halves}
 use Rattle.claims.specs.Story.{all-clear}
 use Rattle.claims.specs.Touching.{InLine, one-solid}
@@ -118,6 +119,14 @@ abbrev pub back-reads : Walker → ℕ
 back-reads Plain = 4
 back-reads Adaptive = 3
 
+-- past the corner of a solid cell in the thin shell, and onto it
+abbrev pub past-corner : Walker → ℕ
+past-corner Plain = 3
+past-corner Adaptive = 2
+
+abbrev pub onto-corner : Walker → Hit
+onto-corner w = record { cell = at 0 0 0; code = 2; place = record { num = 1; den = 2; face = Face.Minus X }; reads = corner-reads w }
+
 -- and that at P, from the solid cell, where it is tested
 abbrev pub the-start : Hit
 the-start = record { cell = at 1 1 0; code = 2; place = record { num = 0; den = 1; face = Face.None }; reads = 1 }
@@ -141,6 +150,12 @@ pub record OfGrids : Type 0 where
   pub clear-marks : complete 3 (counts 3 2 1) all-clear ≡ true
   pub plain-clear : (how : Manner) → Finds Plain how (counts 3 2 1) all-clear (at 0 0 0) (at 2 1 0) (FirstHit.Clear 4)
   pub adaptive-clear : (how : Manner) → Finds Adaptive how (counts 3 2 1) all-clear (at 0 0 0) (at 2 1 0) (FirstHit.Clear 3)
+  -- marks of the thin shell alone, and both walks over them, hit and clear
+  pub thin-marks : complete 2 corner-counts corner-thin ≡ true
+  pub not-full : complete 3 corner-counts corner-thin ≡ false
+  pub thin-made : marked 2 corner-counts corner-cells ≡ corner-thin
+  pub thin-clear : (w : Walker) → Finds w usual corner-counts corner-thin (at 1 1 1) (at 2 0 1) (FirstHit.Clear (past-corner w))
+  pub thin-hits : (w : Walker) → Finds w usual corner-counts corner-thin (at 1 1 1) (at 0 0 0) (FirstHit.Hit (onto-corner w))
   -- the touching walk: a hit, and a clear one
   pub touching-hits : FindsTouching Tested (counts 2 2 2) (one-solid 5) (at 0 0 0) (at 1 1 1)
       (FirstHit.Hit (record { cell = at 1 0 1; code = 2; place = record { num = 1; den = 2; face = Face.Plus Z }; reads = 7 }))
@@ -189,6 +204,9 @@ pub record OfPoints : Type 0 where
   -- a clear sight over complete marks
   pub seen : Sees usual (counts 3 2 1) all-clear one-metre (point (halves 1) (halves 1) (halves 1))
       (point (halves 5) (halves 3) (halves 1)) Sight.Clear
+  -- one over marks of the thin shell alone
+  pub seen-thin : Sees usual corner-counts corner-thin one-metre (point (halves 3) (halves 3) (halves 3))
+      (point (halves 5) (halves 1) (halves 3)) Sight.Clear
   -- a blocked one, in the program's venue, marked
   pub blocked : Sees tested-start example-counts marked-cells one-metre (point (halves 1) (halves 1) (halves 1))
       (point (halves 7) (halves 3) (halves 1))

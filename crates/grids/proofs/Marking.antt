@@ -143,3 +143,29 @@ marked-complete k n l = ap not (any-none _ (length (marked k n l)) none)
         go true e t = not-so _ (λ f. let z = eqb-true (getD l i 0) 0 (and-both _ _ f .0) in true≢false (sym e ∙ le-ltb 1 (getD l i 0) (omega arith)))
         go false e true = refl
         go false e false = refl
+
+-- ---- marking at a smaller k
+
+touches-solid-within : {j k : ℕ} (n : Counts) (l : List ℕ) (c : Cell) → j ≤ k → touches-solid j n l c ≡ true → touches-solid k n l c ≡ true
+unfolding touches-solid
+touches-solid-within {j} {k} n l c le e =
+    let (i, h, both) = any-which _ (length l) e in
+    let (s, t) = and-both (solid (getD l i 0)) (touching j c (cell-at n i)) both in
+    any-some (λ i. solid (getD l i 0) && touching k c (cell-at n i)) (length l) i h
+    (rw s (touching-iff k c (cell-at n i) .1 (touches-within le (touching-iff j c (cell-at n i) .0 t))))
+
+-- leaves clear whatever marking at k leaves clear
+pub marked-clear : (j k : ℕ) (n : Counts) (l : List ℕ) (i : ℕ) → j ≤ k → clear (getD (marked k n l) i 0) ≡ true → clear (getD (marked j n l) i 0) ≡ true
+marked-clear j k n l i le e =
+    elim (decLt i (length l)) [
+      | yes h ↦ ap clear (marked-at j n l i h ∙ marked-byte-is j n l i)
+          ∙ go (solid (getD l i 0)) (touches-solid k n l (cell-at n i)) (touches-solid j n l (cell-at n i)) (touches-solid-within n l (cell-at n i) le)
+          (sym (ap clear (marked-at k n l i h ∙ marked-byte-is k n l i)) ∙ e)
+      | no h ↦ ap clear (past j n l i (omega arith) ∙ sym (past k n l i (omega arith))) ∙ e
+    ]
+  where
+    go : (s t u : Bool) → (u ≡ true → t ≡ true) → clear (cond s (getD l i 0) (cond t 1 0)) ≡ true → clear (cond s (getD l i 0) (cond u 1 0)) ≡ true
+    go true t u h e = e
+    go false true u h e = absurd (true≢false (sym e))
+    go false false false h e = refl
+    go false false true h e = absurd (true≢false (sym (h refl)))

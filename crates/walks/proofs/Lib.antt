@@ -8,5 +8,6 @@ pub mod Safe
 pub mod Story
 pub mod Progress
 pub mod Long
+pub mod MoreClear
 pub mod Modes
 pub mod Told

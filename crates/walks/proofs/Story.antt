@@ -28,7 +28,7 @@ use Rattle.walks.specs.Answers.{place-by, place-of, last-of, answer-of, 
 use Rattle.grids.specs.Inside.{walk-check, InGrid}
 use Rattle.walks.specs.Safe.{NoClearTouches}
 use Rattle.walks.specs.Numbers.{stop, last-number, go, hits-at, step, end-of, reads-of, answer-at}
-use Rattle.walks.proofs.Runs.{stopped, ended, Ended, by-one, visits-all, at-least, plain-first, never-earlier, never-invented, same-end, no-more-visits}
+use Rattle.walks.proofs.Runs.{stopped, ended, Ended, by-one, by-one-closer, visits-all, at-least, plain-first, never-earlier, never-invented, same-end, no-more-visits}
 use Rattle.walks.proofs.Numbers.{six-found, go-rises, skipped, way, Way, face, long, step-rises, walk-length, walk-last}
 use Rattle.walks.proofs.Testing.{hit-solid}
 use Rattle.walks.proofs.Inside.{six-inside}
@@ -94,7 +94,9 @@ module _ (how : Conduct) (n : Counts) (l : List ℕ) (p q : Cell) where
               (hit-solid how n l p q t e) (touches-within two touch))
 
   pub reads-no-more : end-of how n l p q Adaptive ≡ end-of how n l p q Plain → reads-of how n l p q Adaptive ≤ reads-of how n l p q Plain
-  reads-no-more = no-more-visits (hits-at how n l p q) N (go (how .preference) n l p q) (go-rises (how .preference) n l p q)
+  reads-no-more =
+      let up = go-rises (how .preference) n l p q in
+      no-more-visits (hits-at how n l p q) N (go (how .preference) n l p q) suc up (by-one N) (by-one-closer up)
 
   -- ---- with no hit
 
