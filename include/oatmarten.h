@@ -288,7 +288,8 @@ oat_listed oat_line_touching(oat_cell p, oat_cell q, int32_t *out, size_t room);
    whatever it was. */
 oat_verdict oat_mark(oat_counts n, uint8_t *cells, size_t bytes);
 
-/* Whether the marks are complete: no clear cell touches a solid one. It holds after oat_mark. It is more than oat_adaptive and oat_sight need. */
+/* Whether the marks are complete: no clear cell touches a solid one. It holds after oat_mark. oat_adaptive and oat_sight need less: no mark at a
+   corner. */
 oat_complete_answer oat_complete(oat_counts n, const uint8_t *cells, size_t bytes);
 
 /* Where layer z lies: nx*ny bytes. Nothing is copied. */

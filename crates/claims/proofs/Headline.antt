@@ -15,7 +15,7 @@ use Rattle.claims.proofs.Kept.{kept-once, masks, build-means, refill-me
 use Rattle.claims.proofs.Sequences.{from-a-build-on, keeping}
 use Rattle.claims.proofs.Points as points
 use Rattle.claims.proofs.Records as records
-use Rattle.claims.proofs.Shells.{shells, asks-less, no-dearer}
+use Rattle.claims.proofs.Shells.{shells, faces-alone, asks-less, no-dearer}
 use Rattle.claims.proofs.Sights.{seen-once}
 use Rattle.claims.proofs.Story.{hit-once, hit-face, first-on-line, walks-end, step-by-step, adaptive-step, as-its-walk}
 use Rattle.claims.proofs.Story.{never-invented}
@@ -72,6 +72,7 @@ tell-one-story =
       same = λ how n l p q yes. shells .full .story how n l p q .story (grids.says-complete n l .yes yes);
       clear = λ how n l at camera ball yes. shells .full .sight how n l at camera ball .open-way (grids.says-complete n l .yes yes);
       shells = shells;
+      faces-alone = faces-alone;
       less = asks-less;
       no-dearer = no-dearer;
       never-invented = λ how n l p q k plain ha hp. let (h, is, place, order) = never-invented how n l p q .plain-too k plain ha hp in (h, is, order);

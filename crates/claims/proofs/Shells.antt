@@ -20,7 +20,7 @@ use Rattle.cells.specs.declared.Start.the-variants.{Untested, Tested}
 use Rattle.cells.specs.declared.Verdict.{Verdict}
 use Rattle.cells.specs.declared.Verdict.the-variants as Verdict
 use Rattle.cells.specs.Checks.{by-verdict}
-use Rattle.cells.specs.Manners.{usual}
+use Rattle.cells.specs.Manners.{usual, tested-by}
 use Rattle.lines.specs.Preference.{comes-before}
 use Rattle.lines.specs.Lines.{six-cell}
 use Rattle.lines.specs.Segment.{Share, InOpen}
@@ -47,7 +47,8 @@ use Rattle.sight.specs.declared.Sight.the-variants as Sight
 use Rattle.sight.specs.Sight.{Sees}
 use Rattle.claims.specs.Example.{counts, at, faces-there, faces-back, far-counts, faces-inside}
 use Rattle.claims.specs.Points.{one-metre}
-use Rattle.claims.specs.Shells.{AsksLess, DemandThree, Shells, NoDearer, FacesAlone, tie-hit, corner-reads, camera, ball}
+use Rattle.claims.specs.Rules.{AdaptiveBothWays}
+use Rattle.claims.specs.Shells.{AsksLess, DemandThree, Shells, NoDearer, FacesAlone, tie-hit, tie-reads, inside-hit, camera, ball}
 use Rattle.claims.specs.Story.{SameStory, hits, clears, refusals}
 use Rattle.claims.proofs.Rules.{plain-clear, adaptive-both-ways}
 use Rattle.claims.proofs.Sights.{as-the-walk, nothing-in-sight}
@@ -133,8 +134,8 @@ module _ (how : Manner) (n : Counts) (l : List ℕ) (p q : Cell) (j k : ℕ) (le
 pub no-dearer : (how : Manner) (n : Counts) (l : List ℕ) (p q : Cell) → NoDearer how n l p q
 no-dearer how n l p q =
     record {
-      reads = λ j k two le wider closer hw hc.
-          subst₂ SameStory (sym (found-marked how n l p q j k le k hw)) (sym (found-marked how n l p q j k le j hc))
+      reads = λ j k two le at-k at-j hk hj.
+          subst₂ SameStory (sym (found-marked how n l p q j k le k hk)) (sym (found-marked how n l p q j k le j hj))
           (by-test how n l p q j k le two (walk-check n (length l) p q) refl);
     }
 
@@ -145,17 +146,30 @@ two-stories : (h : Hit) (reads : ℕ) → SameStory (FirstHit.Hit h) (FirstHit.C
 unfolding kind
 two-stories h reads s = let (r, e) = plain-clear s in let z : _≡_ {A = ℕ} 0 1 = ap kind e in omega arith
 
-there : (w : Walker) (how : Manner) → Finds w how (counts 2 2 2) faces-there (at 0 0 0) (at 1 1 1) (first-hit w usual (counts 2 2 2) faces-there (at 0 0 0) (at 1 1 1))
-unfolding comes-before
-there w how = record { says = sym (as-usual (counts 2 2 2) faces-there (at 0 0 0) (at 1 1 1) w how refl refl) }
+-- from a P that is not solid and does not come after Q, a walk finds in every manner what it finds by default
+as-default : (n : Counts) (l : List ℕ) (p q : Cell) (w : Walker) (how : Manner) → solid (byte-of n l p) ≡ false → comes-before q p ≡ false →
+    Finds w how n l p q (first-hit w usual n l p q)
+as-default n l p q w how free first = record { says = sym (as-usual n l p q w how free first) }
 
 plain-there : (how : Manner) → Finds Plain how (counts 2 2 2) faces-there (at 0 0 0) (at 1 1 1) (FirstHit.Hit (tie-hit (at 0 1 1) (Face.Plus Z)))
-unfolding first-hit
-plain-there = there Plain
+unfolding first-hit comes-before
+plain-there how = as-default (counts 2 2 2) faces-there (at 0 0 0) (at 1 1 1) Plain how refl refl
 
 adaptive-there : (how : Manner) → Finds Adaptive how (counts 2 2 2) faces-there (at 0 0 0) (at 1 1 1) (FirstHit.Clear 2)
-unfolding first-hit
-adaptive-there = there Adaptive
+unfolding first-hit comes-before
+adaptive-there how = as-default (counts 2 2 2) faces-there (at 0 0 0) (at 1 1 1) Adaptive how refl refl
+
+-- the way back by rule 2 begins at a near cell, and goes by x onto the solid one
+hits-back : kind (first-hit Adaptive (tested-by Two) (counts 2 2 2) faces-there (at 1 1 1) (at 0 0 0)) ≡ 0
+unfolding first-hit kind
+hits-back = refl
+
+one-way : AdaptiveBothWays 1 (counts 2 2 2) faces-there (at 0 0 0) (at 1 1 1) → ⊥
+unfolding complete touches-solid any kind
+one-way ways =
+    let (reads, e) = ways .clear refl 2 _ (adaptive-there (tested-by Two)) (record { says = refl }) in
+    let z : _≡_ {A = ℕ} 0 1 = sym hits-back ∙ ap kind e in
+    omega arith
 
 plain-back : (start : Start) →
     Finds Plain (record { start = start; rule = Two }) (counts 2 2 2) faces-back (at 1 1 1) (at 0 0 0) (FirstHit.Hit (tie-hit (at 0 1 0) (Face.Minus Z)))
@@ -169,7 +183,7 @@ adaptive-back Untested = record { says = refl }
 adaptive-back Tested = record { says = refl }
 
 both-clear : (w : Walker) (start : Start) →
-    Finds w (record { start = start; rule = One }) (counts 2 2 2) faces-back (at 1 1 1) (at 0 0 0) (FirstHit.Clear (corner-reads w))
+    Finds w (record { start = start; rule = One }) (counts 2 2 2) faces-back (at 1 1 1) (at 0 0 0) (FirstHit.Clear (tie-reads w))
 unfolding first-hit
 both-clear Plain Untested = record { says = refl }
 both-clear Plain Tested = record { says = refl }
@@ -187,9 +201,13 @@ entered =
       upto = λ a. elim a [ X ↦ record { lt = tt } | Y ↦ record { lt = tt } | Z ↦ record { lt = tt } ];
     }
 
-stepped-over : (how : Manner) → Finds Adaptive how far-counts faces-inside (at 0 0 0) (at 3 2 2) (FirstHit.Clear 4)
+plain-inside : (how : Manner) → Finds Plain how far-counts faces-inside (at 0 0 0) (at 3 2 2) (FirstHit.Hit inside-hit)
 unfolding first-hit comes-before
-stepped-over how = record { says = sym (as-usual far-counts faces-inside (at 0 0 0) (at 3 2 2) Adaptive how refl refl) }
+plain-inside how = as-default far-counts faces-inside (at 0 0 0) (at 3 2 2) Plain how refl refl
+
+adaptive-inside : (how : Manner) → Finds Adaptive how far-counts faces-inside (at 0 0 0) (at 3 2 2) (FirstHit.Clear 4)
+unfolding first-hit comes-before
+adaptive-inside how = as-default far-counts faces-inside (at 0 0 0) (at 3 2 2) Adaptive how refl refl
 
 -- the way from a cell that is (0,0,0) to one that is (3,2,2) is not free
 not-free : (how : Manner) (from to : Cell) → from ≡ at 0 0 0 → to ≡ at 3 2 2 →
@@ -210,31 +228,35 @@ ball-in : look-up Q far-counts one-metre ball ≡ Lookup.Cell (at 3 2 2)
 unfolding look-up eq le lt ofInt div sub
 ball-in = refl
 
-seen-clear : (how : Manner) → Sees how far-counts faces-inside one-metre camera ball Sight.Clear
+seen-inside : (how : Manner) → Sees how far-counts faces-inside one-metre camera ball Sight.Clear
 unfolding shape placement-check eq le lt ofInt div sub
-seen-clear how =
+seen-inside how =
     record {
       says = sym (as-the-walk how far-counts faces-inside one-metre camera ball .same _ _ _ _ refl refl camera-in ball-in (record { says = refl })
-          (stepped-over how));
+          (adaptive-inside how));
     }
 
 pub faces-alone : FacesAlone
 unfolding complete touches-solid any found-or
 faces-alone =
     record {
-      there = (refl, refl);
-      plain = plain-there;
-      adaptive = adaptive-there;
+      marks-there = (refl, refl);
+      plain-there = plain-there;
+      adaptive-there = adaptive-there;
       two-stories = λ how s. two-stories _ _ (s .story refl _ _ (plain-there how) (adaptive-there how));
-      back = (refl, refl);
+      one-way = one-way;
+      marks-back = (refl, refl);
       plain-by-2 = plain-back;
       adaptive-by-2 = adaptive-back;
       two-stories-by-2 = λ start s. two-stories _ _ (s .story refl _ _ (plain-back start) (adaptive-back start));
       by-1 = both-clear;
-      inside = (refl, refl);
-      in-the-way = λ how w. not-free how (at 0 0 0) (at 3 2 2) refl refl (w .open-way refl 4 (stepped-over how));
+      marks-inside = (refl, refl);
+      plain-inside = plain-inside;
+      adaptive-inside = adaptive-inside;
+      seen-inside = seen-inside;
+      in-the-way = λ how w. not-free how (at 0 0 0) (at 3 2 2) refl refl (w .open-way refl 4 (adaptive-inside how));
       in-sight = λ how s.
-          let way = s .open-way refl (seen-clear how) in
+          let way = s .open-way refl (seen-inside how) in
           not-free how (way .from) (way .to) (ap (found-or (way .from)) (sym (way .from-is) ∙ camera-in))
           (ap (found-or (way .to)) (sym (way .to-is) ∙ ball-in)) (way .free);
     }

@@ -97,7 +97,7 @@ module _ (how : Manner) (n : Counts) (l : List ℕ) (p q : Cell) where
   pub found : {w : Walker} {r : FirstHit} → Finds w how n l p q r → r ≡ by-verdict FirstHit.Refused (answered w) check
   found {w} h = h .says ∙ first-hit-is how n l p q w
 
-  -- where the marks are complete, by edges too, and the ends are in the grid, both walks end at the same number
+  -- where the marks are complete at k, from 2 on, and the ends are in the grid, both walks end at the same number
   pub alike : (k : ℕ) → 2 ≤ k → check ≡ Verdict.Fine → complete k n l ≡ true → E Adaptive ≡ E Plain
   alike k two fine whole =
       let a = accepted n (length l) p q fine in

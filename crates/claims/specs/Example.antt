@@ -53,13 +53,13 @@ far-counts = counts 4 3 3
 abbrev pub far-thin : List ℕ
 far-thin = replicate 12 0 ++ (0 ∷ 0 ∷ 0 ∷ 0 ∷ 0 ∷ 0 ∷ 0 ∷ 1 ∷ 0 ∷ 0 ∷ 1 ∷ 1 ∷ []) ++ (0 ∷ 0 ∷ 0 ∷ 0 ∷ 0 ∷ 0 ∷ 1 ∷ 1 ∷ 0 ∷ 0 ∷ 1 ∷ 2 ∷ [])
 
--- SCOPE E32, E33: 2 by 2 by 2, solid at (0,1,1) alone, and at (0,1,0) alone; near are just the cells that share a face with it
+-- SCOPE E32 and E33: 2 by 2 by 2, solid at (0,1,1) alone, and at (0,1,0) alone; near are just the cells that share a face with it
 abbrev pub faces-there : List ℕ
 faces-there = 0 ∷ 0 ∷ 1 ∷ 0 ∷ 1 ∷ 0 ∷ 2 ∷ 1 ∷ []
 
 abbrev pub faces-back : List ℕ
 faces-back = 1 ∷ 0 ∷ 2 ∷ 1 ∷ 0 ∷ 0 ∷ 1 ∷ 0 ∷ []
 
--- SCOPE E32: 4 by 3 by 3, solid at (2,2,2) alone, near likewise; the segment from (0,0,0) to (3,2,2) enters its inside
+-- SCOPE E32, its second grid: 4 by 3 by 3, solid at (2,2,2) alone, near likewise; the segment from (0,0,0) to (3,2,2) enters its inside
 abbrev pub faces-inside : List ℕ
 faces-inside = replicate 12 0 ++ (0 ∷ 0 ∷ 0 ∷ 0 ∷ 0 ∷ 0 ∷ 0 ∷ 0 ∷ 0 ∷ 0 ∷ 1 ∷ 0 ∷ []) ++ (0 ∷ 0 ∷ 0 ∷ 0 ∷ 0 ∷ 0 ∷ 1 ∷ 0 ∷ 0 ∷ 1 ∷ 2 ∷ 1 ∷ [])

@@ -1,5 +1,5 @@
 -- What is claimed of the grid: its layers, near marks and their completeness (SCOPE, G and N). Marks and completeness are claimed over
--- the number k of touching; 3 is by face, edge or corner. Assumes nothing.
+-- the number k of touching: 2 is by face or edge, 3 by face, edge or corner. Assumes nothing.
 use Prim.Native.Nat.{ℕ, _+_, _*_, _≤_, _<_}
 use mathlib.Core.Path.{_≡_}
 use mathlib.Core.Logic.{_⊎_, _↔_}

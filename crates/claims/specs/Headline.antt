@@ -47,7 +47,7 @@ use Rattle.claims.specs.Points as points
 use Rattle.claims.specs.Records as records
 use Rattle.claims.specs.Sights.{SeenOnce, OpenWay}
 use Rattle.claims.specs.Story.{SameStory, NoLater, FirstOnLine, HitFace, HitOnce, WalksEnd, StepByStep, AdaptiveStep, AsItsWalk}
-use Rattle.claims.specs.Shells.{Shells, AsksLess, NoDearer}
+use Rattle.claims.specs.Shells.{Shells, FacesAlone, AsksLess, NoDearer}
 use Rattle.claims.specs.Starts.{StartTest, TwoStarts}
 use Rattle.claims.specs.Rules.{TheRules, Mirror, BothWays}
 use Rattle.claims.specs.Touching.{TouchedCells, CrossingOrder, OverSixLines, TouchingListed, TouchingHits, TouchingStarts, BesidePlain, TouchingOnce}
@@ -102,18 +102,21 @@ pub record AreThePapers : Type 0 where
       (rest : List ℕ) (bytes part : RefT (List ℕ)) (r : VenueRead) →
       bytes .now ≡ take k exit ++ rest → ReadsVenue (bytes .now) r → GivesCells bytes part → records.SameVenue n cells bytes part r
 
--- 3. Where the completeness call says yes, the adaptive and the plain walk find the same first hit, its cell, code, place and entry face, or both
--- none, and the adaptive one reads no more cells; and a clear sight has nothing solid in its way, but for the camera's own cell where it is not
--- tested. All this holds already where no clear cell shares a face or an edge with a solid one, the thin shell: corners need no mark, and faces alone are
--- too few. Marked so instead of in full, the same cells give the same adaptive answer by no more reads. In any grid whatever, an adaptive hit is a plain hit, there or before; and a hit of either walk says the face by which the 6-line enters
--- its cell, at its place. All this in either start mode and under either rule; where P is not solid the two answer alike, and where it is not tested
--- it is never the hit. By rule 2, with a tested start, the walks from P to Q and from Q to P are both clear or both hit.
+-- 3. Where the completeness call says yes, the adaptive and the plain walk find the same first hit, its cell, code, place and entry face, or both none, and
+-- the adaptive one reads no more cells; and a clear sight has nothing solid in its way, but for the camera's own cell where it is not tested. All this holds
+-- already where no clear cell shares a face or an edge with a solid one, the thin shell: corners need no mark, and faces alone are too few. Marked so instead
+-- of in full, the same cells give the same adaptive answer by no more reads. In any grid whatever, an adaptive hit is a plain hit, there or before; and a hit
+-- of either walk says the face by which the 6-line enters its cell, at its place. All this in either start mode and under either rule; where P is not solid
+-- the two answer alike, and where it is not tested it is never the hit. By rule 2, with a tested start, the plain walks from P to Q and from Q to P are both
+-- clear or both hit, and so are the adaptive ones where the marks are complete in the thin shell.
 pub record TellOneStory : Type 0 where
+  -- at 3, by the completeness call's yes: two instances of `shells .full`
   pub same : (how : Manner) (n : Counts) (l : List ℕ) (p q : Cell) → Completes n l Yes → (plain adaptive : FirstHit) →
       Finds Plain how n l p q plain → Finds Adaptive how n l p q adaptive → SameStory plain adaptive
   pub clear : (how : Manner) (n : Counts) (l : List ℕ) (at : Placement) (camera ball : Point) → Completes n l Yes →
       Sees how n l at camera ball Sight.Clear → OpenWay how n l at camera ball
   pub shells : Shells
+  pub faces-alone : FacesAlone
   pub less : (n : Counts) (l : List ℕ) → AsksLess n l
   pub no-dearer : (how : Manner) (n : Counts) (l : List ℕ) (p q : Cell) → NoDearer how n l p q
   pub never-invented : (how : Manner) (n : Counts) (l : List ℕ) (p q : Cell) (k : Hit) (plain : FirstHit) → Finds Adaptive how n l p q (FirstHit.Hit k) →

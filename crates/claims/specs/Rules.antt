@@ -70,19 +70,19 @@ pub record SameLine (p q : Cell) : Type 0 where
   pub cells : (r s : Preference) → TieFree (centres r (differences p q)) → (n : ℕ) → n ≤ total (differences p q) → six-cell s p q n ≡ six-cell r p q n
   pub line : TieFree (centres y-z-x (differences p q)) → six-line (by-rule Two p q) p q ≡ six-line (by-rule One p q) p q
 
--- 4. There and back by rule 2, with a tested start: both plain walks are clear, with the same reads, or both hit. Where the marks are complete at k, so it
--- is of the adaptive walks (Shells: from 2 on). Nothing is claimed of two sights.
+-- 4. There and back by rule 2, with a tested start: both plain walks are clear, with the same reads, or both hit. Nothing is claimed of two sights.
 pub record BothWays (n : Counts) (l : List ℕ) (p q : Cell) : Type 0 where
   pub clear : (reads : ℕ) (s : FirstHit) → Finds Plain (tested-by Two) n l p q (FirstHit.Clear reads) → Finds Plain (tested-by Two) n l q p s →
       s ≡ FirstHit.Clear reads
   pub hit : (h : Hit) (s : FirstHit) → Finds Plain (tested-by Two) n l p q (FirstHit.Hit h) → Finds Plain (tested-by Two) n l q p s →
       (k : Hit) × (s ≡ FirstHit.Hit k)
 
+-- The same of the adaptive walks, where the marks are complete at k (Shells: from 2 on).
 pub record AdaptiveBothWays (k : ℕ) (n : Counts) (l : List ℕ) (p q : Cell) : Type 0 where
   pub clear : complete k n l ≡ true → (reads : ℕ) (s : FirstHit) → Finds Adaptive (tested-by Two) n l p q (FirstHit.Clear reads) →
       Finds Adaptive (tested-by Two) n l q p s → (back : ℕ) × (s ≡ FirstHit.Clear back)
   pub hit : complete k n l ≡ true → (h : Hit) (s : FirstHit) → Finds Adaptive (tested-by Two) n l p q (FirstHit.Hit h) →
-      Finds Adaptive (tested-by Two) n l q p s → (k : Hit) × (s ≡ FirstHit.Hit k)
+      Finds Adaptive (tested-by Two) n l q p s → (g : Hit) × (s ≡ FirstHit.Hit g)
 
 -- ---- 5. Wrong rules, on named inputs
 

@@ -1,5 +1,5 @@
--- Which marks are enough for demand 3 (SCOPE D3, N5). Claims over the number k of touching, so of shells of marks around what is solid: 1 by face; 2 by face or
--- edge, the thin shell; 3 by face, edge or corner, the full one, which the calls mark and test. Assumes nothing.
+-- Which marks are enough for demand 3 (SCOPE D3, N5 to N7). The number k says which cells beside a solid one are to be marked: 1 those that share a face with
+-- it; 2 a face or an edge, the thin shell; 3 a face, an edge or a corner, the full one, which the calls mark and test. Assumes nothing.
 use Prim.Native.Nat.{ℕ, _≤_}
 use mathlib.Core.Path.{_≡_}
 use mathlib.Core.Bool.{true, false}
@@ -21,6 +21,8 @@ use Rattle.walks.specs.declared.FirstHit.the-variants as FirstHit
 use Rattle.walks.specs.Answers.{Finds}
 use Rattle.survey.specs.declared.Placement.{Placement}
 use Rattle.survey.specs.declared.Point.{Point}
+use Rattle.sight.specs.declared.Sight.the-variants as Sight
+use Rattle.sight.specs.Sight.{Sees}
 use Rattle.claims.specs.Example.{counts, at, faces-there, faces-back, far-counts, faces-inside}
 use Rattle.claims.specs.Points.{one-metre, point}
 use Rattle.claims.specs.Rules.{AdaptiveBothWays}
@@ -43,29 +45,33 @@ pub record DemandThree (k : ℕ) : Type 0 where
   pub sight : (how : Manner) (n : Counts) (l : List ℕ) (at : Placement) (camera ball : Point) → NothingInSight how n l at k camera ball
   pub back : (n : Counts) (l : List ℕ) (p q : Cell) → AdaptiveBothWays k n l p q
 
--- 2. It holds from 2 on: in the full shell, as it did before, and in the thin one. By faces alone it does not.
+-- 2. So it is for every k from 2 on: in the full shell, and in the thin one. By faces alone it is not (`FacesAlone`: no part of it).
 pub record Shells : Type 0 where
   pub enough : (k : ℕ) → 2 ≤ k → DemandThree k
   pub full : DemandThree 3
   pub thin : DemandThree 2
   pub faces-too-few : DemandThree 1 → ⊥
 
--- 3. What it buys: over the same cells marked at a smaller number, from 2 on, the adaptive walk gives the same answer by no more reads; so over the thin shell,
--- and the full one costs reads or none. (`SameStory`: the reads of the second are no more.)
+-- 3. What is saved: the same cells marked at a smaller number, from 2 on, give the same adaptive answer by no more reads. (`SameStory`: here the first answer is
+-- that over more marks, and the second has no more reads.)
 pub record NoDearer (how : Manner) (n : Counts) (l : List ℕ) (p q : Cell) : Type 0 where
-  pub reads : (j k : ℕ) → 2 ≤ j → j ≤ k → (wider closer : FirstHit) → Finds Adaptive how n (marked k n l) p q wider →
-      Finds Adaptive how n (marked j n l) p q closer → SameStory wider closer
+  pub reads : (j k : ℕ) → 2 ≤ j → j ≤ k → (at-k at-j : FirstHit) → Finds Adaptive how n (marked k n l) p q at-k →
+      Finds Adaptive how n (marked j n l) p q at-j → SameStory at-k at-j
 
--- ---- 4. Faces alone, on named grids: complete at 1, not at 2, and the adaptive walk is clear where the plain one is not
+-- ---- 4. Faces alone, on named grids that are complete at 1 and not at 2: the adaptive walk is clear, and the plain one hits
 
 -- the plain walk's hit at a tie of three, by its second face
 abbrev pub tie-hit : Cell → Face → Hit
 tie-hit c face = record { cell = c; code = 2; place = record { num = 1; den = 2; face = face }; reads = 3 }
 
--- how many cells each walk reads from (1,1,1) to (0,0,0), where nothing is in the way
-abbrev pub corner-reads : Walker → ℕ
-corner-reads Plain = 4
-corner-reads Adaptive = 2
+-- how many cells each walk reads across a tie of three, from a clear P to the last of them
+abbrev pub tie-reads : Walker → ℕ
+tie-reads Plain = 4
+tie-reads Adaptive = 2
+
+-- and its hit at (2,2,2), by +z
+abbrev pub inside-hit : Hit
+inside-hit = record { cell = at 2 2 2; code = 2; place = record { num = 3; den = 4; face = Face.Plus Z }; reads = 7 }
 
 -- the middles of (0,0,0) and (3,2,2)
 abbrev pub camera : Point
@@ -76,21 +82,26 @@ ball = point (halves 7) (halves 5) (halves 5)
 
 pub record FacesAlone : Type 0 where
   -- solid at (0,1,1), from (0,0,0) to (1,1,1): either rule goes y, z, x
-  pub there : (complete 1 (counts 2 2 2) faces-there ≡ true) × (complete 2 (counts 2 2 2) faces-there ≡ false)
-  pub plain : (how : Manner) → Finds Plain how (counts 2 2 2) faces-there (at 0 0 0) (at 1 1 1) (FirstHit.Hit (tie-hit (at 0 1 1) (Face.Plus Z)))
-  pub adaptive : (how : Manner) → Finds Adaptive how (counts 2 2 2) faces-there (at 0 0 0) (at 1 1 1) (FirstHit.Clear 2)
+  pub marks-there : (complete 1 (counts 2 2 2) faces-there ≡ true) × (complete 2 (counts 2 2 2) faces-there ≡ false)
+  pub plain-there : (how : Manner) → Finds Plain how (counts 2 2 2) faces-there (at 0 0 0) (at 1 1 1) (FirstHit.Hit (tie-hit (at 0 1 1) (Face.Plus Z)))
+  pub adaptive-there : (how : Manner) → Finds Adaptive how (counts 2 2 2) faces-there (at 0 0 0) (at 1 1 1) (FirstHit.Clear 2)
   pub two-stories : (how : Manner) → OneStory 1 how (counts 2 2 2) faces-there (at 0 0 0) (at 1 1 1) → ⊥
+  -- and back by rule 2 the adaptive walk hits
+  pub one-way : AdaptiveBothWays 1 (counts 2 2 2) faces-there (at 0 0 0) (at 1 1 1) → ⊥
   -- solid at (0,1,0), from (1,1,1) to (0,0,0): rule 2 goes x, z, y
-  pub back : (complete 1 (counts 2 2 2) faces-back ≡ true) × (complete 2 (counts 2 2 2) faces-back ≡ false)
+  pub marks-back : (complete 1 (counts 2 2 2) faces-back ≡ true) × (complete 2 (counts 2 2 2) faces-back ≡ false)
   pub plain-by-2 : (start : Start) →
       Finds Plain (record { start = start; rule = Two }) (counts 2 2 2) faces-back (at 1 1 1) (at 0 0 0) (FirstHit.Hit (tie-hit (at 0 1 0) (Face.Minus Z)))
   pub adaptive-by-2 : (start : Start) →
       Finds Adaptive (record { start = start; rule = Two }) (counts 2 2 2) faces-back (at 1 1 1) (at 0 0 0) (FirstHit.Clear 2)
   pub two-stories-by-2 : (start : Start) → OneStory 1 (record { start = start; rule = Two }) (counts 2 2 2) faces-back (at 1 1 1) (at 0 0 0) → ⊥
-  -- by rule 1 both are clear there
+  -- by rule 1 the plain walk passes that cell, and both are clear
   pub by-1 : (w : Walker) (start : Start) →
-      Finds w (record { start = start; rule = One }) (counts 2 2 2) faces-back (at 1 1 1) (at 0 0 0) (FirstHit.Clear (corner-reads w))
-  -- solid at (2,2,2), from (0,0,0) to (3,2,2): the segment enters its inside, and the adaptive walk and the sight are clear
-  pub inside : (complete 1 far-counts faces-inside ≡ true) × (complete 2 far-counts faces-inside ≡ false)
+      Finds w (record { start = start; rule = One }) (counts 2 2 2) faces-back (at 1 1 1) (at 0 0 0) (FirstHit.Clear (tie-reads w))
+  -- solid at (2,2,2), from (0,0,0) to (3,2,2): the segment enters its inside, and adaptive walk and sight are clear
+  pub marks-inside : (complete 1 far-counts faces-inside ≡ true) × (complete 2 far-counts faces-inside ≡ false)
+  pub plain-inside : (how : Manner) → Finds Plain how far-counts faces-inside (at 0 0 0) (at 3 2 2) (FirstHit.Hit inside-hit)
+  pub adaptive-inside : (how : Manner) → Finds Adaptive how far-counts faces-inside (at 0 0 0) (at 3 2 2) (FirstHit.Clear 4)
+  pub seen-inside : (how : Manner) → Sees how far-counts faces-inside one-metre camera ball Sight.Clear
   pub in-the-way : (how : Manner) → NothingInTheWay 1 how far-counts faces-inside (at 0 0 0) (at 3 2 2) → ⊥
   pub in-sight : (how : Manner) → NothingInSight how far-counts faces-inside one-metre 1 camera ball → ⊥

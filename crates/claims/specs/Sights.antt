@@ -55,7 +55,7 @@ module _ (how : Manner) (n : Counts) (l : List ℕ) (at : Placement) where
     pub to : cell.Cell
     pub from-is : look-up P n at camera ≡ Lookup.Cell from
     pub to-is : look-up Q n at ball ≡ Lookup.Cell to
-    pub free : (k d : ℕ) (c : cell.Cell) → Share k d → InOpen from to k d c → (c ≡ from → how .start ≡ Tested) → solid (byte-of n l c) ≡ false
+    pub free : (m d : ℕ) (c : cell.Cell) → Share m d → InOpen from to m d c → (c ≡ from → how .start ≡ Tested) → solid (byte-of n l c) ≡ false
 
   -- 3. Nothing in the way: marks complete at k and the sight clear (Shells: from 2 on).
   pub record NothingInSight (k : ℕ) (camera ball : Point) : Type 0 where

@@ -96,14 +96,13 @@ pub record RowsMeant : Type 0 where
   pub set : (n : Counts) (cell : Cell) (byte : ℕ) (l m : List ℕ) (total : ℕ) (r : Tally) (l′ m′ : List ℕ) →
       Sets n cell byte l m total r l′ m′ ↔ (after-refill n cell cell byte l m total ≡ (r, l′, m′))
 
--- a row: the ends P and Q and the cells of the line between them, of the 6-line by a rule; two ends and the order of rule 2 between them; the ends,
--- room for so many numbers, and what the 6-line's call answers; the number k of touching, counts, bytes, and the bytes marked at k, or whether their marks
--- are complete at k; counts, bytes, and what the completeness call says; counts,
--- bytes and lent masks, what a build answers, and the masks after it; a cell or two corners, a byte, bytes, masks and total, what a set or refill
--- answers, and bytes and masks after it; a walk, its manner, its grid and ends, and what it finds; a venue's record, its counts and its cells; a
--- pair's record, P, Q and the rule, or what is said of its refusal; the program's whole input and output; or a manner, a grid, its placement, camera
--- and ball, and the 64 bits of the share, the cell, code, reads and entry face of what is in the way, or that nothing is, or what is said of its
--- refusal
+-- a row: the ends P and Q and the cells of the line between them, of the 6-line by a rule; two ends and the order of rule 2 between them; the ends, room
+-- for so many numbers, and what the 6-line's call answers; the number k of touching, counts, bytes, and the bytes marked at k, or whether their marks
+-- are complete at k; counts, bytes, and what the completeness call says; counts, bytes and lent masks, what a build answers, and the masks after it; a
+-- cell or two corners, a byte, bytes, masks and total, what a set or refill answers, and bytes and masks after it; a walk, its manner, its grid and
+-- ends, and what it finds; a venue's record, its counts and its cells; a pair's record, P, Q and the rule, or what is said of its refusal; the program's
+-- whole input and output; or a manner, a grid, its placement, camera and ball, and the 64 bits of the share, the cell, code, reads and entry face of
+-- what is in the way, or that nothing is, or what is said of its refusal
 pub data Row : Type 0 where
   six : Rule → Cell → Cell → List Cell → Row
   orders : Cell → Cell → Order → Row
@@ -341,30 +340,36 @@ shell-rows =
     ∷ complete-at 3 corner-counts corner-thin false
     ∷ complete-is corner-counts corner-thin false
     ∷ complete-is corner-counts corner-full true
-    -- past the solid cell's corner, (1,1,1): two reads in the thin shell, and three in the full one, as plain
+    -- from (1,1,1), at the solid cell's corner, past it: two reads in the thin shell, and three in the full one, as plain
     ∷ finds Plain usual corner-counts corner-thin (at 1 1 1) (at 2 0 1) (clear 3)
     ∷ finds Adaptive usual corner-counts corner-thin (at 1 1 1) (at 2 0 1) (clear 2)
     ∷ finds Adaptive usual corner-counts corner-full (at 1 1 1) (at 2 0 1) (clear 3)
     ∷ finds Adaptive (tested-by Two) corner-counts corner-thin (at 1 1 1) (at 2 0 1) (clear 2)
-    -- and onto it: one long step reaches the hit, by the face that each rule crosses last; from that corner marked near, face by face
+    ∷ finds Adaptive (tested-by Two) corner-counts corner-full (at 1 1 1) (at 2 0 1) (clear 3)
+    -- and onto it: one long step reaches the hit, by the face that each rule crosses last; marked in full P is near, and it goes face by face
     ∷ finds Plain usual corner-counts corner-thin (at 1 1 1) (at 0 0 0) (hit (at 0 0 0) 2 1 2 (Face.Minus X) 4)
     ∷ finds Adaptive usual corner-counts corner-thin (at 1 1 1) (at 0 0 0) (hit (at 0 0 0) 2 1 2 (Face.Minus X) 2)
     ∷ finds Adaptive usual corner-counts corner-full (at 1 1 1) (at 0 0 0) (hit (at 0 0 0) 2 1 2 (Face.Minus X) 4)
     ∷ finds Plain (tested-by Two) corner-counts corner-thin (at 1 1 1) (at 0 0 0) (hit (at 0 0 0) 2 1 2 (Face.Minus Y) 4)
     ∷ finds Adaptive (tested-by Two) corner-counts corner-thin (at 1 1 1) (at 0 0 0) (hit (at 0 0 0) 2 1 2 (Face.Minus Y) 2)
-    -- a long step that crosses y and z at 3 over 4, and last x at 5 over 6, by which the 6-line enters
-    ∷ complete-at 2 far-counts far-thin true
+    ∷ finds Adaptive (tested-by Two) corner-counts corner-full (at 1 1 1) (at 0 0 0) (hit (at 0 0 0) 2 1 2 (Face.Minus Y) 4)
+    -- a long step that crosses y and z at 3 over 4, and last x at 5 over 6, by which the 6-line enters. (Marking at 2 leaves these marks as they are: they are
+    -- the thin shell.)
+    ∷ marks 2 far-counts far-thin far-thin
+    ∷ complete-at 3 far-counts far-thin false
     ∷ finds Plain usual far-counts far-thin (at 0 0 0) (at 3 2 2) (hit (at 3 2 2) 2 5 6 (Face.Plus X) 8)
     ∷ finds Adaptive usual far-counts far-thin (at 0 0 0) (at 3 2 2) (hit (at 3 2 2) 2 5 6 (Face.Plus X) 4)
-    -- faces alone: complete at 1 and not at 2, and the adaptive walk steps over what the plain one hits
-    ∷ complete-at 1 (counts 2 2 2) faces-there true
+    -- faces alone, as marking at 1 has them: not complete at 2, and the adaptive walk steps over what the plain one hits
+    ∷ marks 1 (counts 2 2 2) faces-there faces-there
     ∷ complete-at 2 (counts 2 2 2) faces-there false
     ∷ finds Plain usual (counts 2 2 2) faces-there (at 0 0 0) (at 1 1 1) (hit (at 0 1 1) 2 1 2 (Face.Plus Z) 3)
     ∷ finds Adaptive usual (counts 2 2 2) faces-there (at 0 0 0) (at 1 1 1) (clear 2)
+    ∷ marks 1 (counts 2 2 2) faces-back faces-back
     ∷ finds Plain (tested-by Two) (counts 2 2 2) faces-back (at 1 1 1) (at 0 0 0) (hit (at 0 1 0) 2 1 2 (Face.Minus Z) 3)
     ∷ finds Adaptive (tested-by Two) (counts 2 2 2) faces-back (at 1 1 1) (at 0 0 0) (clear 2)
     ∷ finds Plain (tested-by One) (counts 2 2 2) faces-back (at 1 1 1) (at 0 0 0) (clear 4)
     ∷ finds Adaptive (tested-by One) (counts 2 2 2) faces-back (at 1 1 1) (at 0 0 0) (clear 2)
+    ∷ marks 1 far-counts faces-inside faces-inside
     ∷ finds Plain usual far-counts faces-inside (at 0 0 0) (at 3 2 2) (hit (at 2 2 2) 2 3 4 (Face.Plus Z) 7)
     ∷ finds Adaptive usual far-counts faces-inside (at 0 0 0) (at 3 2 2) (clear 4)
     ∷ count-rows

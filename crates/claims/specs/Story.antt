@@ -109,7 +109,7 @@ cells-of w how n l p q = walk-of w (conduct how p q) n l p q
 pub record WalksEnd (how : Manner) (n : Counts) (l : List ℕ) (p q : Cell) : Type 0 where
   pub ends : (w : Walker) → (hit-at (conduct how p q) n l p (last-of p (cells-of w how n l p q)) ≡ true) ⊎ (last-of p (cells-of w how n l p q) ≡ q)
 
--- 8. Mark, then walk, or ask first: after an accepted marking the premise of 1 and 3 holds at 3, and where the completeness call says yes.
+-- 8. Mark, then walk, or ask first: after an accepted marking, and where the completeness call says yes, the premise of 1 and 3 holds at 3.
 pub record MarkedFirst (n : Counts) (l exit : List ℕ) : Type 0 where
   pub premise : Marks n l Fine exit → complete 3 n exit ≡ true
   pub asked : Completes n l Yes → complete 3 n l ≡ true

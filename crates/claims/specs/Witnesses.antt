@@ -66,7 +66,7 @@ use Rattle.claims.specs.Points.{Finite, InItsCell, cube, metres, tenths,
 use Rattle.claims.specs.FarWall.{look-up-before, on-wall}
 use Rattle.claims.specs.Records.{Right, RightPair, example-venue, example-pair, example-room, pair-by}
 use Rattle.claims.specs.ProgramRows.{no-cells}
-use Rattle.claims.specs.Shells.{corner-reads}
+use Rattle.claims.specs.Shells.{tie-reads}
 use Rattle.claims.specs.Starred.{halves}
 use Rattle.claims.specs.Story.{all-clear}
 use Rattle.claims.specs.Touching.{InLine, one-solid}
@@ -125,7 +125,7 @@ past-corner Plain = 3
 past-corner Adaptive = 2
 
 abbrev pub onto-corner : Walker → Hit
-onto-corner w = record { cell = at 0 0 0; code = 2; place = record { num = 1; den = 2; face = Face.Minus X }; reads = corner-reads w }
+onto-corner w = record { cell = at 0 0 0; code = 2; place = record { num = 1; den = 2; face = Face.Minus X }; reads = tie-reads w }
 
 -- and that at P, from the solid cell, where it is tested
 abbrev pub the-start : Hit

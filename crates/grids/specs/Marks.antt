@@ -1,5 +1,5 @@
--- SCOPE, G and N: near marks and their completeness, by coordinates, for every two cells of the grid. Touching is over the number k:
--- 3 by face, edge or corner. Assumes nothing.
+-- SCOPE, G and N: near marks and their completeness, by coordinates, for every two cells of the grid. Touching is over the number k: 2 by face or edge,
+-- the thin shell; 3 by face, edge or corner, the full one, of which the calls are. Assumes nothing.
 use Prim.Native.Nat.{ℕ, zero, suc}
 use mathlib.Core.Bool.{Bool, true, false, cond, not, _&&_, _||_}
 use mathlib.Core.Path.{_≡_}
@@ -36,7 +36,7 @@ unfoldable pub marked : ℕ → Counts → List ℕ → List ℕ
 unfolding marked-byte
 marked k n l = tabulate (marked-byte k n l) (length l)
 
--- SCOPE N3: whether the marks are complete
+-- whether the marks are complete at k: SCOPE N3 at 3, N5 at 2
 unfoldable pub complete : ℕ → Counts → List ℕ → Bool
 unfolding any touches-solid
 complete k n l = not (any (λ i. clear (getD l i 0) && touches-solid k n l (cell-at n i)) (length l))

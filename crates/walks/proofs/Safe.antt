@@ -1,4 +1,4 @@
--- Complete marks, as the completeness call says it, are what makes long steps safe. Assumes nothing.
+-- Marks that are complete at k are what makes long steps safe. Assumes nothing.
 use mathlib.Core.Path.{_≡_, sym, subst₂}
 use mathlib.Core.Bool.{true}
 use mathlib.Core.List.{List}

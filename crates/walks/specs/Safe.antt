@@ -1,4 +1,4 @@
--- What makes long steps safe: complete marks (SCOPE N3), in words of cells. Assumes nothing.
+-- What makes long steps safe: marks that are complete at k (SCOPE N3 at 3, N5 at 2), in words of cells. Assumes nothing.
 use Prim.Native.Nat.{ℕ}
 use mathlib.Core.Path.{_≡_}
 use mathlib.Core.Bool.{true}
