@@ -38,7 +38,7 @@ use Rattle.walks.specs.Answers.{first-hit, Finds}
 use Rattle.walks.specs.Numbers.{hits-at, end-of, reads-of, answer-at}
 use Rattle.walks.specs.Walks.{Conduct, conduct}
 use Rattle.walks.proofs.Modes.{as-usual}
-use Rattle.walks.proofs.MoreClear.{MoreClear, hits-alike, plain-alike, clearer-reads}
+use Rattle.walks.proofs.MoreClear.{MoreClear, same-hits, plain-alike, clearer-reads}
 use Rattle.walks.proofs.Testing.{hit-solid}
 use Rattle.survey.specs.declared.Lookup.{Lookup}
 use Rattle.survey.specs.declared.Lookup.the-variants as Lookup
@@ -81,7 +81,7 @@ module _ (how : Manner) (n : Counts) (p q : Cell) (a b : List ℕ) (clearer : Mo
   one-answer : (e r s : ℕ) → s ≤ r → ((c : Cell) → solid (byte-of n b c) ≡ true → byte-of n b c ≡ byte-of n a c) →
       SameStory (answer-at C n b p q e r) (answer-at C n a p q e s)
   one-answer e r s fewer codes =
-      by (hits-at C n b p q e) (hits-at C n a p q e) (ap (λ hits. hits e) (hits-alike n a b clearer p q C)) _ _
+      by (hits-at C n b p q e) (hits-at C n a p q e) (ap (λ hits. hits e) (same-hits n a b clearer p q C)) _ _
       (λ hit. codes (six-cell (C .preference) p q e) (hit-solid C n b p q e hit))
     where
       by : (t u : Bool) → u ≡ t → (c : Cell) (place : Place) {x y : ℕ} → (t ≡ true → x ≡ y) →

@@ -1,8 +1,8 @@
 -- The claims about the touching line, its list and the first hit along it. Assumes nothing.
 use Prim.Native.Nat.{ℕ, zero, suc, _+_, _-_, _*_, _≤_, _<_}
 use mathlib.Core.Path.{_≡_, refl, sym, ap, _∙_, subst, fun-ext}
-use mathlib.Core.Logic.{_⊎_, _↔_, ⊎-map}
-use mathlib.Core.Bool.{Bool, true, false, cond, not, _&&_, _||_}
+use mathlib.Core.Logic.{_↔_, ⊎-map}
+use mathlib.Core.Bool.{Bool, true, false, cond}
 use mathlib.Core.List.{List}
 use native.Mathlib.Omega.{arith, by-contra}
 use lib.IntN.{ℤ, pos, natAbs}
@@ -40,13 +40,12 @@ use Rattle.walks.specs.declared.Walker.the-variants.{Plain}
 use Rattle.walks.specs.declared.Hit.{Hit}
 use Rattle.walks.specs.declared.FirstHit.{FirstHit}
 use Rattle.walks.specs.declared.FirstHit.the-variants as FirstHit
-use Rattle.walks.specs.Walks.{is-cell, hit-at, conduct}
+use Rattle.walks.specs.Walks.{hit-at, conduct}
 use Rattle.walks.specs.Answers.{entered-at, Finds}
 use Rattle.walks.specs.Numbers.{hits-at, end-of}
-use Rattle.walks.proofs.Find.{is-cell-same, same-is-cell}
 use Rattle.walks.proofs.Story.{first-hit-is}
 use Rattle.walks.proofs.Places.{num-is}
-use Rattle.walks.proofs.Testing.{tested-test, other-test, exempt-test}
+use Rattle.walks.proofs.Testing.{tested-test, other-test, exempt-test, starts-test}
 use Rattle.touching.specs.Touching.{visit-place, found-in, walking, first-touching, FindsTouching}
 use Rattle.touching.proofs.Entry.{at-last, earlier-axes}
 use Rattle.touching.proofs.Answers.{hit-on, Search, found, none, search-of}
@@ -282,26 +281,11 @@ module _ (from : Start) (n : Counts) (l : List ℕ) (p q : Cell) where
 -- ---- the start
 
 module _ (n : Counts) (l : List ℕ) (p q : Cell) where
-  -- where P is not solid no test knows the start
-  tests-alike : solid (byte-of n l p) ≡ false → (one other : Start) (c : Cell) → hit-at (walking one) n l p c ≡ hit-at (walking other) n l p c
-  tests-alike clear one other c = by (is-cell c p) refl
-    where
-      none : (from : Start) → is-cell c p ≡ true → hit-at (walking from) n l p c ≡ false
-      none from same = ap (λ d. solid (byte-of n l d) && (is-tested from || not (is-cell c p))) (is-cell-same c p same)
-          ∙ ap (λ b. b && (is-tested from || not (is-cell c p))) clear
-
-      by : (b : Bool) → is-cell c p ≡ b → hit-at (walking one) n l p c ≡ hit-at (walking other) n l p c
-      by true same = none one same ∙ sym (none other same)
-      by false far = other-test (walking one) n l p c away ∙ sym (other-test (walking other) n l p c away)
-        where
-          away : c ≡ p → ⊥
-          away e = let z : _≡_ {A = ℕ} 0 1 = ap (λ b. cond b 1 0) (sym far ∙ same-is-cell c p e) in omega arith
-
   starts-alike : solid (byte-of n l p) ≡ false → (one other : Start) → first-touching one n l p q ≡ first-touching other n l p q
   unfolding first-touching
   starts-alike clear one other =
       ap (λ test. by-verdict FirstHit.Refused (found-in test n l p q 0 (visits (crossings p q))) (walk-check n (length l) p q))
-      (fun-ext (tests-alike clear one other))
+      (fun-ext (starts-test n l p (walking one) (walking other) clear))
 
   -- equal ends have one cell
   one-cell : length (visits (crossings p p)) ≡ 1

@@ -64,14 +64,14 @@ pub record NoDearer (how : Manner) (n : Counts) (l : List ℕ) (p q : Cell) : Ty
 abbrev pub tie-hit : Cell → Face → Hit
 tie-hit c face = record { cell = c; code = 2; place = record { num = 1; den = 2; face = face }; reads = 3 }
 
+-- and its hit at (2,2,2), by +z
+abbrev pub inside-hit : Hit
+inside-hit = record { cell = at 2 2 2; code = 2; place = record { num = 3; den = 4; face = Face.Plus Z }; reads = 7 }
+
 -- how many cells each walk reads across a tie of three, from a clear P to the last of them
 abbrev pub tie-reads : Walker → ℕ
 tie-reads Plain = 4
 tie-reads Adaptive = 2
-
--- and its hit at (2,2,2), by +z
-abbrev pub inside-hit : Hit
-inside-hit = record { cell = at 2 2 2; code = 2; place = record { num = 3; den = 4; face = Face.Plus Z }; reads = 7 }
 
 -- the middles of (0,0,0) and (3,2,2)
 abbrev pub camera : Point

@@ -1,12 +1,10 @@
 -- Walks whose starts are tested and not tested: where P is not solid they answer alike, and where it is not tested it is no hit, also where it is Q.
 -- Assumes nothing.
-use mathlib.Core.Path.{_≡_, refl, sym, ap, _∙_, subst, fun-ext}
-use mathlib.Core.Logic.{⊎-elim}
+use mathlib.Core.Path.{_≡_, refl, sym, ap, _∙_, fun-ext}
 use mathlib.Core.Bool.{Bool, true, false, cond}
 use mathlib.Core.List.{List}
 use Prim.Native.Nat.{ℕ, zero, suc, _+_, _<_}
 use native.Mathlib.Omega.{arith}
-use native.Mathlib.Nat.{eq-or-lt-of-le}
 use lib.ListN.{length}
 use Rattle.cells.specs.declared.Cell.{Cell}
 use Rattle.cells.specs.declared.Counts.{Counts}
@@ -30,7 +28,7 @@ use Rattle.walks.specs.declared.FirstHit.the-variants as FirstHit
 use Rattle.walks.specs.Walks.{Conduct, conduct, six-count, hit-at, walk-of}
 use Rattle.walks.specs.Answers.{entered-at, answer-of, first-hit}
 use Rattle.walks.specs.Numbers.{stop, ends, visits, last-number, hits-at, step, end-of, reads-of, answer-at}
-use Rattle.walks.proofs.Testing.{exempt-test, no-hit, later-test, start-byte}
+use Rattle.walks.proofs.Testing.{exempt-test, starts-test}
 use Rattle.walks.proofs.Story.{first-hit-is, end-below}
 
 module _ (r : Preference) (n : Counts) (l : List ℕ) (p q : Cell) where
@@ -38,16 +36,9 @@ module _ (r : Preference) (n : Counts) (l : List ℕ) (p q : Cell) where
   abbrev from : Start → Conduct
   from start = record { start = start; preference = r }
 
-  -- where P is not solid its test says no in either mode, and no other test knows the mode
+  -- where P is not solid the same numbers are hits in either mode
   hits-alike : (one other : Start) → solid (byte-of n l p) ≡ false → (s : ℕ) → hits-at (from one) n l p q s ≡ hits-at (from other) n l p q s
-  hits-alike one other clear s =
-      ⊎-elim
-      (λ e. subst (λ m. hits-at (from one) n l p q m ≡ hits-at (from other) n l p q m) e (none one ∙ sym (none other)))
-      (λ lt. later-test (from one) n l p q s lt ∙ sym (later-test (from other) n l p q s lt))
-      (eq-or-lt-of-le {n = 0} {m = s} (omega arith))
-    where
-      none : (m : Start) → hits-at (from m) n l p q 0 ≡ false
-      none m = no-hit (from m) n l p q 0 (start-byte (from m) n l p q ∙ clear)
+  hits-alike one other clear s = starts-test n l p (from one) (from other) clear (six-cell r p q s)
 
   -- the answer of a walk, from which numbers are hits
   abbrev answer-by : Walker → (ℕ → Bool) → FirstHit

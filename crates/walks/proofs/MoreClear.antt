@@ -1,21 +1,19 @@
 -- Two grids with the same solid cells, of which one is clear wherever the other is: where both adaptive walks end at the same number, that over the clearer grid
 -- reads no more. Assumes nothing.
-use mathlib.Core.Path.{_≡_, sym, ap, ap₂, _∙_, subst}
-use mathlib.Core.Bool.{Bool, true, not, _&&_, _||_}
+use mathlib.Core.Path.{_≡_, sym, ap, _∙_, subst}
+use mathlib.Core.Bool.{true, not, _&&_, _||_}
 use mathlib.Core.List.{List}
-use Prim.Native.Nat.{ℕ, suc, _+_, _≤_, _<_}
+use Prim.Native.Nat.{ℕ, suc, _≤_, _<_}
 use native.Mathlib.Omega.{arith}
 use Rattle.cells.specs.declared.Cell.{Cell}
 use Rattle.cells.specs.declared.Counts.{Counts}
 use Rattle.cells.specs.Manners.{is-tested}
 use Rattle.lines.specs.Preference.{Preference}
-use Rattle.lines.specs.Lines.{differences, six-cell, number-26}
-use Rattle.lines.proofs.Centres.{grows-26}
+use Rattle.lines.specs.Lines.{six-cell}
 use Rattle.grids.specs.Grid.{byte-of, clear, solid}
-use Rattle.walks.specs.declared.Walker.{Walker}
 use Rattle.walks.specs.declared.Walker.the-variants.{Plain, Adaptive}
 use Rattle.walks.specs.Walks.{Conduct, is-cell, six-count}
-use Rattle.walks.specs.Numbers.{ends, visits, last-number, go, hits-at, step, end-of, reads-of}
+use Rattle.walks.specs.Numbers.{ends, visits, last-number, go, hits-at, end-of, reads-of}
 use Rattle.walks.proofs.Runs.{Closer, no-more-visits}
 use Rattle.walks.proofs.Numbers.{Way, face, long, way, go-rises}
 use Rattle.walks.proofs.Long.{go-long, go-between}
@@ -27,8 +25,8 @@ pub record MoreClear (n : Counts) (l m : List ℕ) : Type 0 where
 
 module _ (n : Counts) (l m : List ℕ) (more : MoreClear n l m) (p q : Cell) where
   -- the same numbers are hits
-  pub hits-alike : (how : Conduct) → hits-at how n l p q ≡ hits-at how n m p q
-  hits-alike how i s =
+  pub same-hits : (how : Conduct) → hits-at how n l p q ≡ hits-at how n m p q
+  same-hits how i s =
       more .same-solid (six-cell (how .preference) p q s) i && (is-tested (how .start) || not (is-cell (six-cell (how .preference) p q s) p))
 
   -- the walk over m steps closer
@@ -50,13 +48,13 @@ module _ (n : Counts) (l m : List ℕ) (more : MoreClear n l m) (p q : Cell) whe
       single s t lo hi most (long k e h) = go-between r n m p q k t (h .below) (omega (arith, h .number)) hi (omega arith)
 
   pub plain-alike : (how : Conduct) → end-of how n l p q Plain ≡ end-of how n m p q Plain
-  plain-alike how = ap (λ hits. ends hits (last-number p q) suc (six-count p q) 0) (hits-alike how)
+  plain-alike how = ap (λ hits. ends hits (last-number p q) suc (six-count p q) 0) (same-hits how)
 
   pub clearer-reads : (how : Conduct) → end-of how n l p q Adaptive ≡ end-of how n m p q Adaptive → reads-of how n l p q Adaptive ≤ reads-of how n m p q Adaptive
   clearer-reads how same =
       let N = last-number p q in
       let r = how .preference in
-      let alike = hits-alike how in
+      let alike = same-hits how in
       subst (λ hits. reads-of how n l p q Adaptive ≤ visits hits N (go r n m p q) (six-count p q) 0) alike
       (no-more-visits (hits-at how n l p q) N (go r n l p q) (go r n m p q) (go-rises r n l p q) (go-rises r n m p q) (walks-closer r)
       (same ∙ sym (ap (λ hits. ends hits N (go r n m p q) (six-count p q) 0) alike)))

@@ -1,6 +1,6 @@
 -- The test of a cell, by itself and by its number in the 6-line: it is that of the byte, but for P where the start is not tested. Assumes nothing.
 use mathlib.Core.Path.{_≡_, refl, sym, ap, ap₂, _∙_}
-use mathlib.Core.Bool.{Bool, true, false, not, _&&_, _||_}
+use mathlib.Core.Bool.{Bool, true, false, not, _&&_, _||_, true≢false}
 use mathlib.Core.List.{List}
 use Prim.Native.Nat.{ℕ, zero, suc, _<_}
 use native.Mathlib.Omega.{arith}
@@ -16,7 +16,7 @@ use Rattle.grids.specs.Grid.{byte-of, solid}
 use Rattle.grids.proofs.Any.{or-true}
 use Rattle.walks.specs.Walks.{Conduct, is-cell, hit-at}
 use Rattle.walks.specs.Numbers.{hits-at}
-use Rattle.walks.proofs.Find.{is-cell-self, other-is-not}
+use Rattle.walks.proofs.Find.{is-cell-self, is-cell-same, same-is-cell, other-is-not}
 use Rattle.walks.proofs.Numbers.{is-p}
 
 -- ---- by cells
@@ -41,6 +41,21 @@ module _ (how : Conduct) (n : Counts) (l : List ℕ) (p : Cell) where
       none : (b : Bool) → (b && false) ≡ false
       none true = refl
       none false = refl
+
+-- where P is not solid no test knows the start
+pub starts-test : (n : Counts) (l : List ℕ) (p : Cell) (one other : Conduct) → solid (byte-of n l p) ≡ false → (w : Cell) →
+    hit-at one n l p w ≡ hit-at other n l p w
+starts-test n l p one other clear w = by (is-cell w p) refl
+  where
+    none : (how : Conduct) → is-cell w p ≡ true → hit-at how n l p w ≡ false
+    none how same = ap (λ b. b && (is-tested (how .start) || not (is-cell w p))) (ap (λ c. solid (byte-of n l c)) (is-cell-same w p same) ∙ clear)
+
+    by : (b : Bool) → is-cell w p ≡ b → hit-at one n l p w ≡ hit-at other n l p w
+    by true same = none one same ∙ sym (none other same)
+    by false far = other-test one n l p w away ∙ sym (other-test other n l p w away)
+      where
+        away : w ≡ p → ⊥
+        away e = true≢false (sym (same-is-cell w p e) ∙ far)
 
 -- ---- by numbers
 
@@ -79,7 +94,3 @@ module _ (how : Conduct) (n : Counts) (l : List ℕ) (p q : Cell) where
   pub not-solid : (s : ℕ) → hits-at how n l p q s ≡ false → (six-cell (how .preference) p q s ≡ p → is-tested (how .start) ≡ true) → solid-at s ≡ false
   not-solid zero free tested = sym (tested-test how n l p (six-cell (how .preference) p q 0) (tested (six-start (how .preference) p q))) ∙ free
   not-solid (suc s) free tested = sym (later-test (suc s) (omega arith)) ∙ free
-
-  -- P's byte is that of number 0
-  pub start-byte : solid-at 0 ≡ solid (byte-of n l p)
-  start-byte = ap (λ w. solid (byte-of n l w)) (six-start (how .preference) p q)
