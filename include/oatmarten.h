@@ -288,8 +288,8 @@ oat_listed oat_line_touching(oat_cell p, oat_cell q, int32_t *out, size_t room);
    whatever it was. */
 oat_verdict oat_mark(oat_counts n, uint8_t *cells, size_t bytes);
 
-/* Whether the marks are complete: no clear cell touches a solid one. It holds after oat_mark. oat_adaptive and oat_sight need less: no mark at a
-   corner. */
+/* Whether the marks are complete: no clear cell touches a solid one. It holds after oat_mark. For oat_adaptive and oat_sight a mark that is missing at a
+   corner alone does no harm; but a 0 does not tell which mark is missing, and no call tests for less: after a 0, mark. */
 oat_complete_answer oat_complete(oat_counts n, const uint8_t *cells, size_t bytes);
 
 /* Where layer z lies: nx*ny bytes. Nothing is copied. */
@@ -302,8 +302,9 @@ oat_hit oat_plain(oat_counts n, const uint8_t *cells, size_t bytes, oat_cell p, 
 
 /* The same with long steps over clear cells: from a clear cell of the 26-line to the next cell of the 26-line; from every other cell to the
    next of the 6-line by the rule of `how`, from a solid p that is not tested too. A cell that a long step leads to has the place and the
-   side by which that 6-line enters it. Where no clear cell shares a face or an edge with a solid one, so after oat_mark, it gives the answer that
-   oat_plain gives for the same `how`, with no more reads; elsewhere it may miss a solid cell, and never makes one up. */
+   side by which that 6-line enters it. After oat_mark, and wherever every cell across a face or an edge from a solid one is near or solid, it gives
+   the answer that oat_plain gives for the same `how`, but for its reads, which are no more; elsewhere it may miss a solid cell, and never makes one
+   up. */
 oat_hit oat_adaptive(oat_counts n, const uint8_t *cells, size_t bytes, oat_cell p, oat_cell q, oat_manner how);
 
 /* The first solid cell along the touching line from p to q, in the order of oat_line_touching. `start` is a number of enum oat_start, and says of p

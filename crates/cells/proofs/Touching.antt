@@ -1,4 +1,4 @@
--- Touching as a test is touching. Assumes nothing.
+-- Touching over its number k: more touch at a greater one, and none beyond 3; as a test it is touching. Assumes nothing.
 use mathlib.Core.Path.{_≡_, refl}
 use mathlib.Core.Logic.{_↔_}
 use mathlib.Core.Bool.{Bool, true, false, _&&_}

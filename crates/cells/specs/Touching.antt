@@ -1,4 +1,4 @@
--- Cells by axis, and when two of them touch. How near is a number k: 1 by face, 2 by face or edge, 3 by face, edge or corner, as SCOPE G5 has it.
+-- Cells by axis, and when two of them touch. How near is a number k: 1 by face, 2 by face or edge, 3 by face, edge or corner, as SCOPE G5 has it (N5 is at 2).
 -- Assumes nothing.
 use Prim.Native.Nat.{ℕ, _+_, _≤_, min}
 use mathlib.Core.Bool.{Bool, _&&_}

@@ -208,11 +208,11 @@ hit-back n l p q h (FirstHit.Refused r) a g =
     absurd (not-refused (tested-by Two) n l q p Plain (back-fine n l p q (hit-found (tested-by Two) n l p q Plain h a .0)) r g)
 
 -- of one story both are clear, or both hit
-pub plain-clear : {a : FirstHit} {m : ℕ} → SameStory a (FirstHit.Clear m) → (r : ℕ) × (a ≡ FirstHit.Clear r)
-plain-clear (clears {r} le) = (r, refl)
+pub told-clear : {a : FirstHit} {m : ℕ} → SameStory a (FirstHit.Clear m) → (r : ℕ) × (a ≡ FirstHit.Clear r)
+told-clear (clears {r} le) = (r, refl)
 
-plain-hit : {a : FirstHit} {k : Hit} → SameStory a (FirstHit.Hit k) → (h : Hit) × (a ≡ FirstHit.Hit h)
-plain-hit (hits {h} _ _ _ _) = (h, refl)
+told-hit : {a : FirstHit} {k : Hit} → SameStory a (FirstHit.Hit k) → (h : Hit) × (a ≡ FirstHit.Hit h)
+told-hit (hits {h} _ _ _ _) = (h, refl)
 
 then-clear : {b : FirstHit} {r : ℕ} → SameStory (FirstHit.Clear r) b → (m : ℕ) × (b ≡ FirstHit.Clear m)
 then-clear (clears {r} {s} le) = (s, refl)
@@ -231,11 +231,11 @@ pub adaptive-both-ways : (k : ℕ) → 2 ≤ k → (n : Counts) (l : List ℕ) (
 adaptive-both-ways k two n l p q =
     record {
       clear = λ whole reads s h g.
-          let (m, e) = plain-clear (story p q .story whole _ _ (plain p q) h) in
+          let (m, e) = told-clear (story p q .story whole _ _ (plain p q) h) in
           let f = clear-back n l p q m _ (subst (Finds Plain (tested-by Two) n l p q) e (plain p q)) (plain q p) in
           then-clear (subst (λ a. SameStory a s) f (story q p .story whole _ _ (plain q p) g));
       hit = λ whole h s a g.
-          let (m, e) = plain-hit (story p q .story whole _ _ (plain p q) a) in
+          let (m, e) = told-hit (story p q .story whole _ _ (plain p q) a) in
           let (k, f) = hit-back n l p q m _ (subst (Finds Plain (tested-by Two) n l p q) e (plain p q)) (plain q p) in
           then-hit (subst (λ a. SameStory a s) f (story q p .story whole _ _ (plain q p) g));
     }

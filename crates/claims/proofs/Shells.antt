@@ -1,7 +1,7 @@
 -- The claims about shells of marks: over k from the laws, and faces alone by computation on named grids. Assumes nothing.
 use Prim.Native.Nat.{ℕ, _≤_}
 use mathlib.Core.Path.{_≡_, refl, sym, ap, _∙_, subst, subst₂}
-use mathlib.Core.Bool.{Bool, true, false, cond, true≢false}
+use mathlib.Core.Bool.{true, false, true≢false}
 use mathlib.Core.List.{List}
 use native.Mathlib.Omega.{arith}
 use lib.Dec.{lit<}
@@ -27,10 +27,9 @@ use Rattle.lines.specs.Segment.{Share, InOpen}
 use Rattle.grids.specs.Grid.{byte-index, byte-of, solid, shape}
 use Rattle.grids.specs.Inside.{walk-check}
 use Rattle.grids.specs.Marks.{any, touches-solid, marked, complete}
-use Rattle.grids.proofs.Marking.{marked-length, marked-same, marked-keeps, marked-complete, marked-clear, complete-below, complete-at-3}
+use Rattle.grids.proofs.Marking.{marked-length, marked-same, marked-keeps, marked-complete, marked-clear, complete-below, complete-from-3}
 use Rattle.walks.specs.declared.Walker.{Walker}
 use Rattle.walks.specs.declared.Walker.the-variants.{Plain, Adaptive}
-use Rattle.walks.specs.declared.Place.{Place}
 use Rattle.walks.specs.declared.Hit.{Hit}
 use Rattle.walks.specs.declared.FirstHit.{FirstHit}
 use Rattle.walks.specs.declared.FirstHit.the-variants as FirstHit
@@ -48,18 +47,18 @@ use Rattle.sight.specs.Sight.{Sees}
 use Rattle.claims.specs.Example.{counts, at, faces-there, faces-back, far-counts, faces-inside}
 use Rattle.claims.specs.Points.{one-metre}
 use Rattle.claims.specs.Rules.{AdaptiveBothWays}
-use Rattle.claims.specs.Shells.{AsksLess, DemandThree, Shells, NoDearer, FacesAlone, tie-hit, tie-reads, inside-hit, camera, ball}
-use Rattle.claims.specs.Story.{SameStory, hits, clears, refusals}
-use Rattle.claims.proofs.Rules.{plain-clear, adaptive-both-ways}
+use Rattle.claims.specs.Shells.{AsksLess, DemandThree, Shells, NoDearer, FacesAlone, tie-hit, tie-reads, inside-hit, camera-inside, ball-inside}
+use Rattle.claims.specs.Story.{SameStory, refusals}
+use Rattle.claims.proofs.Rules.{told-clear, adaptive-both-ways}
 use Rattle.claims.proofs.Sights.{as-the-walk, nothing-in-sight}
-use Rattle.claims.proofs.Story.{kind, found, alike, one-story, nothing-in-the-way}
+use Rattle.claims.proofs.Story.{kind, told-alike, found, alike, one-story, nothing-in-the-way}
 
 pub asks-less : (n : Counts) (l : List ℕ) → AsksLess n l
 asks-less n l =
     record {
       below = λ j k. complete-below j k n l;
       full-then-thin = complete-below 2 3 n l (omega arith);
-      full-then-any = λ k. complete-at-3 k n l;
+      full-then-any = λ k. complete-from-3 k n l;
     }
 
 enough : (k : ℕ) → 2 ≤ k → DemandThree k
@@ -71,41 +70,28 @@ enough k two =
       back = adaptive-both-ways k two;
     }
 
--- ---- the same cells in a closer shell
+-- ---- the same cells marked at a smaller k
 
 module _ (how : Manner) (n : Counts) (p q : Cell) (a b : List ℕ) (clearer : MoreClear n a b) where
   abbrev C : Conduct
   C = conduct how p q
 
-  -- answers at one number, where each hit has the same code
-  one-answer : (e r s : ℕ) → s ≤ r → ((c : Cell) → solid (byte-of n b c) ≡ true → byte-of n b c ≡ byte-of n a c) →
-      SameStory (answer-at C n b p q e r) (answer-at C n a p q e s)
-  one-answer e r s fewer codes =
-      by (hits-at C n b p q e) (hits-at C n a p q e) (ap (λ hits. hits e) (same-hits n a b clearer p q C)) _ _
-      (λ hit. codes (six-cell (C .preference) p q e) (hit-solid C n b p q e hit))
-    where
-      by : (t u : Bool) → u ≡ t → (c : Cell) (place : Place) {x y : ℕ} → (t ≡ true → x ≡ y) →
-          SameStory (cond t (FirstHit.Hit (record { cell = c; code = x; place = place; reads = r })) (FirstHit.Clear r))
-          (cond u (FirstHit.Hit (record { cell = c; code = y; place = place; reads = s })) (FirstHit.Clear s))
-      by true true e c place code = hits refl (code refl) refl fewer
-      by false false e c place code = clears fewer
-      by true false e c place code = absurd (true≢false (sym e))
-      by false true e c place code = absurd (true≢false e)
-
-  -- where the marks of both are complete, from 2 on, and the ends lie in the grid
-  same-answers : (j k : ℕ) → 2 ≤ j → 2 ≤ k → complete j n a ≡ true → complete k n b ≡ true → walk-check n (length a) p q ≡ Verdict.Fine →
+  -- where the marks of both are complete, from 2 on, the ends lie in the grid and solid cells have one code
+  both-complete : (j k : ℕ) → 2 ≤ j → 2 ≤ k → complete j n a ≡ true → complete k n b ≡ true → walk-check n (length a) p q ≡ Verdict.Fine →
       walk-check n (length b) p q ≡ Verdict.Fine → ((c : Cell) → solid (byte-of n b c) ≡ true → byte-of n b c ≡ byte-of n a c) →
       SameStory (answer-at C n b p q (end-of C n b p q Adaptive) (reads-of C n b p q Adaptive))
       (answer-at C n a p q (end-of C n a p q Adaptive) (reads-of C n a p q Adaptive))
-  same-answers j k two-j two-k whole-a whole-b fine-a fine-b codes =
-      let e : end-of C n a p q Adaptive ≡ end-of C n b p q Adaptive =
+  both-complete j k two-j two-k whole-a whole-b fine-a fine-b codes =
+      let last : ℕ = end-of C n b p q Adaptive in
+      let e : end-of C n a p q Adaptive ≡ last =
       alike how n a p q j two-j fine-a whole-a ∙ plain-alike n a b clearer p q C ∙ sym (alike how n b p q k two-k fine-b whole-b) in
-      subst (λ t. SameStory (answer-at C n b p q (end-of C n b p q Adaptive) (reads-of C n b p q Adaptive)) (answer-at C n a p q t (reads-of C n a p q Adaptive)))
-      (sym e) (one-answer (end-of C n b p q Adaptive) _ _ (clearer-reads n a b clearer p q C e) codes)
+      subst (λ t. SameStory (answer-at C n b p q last (reads-of C n b p q Adaptive)) (answer-at C n a p q t (reads-of C n a p q Adaptive))) (sym e)
+      (told-alike (hits-at C n b p q last) (hits-at C n a p q last) (ap (λ hits. hits last) (same-hits n a b clearer p q C)) _ _
+      (λ hit. codes (six-cell (C .preference) p q last) (hit-solid C n b p q last hit)) (clearer-reads n a b clearer p q C e))
 
 module _ (how : Manner) (n : Counts) (l : List ℕ) (p q : Cell) (j k : ℕ) (le : j ≤ k) where
-  closer-clearer : MoreClear n (marked j n l) (marked k n l)
-  closer-clearer =
+  fewer-marks : MoreClear n (marked j n l) (marked k n l)
+  fewer-marks =
       record {
         same-solid = λ c. marked-same j n l .alike (byte-index n c) ∙ sym (marked-same k n l .alike (byte-index n c));
         clear-too = λ c. marked-clear j k n l (byte-index n c) le;
@@ -117,18 +103,18 @@ module _ (how : Manner) (n : Counts) (l : List ℕ) (p q : Cell) (j k : ℕ) (le
       marked-keeps k n l (byte-index n c) e ∙ sym (marked-keeps j n l (byte-index n c) e)
 
   -- the answer over the cells marked at i, by the test of the shape that both share
-  abbrev answered : ℕ → Verdict → FirstHit
-  answered i = by-verdict FirstHit.Refused
+  abbrev told-at : ℕ → Verdict → FirstHit
+  told-at i = by-verdict FirstHit.Refused
       (answer-at (conduct how p q) n (marked i n l) p q (end-of (conduct how p q) n (marked i n l) p q Adaptive)
       (reads-of (conduct how p q) n (marked i n l) p q Adaptive))
 
-  found-marked : (i : ℕ) {r : FirstHit} → Finds Adaptive how n (marked i n l) p q r → r ≡ answered i (walk-check n (length l) p q)
-  found-marked i h = found how n (marked i n l) p q h ∙ ap (λ long. answered i (walk-check n long p q)) (marked-length i n l)
+  found-marked : (i : ℕ) {r : FirstHit} → Finds Adaptive how n (marked i n l) p q r → r ≡ told-at i (walk-check n (length l) p q)
+  found-marked i h = found how n (marked i n l) p q h ∙ ap (λ long. told-at i (walk-check n long p q)) (marked-length i n l)
 
-  by-test : 2 ≤ j → (v : Verdict) → walk-check n (length l) p q ≡ v → SameStory (answered k v) (answered j v)
+  by-test : 2 ≤ j → (v : Verdict) → walk-check n (length l) p q ≡ v → SameStory (told-at k v) (told-at j v)
   by-test two (Verdict.Refused r) h = refusals
   by-test two Verdict.Fine h =
-      same-answers how n p q (marked j n l) (marked k n l) closer-clearer j k two (omega arith) (marked-complete j n l) (marked-complete k n l)
+      both-complete how n p q (marked j n l) (marked k n l) fewer-marks j k two (omega arith) (marked-complete j n l) (marked-complete k n l)
       (ap (λ long. walk-check n long p q) (marked-length j n l) ∙ h) (ap (λ long. walk-check n long p q) (marked-length k n l) ∙ h) same-code
 
 pub no-dearer : (how : Manner) (n : Counts) (l : List ℕ) (p q : Cell) → NoDearer how n l p q
@@ -144,7 +130,7 @@ no-dearer how n l p q =
 -- a hit and a clear walk are two stories
 two-stories : (h : Hit) (reads : ℕ) → SameStory (FirstHit.Hit h) (FirstHit.Clear reads) → ⊥
 unfolding kind
-two-stories h reads s = let (r, e) = plain-clear s in let z : _≡_ {A = ℕ} 0 1 = ap kind e in omega arith
+two-stories h reads s = let (r, e) = told-clear s in let z : _≡_ {A = ℕ} 0 1 = ap kind e in omega arith
 
 -- from a P that is not solid and does not come after Q, a walk finds in every manner what it finds by default
 as-default : (n : Counts) (l : List ℕ) (p q : Cell) (w : Walker) (how : Manner) → solid (byte-of n l p) ≡ false → comes-before q p ≡ false →
@@ -220,19 +206,19 @@ found-or : Cell → Lookup → Cell
 found-or c (Lookup.Cell found) = found
 found-or c (Lookup.Refused r) = c
 
-camera-in : look-up P far-counts one-metre camera ≡ Lookup.Cell (at 0 0 0)
+camera-in : look-up P far-counts one-metre camera-inside ≡ Lookup.Cell (at 0 0 0)
 unfolding look-up eq le lt ofInt div sub
 camera-in = refl
 
-ball-in : look-up Q far-counts one-metre ball ≡ Lookup.Cell (at 3 2 2)
+ball-in : look-up Q far-counts one-metre ball-inside ≡ Lookup.Cell (at 3 2 2)
 unfolding look-up eq le lt ofInt div sub
 ball-in = refl
 
-seen-inside : (how : Manner) → Sees how far-counts faces-inside one-metre camera ball Sight.Clear
+seen-inside : (how : Manner) → Sees how far-counts faces-inside one-metre camera-inside ball-inside Sight.Clear
 unfolding shape placement-check eq le lt ofInt div sub
 seen-inside how =
     record {
-      says = sym (as-the-walk how far-counts faces-inside one-metre camera ball .same _ _ _ _ refl refl camera-in ball-in (record { says = refl })
+      says = sym (as-the-walk how far-counts faces-inside one-metre camera-inside ball-inside .same _ _ _ _ refl refl camera-in ball-in (record { says = refl })
           (adaptive-inside how));
     }
 

@@ -120,7 +120,7 @@ module _ (how : Manner) (n : Counts) (l : List ℕ) (at : Placement) (camera bal
       let (fine, is) = by-fine Refused (shape n (length l) then placement-check at) _ other (sym (sight-is how n l at camera ball) ∙ sym (sees .says)) in
       seen-by how n l _ _ other (sym (looked-is how n l at camera ball) ∙ is)
 
-  pub nothing-in-sight : (k : ℕ) → 2 ≤ k → NothingInSight how n l at k camera ball
+  pub nothing-in-sight : (k : ℕ) → 2 ≤ k → NothingInSight k how n l at camera ball
   nothing-in-sight k two =
       record {
         open-way = λ whole sees.

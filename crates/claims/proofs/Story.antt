@@ -1,7 +1,7 @@
 -- Demand 3: the claims about the two first-hit calls, from where their walks end. Assumes nothing.
 use Prim.Native.Nat.{ℕ, zero, suc, _+_, _-_, _*_, _≤_, _<_}
 use mathlib.Core.Path.{_≡_, refl, sym, ap, ap₂, _∙_, subst, subst₂}
-use mathlib.Core.Bool.{Bool, true, false, cond, _||_}
+use mathlib.Core.Bool.{Bool, true, false, cond, _||_, true≢false}
 use mathlib.Core.Logic.{⊎-elim, _⊎_, _↔_}
 use mathlib.Core.List.{List, [], _∷_}
 use native.Mathlib.Omega.{arith}
@@ -76,6 +76,15 @@ kind (FirstHit.Hit h) = 0
 kind (FirstHit.Clear r) = 1
 kind (FirstHit.Refused r) = 2
 
+-- answers at one place of the line say the same where both are hits, with one code, or neither is
+pub told-alike : (t u : Bool) → u ≡ t → (c : Cell) (place : Place) {x y r s : ℕ} → (t ≡ true → x ≡ y) → s ≤ r →
+    SameStory (cond t (FirstHit.Hit (record { cell = c; code = x; place = place; reads = r })) (FirstHit.Clear r))
+    (cond u (FirstHit.Hit (record { cell = c; code = y; place = place; reads = s })) (FirstHit.Clear s))
+told-alike true true e c place code fewer = hits refl (code refl) refl fewer
+told-alike false false e c place code fewer = clears fewer
+told-alike true false e c place code fewer = absurd (true≢false (sym e))
+told-alike false true e c place code fewer = absurd (true≢false e)
+
 module _ (how : Manner) (n : Counts) (l : List ℕ) (p q : Cell) where
   -- its conduct, and which axis goes first in a tie
   abbrev C : Conduct
@@ -109,14 +118,7 @@ module _ (how : Manner) (n : Counts) (l : List ℕ) (p q : Cell) where
   same-answers k two whole Verdict.Fine h =
       let e = alike k two h whole in
       subst (λ k. SameStory (answered Plain) (answer-at C n l p q k (reads-of C n l p q Adaptive))) (sym e)
-      (by (hits-at C n l p q (E Plain)) _ _ _ (reads-no-more C n l p q e))
-    where
-      by :
-          (b : Bool) (c : Cell) (code : ℕ) (place : Place) {r s : ℕ} → s ≤ r →
-          SameStory (cond b (FirstHit.Hit (record { cell = c; code = code; place = place; reads = r })) (FirstHit.Clear r))
-          (cond b (FirstHit.Hit (record { cell = c; code = code; place = place; reads = s })) (FirstHit.Clear s))
-      by true c code place le = hits refl refl refl le
-      by false c code place le = clears le
+      (told-alike (hits-at C n l p q (E Plain)) _ refl _ _ (λ hit. refl) (reads-no-more C n l p q e))
 
   pub one-story : (k : ℕ) → 2 ≤ k → OneStory k how n l p q
   one-story k two = record { story = λ whole rp ra hp ha. subst₂ SameStory (sym (found hp)) (sym (found ha)) (same-answers k two whole check refl) }

@@ -104,11 +104,11 @@ pub record AreThePapers : Type 0 where
 
 -- 3. Where the completeness call says yes, the adaptive and the plain walk find the same first hit, its cell, code, place and entry face, or both none, and
 -- the adaptive one reads no more cells; and a clear sight has nothing solid in its way, but for the camera's own cell where it is not tested. All this holds
--- already where no clear cell shares a face or an edge with a solid one, the thin shell: corners need no mark, and faces alone are too few. Marked so instead
--- of in full, the same cells give the same adaptive answer by no more reads. In any grid whatever, an adaptive hit is a plain hit, there or before; and a hit
--- of either walk says the face by which the 6-line enters its cell, at its place. All this in either start mode and under either rule; where P is not solid
--- the two answer alike, and where it is not tested it is never the hit. By rule 2, with a tested start, the plain walks from P to Q and from Q to P are both
--- clear or both hit, and so are the adaptive ones where the marks are complete in the thin shell.
+-- already where every cell across a face or an edge from a solid one is near or solid, the thin shell; a cell at a corner may stay clear, and marks across
+-- faces alone do not do. Marked so instead of in full, the same cells give the same adaptive answer by no more reads. In any grid whatever, an adaptive hit
+-- is a plain hit, there or before; and a hit of either walk says the face by which the 6-line enters its cell, at its place. All this in either start mode
+-- and under either rule; where P is not solid the two answer alike, and where it is not tested it is never the hit. By rule 2, with a tested start, the plain
+-- walks from P to Q and from Q to P are both clear or both hit, and so are the adaptive ones where the marks are complete in the thin shell.
 pub record TellOneStory : Type 0 where
   -- at 3, by the completeness call's yes: two instances of `shells .full`
   pub same : (how : Manner) (n : Counts) (l : List ℕ) (p q : Cell) → Completes n l Yes → (plain adaptive : FirstHit) →

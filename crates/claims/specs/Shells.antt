@@ -42,7 +42,7 @@ pub record AsksLess (n : Counts) (l : List ℕ) : Type 0 where
 pub record DemandThree (k : ℕ) : Type 0 where
   pub story : (how : Manner) (n : Counts) (l : List ℕ) (p q : Cell) → OneStory k how n l p q
   pub way : (how : Manner) (n : Counts) (l : List ℕ) (p q : Cell) → NothingInTheWay k how n l p q
-  pub sight : (how : Manner) (n : Counts) (l : List ℕ) (at : Placement) (camera ball : Point) → NothingInSight how n l at k camera ball
+  pub sight : (how : Manner) (n : Counts) (l : List ℕ) (placed : Placement) (camera ball : Point) → NothingInSight k how n l placed camera ball
   pub back : (n : Counts) (l : List ℕ) (p q : Cell) → AdaptiveBothWays k n l p q
 
 -- 2. So it is for every k from 2 on: in the full shell, and in the thin one. By faces alone it is not (`FacesAlone`: no part of it).
@@ -52,8 +52,7 @@ pub record Shells : Type 0 where
   pub thin : DemandThree 2
   pub faces-too-few : DemandThree 1 → ⊥
 
--- 3. What is saved: the same cells marked at a smaller number, from 2 on, give the same adaptive answer by no more reads. (`SameStory`: here the first answer is
--- that over more marks, and the second has no more reads.)
+-- 3. What is saved: the same cells marked at a smaller number, from 2 on, give the same adaptive answer, by no more reads.
 pub record NoDearer (how : Manner) (n : Counts) (l : List ℕ) (p q : Cell) : Type 0 where
   pub reads : (j k : ℕ) → 2 ≤ j → j ≤ k → (at-k at-j : FirstHit) → Finds Adaptive how n (marked k n l) p q at-k →
       Finds Adaptive how n (marked j n l) p q at-j → SameStory at-k at-j
@@ -74,11 +73,11 @@ tie-reads Plain = 4
 tie-reads Adaptive = 2
 
 -- the middles of (0,0,0) and (3,2,2)
-abbrev pub camera : Point
-camera = point (halves 1) (halves 1) (halves 1)
+abbrev pub camera-inside : Point
+camera-inside = point (halves 1) (halves 1) (halves 1)
 
-abbrev pub ball : Point
-ball = point (halves 7) (halves 5) (halves 5)
+abbrev pub ball-inside : Point
+ball-inside = point (halves 7) (halves 5) (halves 5)
 
 pub record FacesAlone : Type 0 where
   -- solid at (0,1,1), from (0,0,0) to (1,1,1): either rule goes y, z, x
@@ -102,6 +101,6 @@ pub record FacesAlone : Type 0 where
   pub marks-inside : (complete 1 far-counts faces-inside ≡ true) × (complete 2 far-counts faces-inside ≡ false)
   pub plain-inside : (how : Manner) → Finds Plain how far-counts faces-inside (at 0 0 0) (at 3 2 2) (FirstHit.Hit inside-hit)
   pub adaptive-inside : (how : Manner) → Finds Adaptive how far-counts faces-inside (at 0 0 0) (at 3 2 2) (FirstHit.Clear 4)
-  pub seen-inside : (how : Manner) → Sees how far-counts faces-inside one-metre camera ball Sight.Clear
+  pub seen-inside : (how : Manner) → Sees how far-counts faces-inside one-metre camera-inside ball-inside Sight.Clear
   pub in-the-way : (how : Manner) → NothingInTheWay 1 how far-counts faces-inside (at 0 0 0) (at 3 2 2) → ⊥
-  pub in-sight : (how : Manner) → NothingInSight how far-counts faces-inside one-metre 1 camera ball → ⊥
+  pub in-sight : (how : Manner) → NothingInSight 1 how far-counts faces-inside one-metre camera-inside ball-inside → ⊥

@@ -57,10 +57,11 @@ module _ (how : Manner) (n : Counts) (l : List ℕ) (at : Placement) where
     pub to-is : look-up Q n at ball ≡ Lookup.Cell to
     pub free : (m d : ℕ) (c : cell.Cell) → Share m d → InOpen from to m d c → (c ≡ from → how .start ≡ Tested) → solid (byte-of n l c) ≡ false
 
-  -- 3. Nothing in the way: marks complete at k and the sight clear (Shells: from 2 on).
-  pub record NothingInSight (k : ℕ) (camera ball : Point) : Type 0 where
-    pub open-way : complete k n l ≡ true → Sees how n l at camera ball Clear → OpenWay camera ball
+-- 3. Nothing in the way: marks complete at k and the sight clear (Shells: from 2 on).
+pub record NothingInSight (k : ℕ) (how : Manner) (n : Counts) (l : List ℕ) (at : Placement) (camera ball : Point) : Type 0 where
+  pub open-way : complete k n l ≡ true → Sees how n l at camera ball Clear → OpenWay how n l at camera ball
 
+module _ (how : Manner) (n : Counts) (l : List ℕ) (at : Placement) where
   -- 4. Where the camera's point has no cell, its refusal is the answer; so the answer does not depend on the ball, whatever else is refused.
   pub record CameraFirst (camera : Point) : Type 0 where
     pub refusal : (r : Refusal) → shape n (length l) ≡ Fine → placement-check at ≡ Fine → look-up P n at camera ≡ Lookup.Refused r →

@@ -35,8 +35,8 @@ use Rattle.grids.specs.Inside.{InGrid}
 use Rattle.walks.specs.Answers.{entered-at, last-of, Finds}
 use Rattle.claims.specs.Example.{counts, at, example-counts, example-cells, marked-cells}
 
--- the first answer is the plain walk's, the second the adaptive one's: the same cell, code and place, the entry face with it, or both clear, or both
--- refuse alike; and the adaptive walk reads no more cells
+-- two answers that say the same: the same cell, code and place, the entry face with it, or both clear, or both refuse alike; the second by no more reads. Of
+-- the plain walk and the adaptive one, or of the adaptive one over more marks and over fewer (Shells)
 pub data SameStory : FirstHit → FirstHit → Type 0 where
   hits : {h k : Hit} → h .cell ≡ k .cell → h .code ≡ k .code → h .place ≡ k .place → k .reads ≤ h .reads → SameStory (FirstHit.Hit h) (FirstHit.Hit k)
   clears : {r s : ℕ} → s ≤ r → SameStory (FirstHit.Clear r) (FirstHit.Clear s)

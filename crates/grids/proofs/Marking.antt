@@ -122,11 +122,13 @@ complete-iff k n l = (apart, whole)
 complete-by : (j k : ℕ) (n : Counts) (l : List ℕ) → ((c d : Cell) → Touches j c d → Touches k c d) → complete k n l ≡ true → complete j n l ≡ true
 complete-by j k n l further e = complete-iff j n l .1 (λ a b ha hb c s t. complete-iff k n l .0 e a b ha hb c s (further _ _ t))
 
+-- so at every number below
 pub complete-below : (j k : ℕ) (n : Counts) (l : List ℕ) → j ≤ k → complete k n l ≡ true → complete j n l ≡ true
 complete-below j k n l le = complete-by j k n l (λ c d. touches-within le)
 
-pub complete-at-3 : (k : ℕ) (n : Counts) (l : List ℕ) → complete 3 n l ≡ true → complete k n l ≡ true
-complete-at-3 k n l = complete-by k 3 n l (λ c d. touches-at-3)
+-- and from 3 at every number
+pub complete-from-3 : (k : ℕ) (n : Counts) (l : List ℕ) → complete 3 n l ≡ true → complete k n l ≡ true
+complete-from-3 k n l = complete-by k 3 n l (λ c d. touches-at-3)
 
 -- marking makes the marks complete
 pub marked-complete : (k : ℕ) (n : Counts) (l : List ℕ) → complete k n (marked k n l) ≡ true
@@ -146,6 +148,7 @@ marked-complete k n l = ap not (any-none _ (length (marked k n l)) none)
 
 -- ---- marking at a smaller k
 
+-- what touches a solid cell at j does so at k
 touches-solid-within : {j k : ℕ} (n : Counts) (l : List ℕ) (c : Cell) → j ≤ k → touches-solid j n l c ≡ true → touches-solid k n l c ≡ true
 unfolding touches-solid
 touches-solid-within {j} {k} n l c le e =
@@ -154,7 +157,7 @@ touches-solid-within {j} {k} n l c le e =
     any-some (λ i. solid (getD l i 0) && touching k c (cell-at n i)) (length l) i h
     (rw s (touching-iff k c (cell-at n i) .1 (touches-within le (touching-iff j c (cell-at n i) .0 t))))
 
--- leaves clear whatever marking at k leaves clear
+-- it leaves clear whatever marking at k leaves clear
 pub marked-clear : (j k : ℕ) (n : Counts) (l : List ℕ) (i : ℕ) → j ≤ k → clear (getD (marked k n l) i 0) ≡ true → clear (getD (marked j n l) i 0) ≡ true
 marked-clear j k n l i le e =
     elim (decLt i (length l)) [

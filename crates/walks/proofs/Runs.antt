@@ -86,9 +86,9 @@ module _ (hits : ℕ → Bool) (N : ℕ) (go : ℕ → ℕ) (rises : Rises N go)
           omega (arith, h lt, grows s lt)
 
 -- of two walks the second never steps further than the first, and goes from number to number wherever the first steps over some
-pub record Closer (N : ℕ) (go by : ℕ → ℕ) : Type 0 where
-  pub no-further : (s : ℕ) → s < N → by s ≤ go s
-  pub one-by-one : (s t : ℕ) → s < N → s < t → t < go s → by t ≡ suc t
+pub record Closer (N : ℕ) (wide close : ℕ → ℕ) : Type 0 where
+  pub no-further : (s : ℕ) → s < N → close s ≤ wide s
+  pub one-by-one : (s t : ℕ) → s < N → s < t → t < wide s → close t ≡ suc t
 
 -- ---- one number after another
 
@@ -107,44 +107,44 @@ visits-all hits N fuel s le enough =
 
 -- ---- of two walks that end alike, the closer one visits no fewer numbers
 
-module _ (hits : ℕ → Bool) (N : ℕ) (go by : ℕ → ℕ) (rises : Rises N go) (by-rises : Rises N by) (closer : Closer N go by) where
+module _ (hits : ℕ → Bool) (N : ℕ) (wide close : ℕ → ℕ) (rises : Rises N wide) (close-rises : Rises N close) (closer : Closer N wide close) where
   -- the first stands at u and the second at s, there or before it, with single steps between
-  no-more-from : (fuel more s u : ℕ) → s ≤ u → u ≤ N → N < s + fuel → N < u + more → ((v : ℕ) → s ≤ v → v < u → by v ≡ suc v) →
-      ends hits N go more u ≡ ends hits N by fuel s → visits hits N go more u ≤ visits hits N by fuel s
+  no-more-from : (fuel more s u : ℕ) → s ≤ u → u ≤ N → N < s + fuel → N < u + more → ((v : ℕ) → s ≤ v → v < u → close v ≡ suc v) →
+      ends hits N wide more u ≡ ends hits N close fuel s → visits hits N wide more u ≤ visits hits N close fuel s
   unfolding ends visits
   no-more-from zero more s u le most enough room single same = absurd (omega arith)
   no-more-from (suc fuel) zero s u le most enough room single same = absurd (omega arith)
   no-more-from (suc fuel) (suc more) s u le most enough room single same =
       elim (decLt s u) [
         | yes lt ↦
-            let one : by s ≡ suc s = single s (omega arith) lt in
-            behind (ends hits N go (suc more) u) (visits hits N go (suc more) u) (stop hits N s) lt
-            (ended hits N go rises (suc more) u most room .from) same
-            (no-more-from fuel (suc more) (by s) u (omega arith) most (omega arith) room (λ v a b. single v (omega arith) b))
+            let one : close s ≡ suc s = single s (omega arith) lt in
+            behind (ends hits N wide (suc more) u) (visits hits N wide (suc more) u) (stop hits N s) lt
+            (ended hits N wide rises (suc more) u most room .from) same
+            (no-more-from fuel (suc more) (close s) u (omega arith) most (omega arith) room (λ v a b. single v (omega arith) b))
         | no ge ↦
             let there : s ≡ u = both-ways s u le (omega arith) in
-            subst (λ w. ends hits N go (suc more) w ≡ ends hits N by (suc fuel) s → visits hits N go (suc more) w ≤ visits hits N by (suc fuel) s) there
-            (level (stop hits N s) refl (λ lt. no-more-from fuel more (by s) (go s) (closer .no-further s lt) (rises .most s lt)
-            (omega (arith, by-rises .up s lt)) (omega (arith, rises .up s lt)) (λ v a b. closer .one-by-one s v lt (omega (arith, by-rises .up s lt)) b)))
+            subst (λ w. ends hits N wide (suc more) w ≡ ends hits N close (suc fuel) s → visits hits N wide (suc more) w ≤ visits hits N close (suc fuel) s) there
+            (level (stop hits N s) refl (λ lt. no-more-from fuel more (close s) (wide s) (closer .no-further s lt) (rises .most s lt)
+            (omega (arith, close-rises .up s lt)) (omega (arith, rises .up s lt)) (λ v a b. closer .one-by-one s v lt (omega (arith, close-rises .up s lt)) b)))
             same
       ]
     where
-      behind : (e v : ℕ) (t : Bool) → s < u → u ≤ e → e ≡ cond t s (ends hits N by fuel (by s)) →
-          (e ≡ ends hits N by fuel (by s) → v ≤ visits hits N by fuel (by s)) → v ≤ suc (cond t 0 (visits hits N by fuel (by s)))
+      behind : (e v : ℕ) (t : Bool) → s < u → u ≤ e → e ≡ cond t s (ends hits N close fuel (close s)) →
+          (e ≡ ends hits N close fuel (close s) → v ≤ visits hits N close fuel (close s)) → v ≤ suc (cond t 0 (visits hits N close fuel (close s)))
       behind e v true lt from same next = absurd (omega arith)
       behind e v false lt from same next = omega (arith, next same)
 
       level : (t : Bool) → stop hits N s ≡ t →
-          (s < N → ends hits N go more (go s) ≡ ends hits N by fuel (by s) → visits hits N go more (go s) ≤ visits hits N by fuel (by s)) →
-          cond t s (ends hits N go more (go s)) ≡ cond t s (ends hits N by fuel (by s)) →
-          suc (cond t 0 (visits hits N go more (go s))) ≤ suc (cond t 0 (visits hits N by fuel (by s)))
+          (s < N → ends hits N wide more (wide s) ≡ ends hits N close fuel (close s) → visits hits N wide more (wide s) ≤ visits hits N close fuel (close s)) →
+          cond t s (ends hits N wide more (wide s)) ≡ cond t s (ends hits N close fuel (close s)) →
+          suc (cond t 0 (visits hits N wide more (wide s))) ≤ suc (cond t 0 (visits hits N close fuel (close s)))
       level true e next same = omega arith
       level false e next same =
           let ne : s ≢ N = not-stopped (hits s) s N e .1 in
           let lt : s < N = omega arith in
           omega (arith, next lt same)
 
-  pub no-more-visits : ends hits N go (N + 1) 0 ≡ ends hits N by (N + 1) 0 → visits hits N go (N + 1) 0 ≤ visits hits N by (N + 1) 0
+  pub no-more-visits : ends hits N wide (N + 1) 0 ≡ ends hits N close (N + 1) 0 → visits hits N wide (N + 1) 0 ≤ visits hits N close (N + 1) 0
   no-more-visits = no-more-from (N + 1) (N + 1) 0 0 (omega arith) (omega arith) (omega arith) (omega arith) (λ v a b. absurd (omega arith))
 
 -- ---- two walks over the same numbers, from the first on
