@@ -26,7 +26,7 @@ use Rattle.lines.specs.Lines.{six-cell}
 use Rattle.lines.specs.Segment.{Share, InOpen}
 use Rattle.grids.specs.Grid.{byte-index, byte-of, solid, shape}
 use Rattle.grids.specs.Inside.{walk-check}
-use Rattle.grids.specs.Marks.{any, touches-solid, marked, complete}
+use Rattle.grids.specs.Marks.{any, touches-solid, marked-byte, marked, complete}
 use Rattle.grids.proofs.Marking.{marked-length, marked-same, marked-keeps, marked-complete, marked-clear, complete-below, complete-from-3}
 use Rattle.walks.specs.declared.Walker.{Walker}
 use Rattle.walks.specs.declared.Walker.the-variants.{Plain, Adaptive}
@@ -223,20 +223,20 @@ seen-inside how =
     }
 
 pub faces-alone : FacesAlone
-unfolding complete touches-solid any found-or
+unfolding complete marked marked-byte touches-solid any found-or
 faces-alone =
     record {
-      marks-there = (refl, refl);
+      marks-there = record { just = refl; complete-at-1 = refl; not-at-2 = refl };
       plain-there = plain-there;
       adaptive-there = adaptive-there;
       two-stories = λ how s. two-stories _ _ (s .story refl _ _ (plain-there how) (adaptive-there how));
       one-way = one-way;
-      marks-back = (refl, refl);
+      marks-back = record { just = refl; complete-at-1 = refl; not-at-2 = refl };
       plain-by-2 = plain-back;
       adaptive-by-2 = adaptive-back;
       two-stories-by-2 = λ start s. two-stories _ _ (s .story refl _ _ (plain-back start) (adaptive-back start));
       by-1 = both-clear;
-      marks-inside = (refl, refl);
+      marks-inside = record { just = refl; complete-at-1 = refl; not-at-2 = refl };
       plain-inside = plain-inside;
       adaptive-inside = adaptive-inside;
       seen-inside = seen-inside;

@@ -91,8 +91,7 @@ shells-hold : Every shell-rows
 unfolding shape count-check completeness complete marked marked-byte touches-solid any first-hit
 shells-hold =
     refl and refl and refl and refl and refl and refl and refl and refl and refl and refl and refl and refl and refl and refl and refl and refl
-    and refl and refl and refl and refl and refl and refl and refl and refl and refl and refl and refl and refl and refl and refl and refl and
-    refl and refl and counts-hold
+    and refl and refl and refl and refl and refl and counts-hold
 
 pub starred : Every table
 unfolding six-line order-of line-26 marked first-hit

@@ -38,7 +38,7 @@ pub record AsksLess (n : Counts) (l : List ℕ) : Type 0 where
   pub full-then-any : (k : ℕ) → complete 3 n l ≡ true → complete k n l ≡ true
 
 -- Demand 3 where marks are complete at k, for every grid, either start mode and either rule: one story; nothing in the way of a clear adaptive walk, nor of a
--- clear sight; and there and back by rule 2.
+-- clear sight; and, by rule 2 with a tested start, there and back.
 pub record DemandThree (k : ℕ) : Type 0 where
   pub story : (how : Manner) (n : Counts) (l : List ℕ) (p q : Cell) → OneStory k how n l p q
   pub way : (how : Manner) (n : Counts) (l : List ℕ) (p q : Cell) → NothingInTheWay k how n l p q
@@ -57,7 +57,13 @@ pub record NoDearer (how : Manner) (n : Counts) (l : List ℕ) (p q : Cell) : Ty
   pub reads : (j k : ℕ) → 2 ≤ j → j ≤ k → (at-k at-j : FirstHit) → Finds Adaptive how n (marked k n l) p q at-k →
       Finds Adaptive how n (marked j n l) p q at-j → SameStory at-k at-j
 
--- ---- 4. Faces alone, on named grids that are complete at 1 and not at 2: the adaptive walk is clear, and the plain one hits
+-- ---- 4. Faces alone, on named grids: the adaptive walk is clear, and the plain one hits
+
+-- marks just where a cell shares a face with a solid one; so they are complete at 1, and not at 2
+pub record ByFaces (n : Counts) (l : List ℕ) : Type 0 where
+  pub just : marked 1 n l ≡ l
+  pub complete-at-1 : complete 1 n l ≡ true
+  pub not-at-2 : complete 2 n l ≡ false
 
 -- the plain walk's hit at a tie of three, by its second face
 abbrev pub tie-hit : Cell → Face → Hit
@@ -81,14 +87,14 @@ ball-inside = point (halves 7) (halves 5) (halves 5)
 
 pub record FacesAlone : Type 0 where
   -- solid at (0,1,1), from (0,0,0) to (1,1,1): either rule goes y, z, x
-  pub marks-there : (complete 1 (counts 2 2 2) faces-there ≡ true) × (complete 2 (counts 2 2 2) faces-there ≡ false)
+  pub marks-there : ByFaces (counts 2 2 2) faces-there
   pub plain-there : (how : Manner) → Finds Plain how (counts 2 2 2) faces-there (at 0 0 0) (at 1 1 1) (FirstHit.Hit (tie-hit (at 0 1 1) (Face.Plus Z)))
   pub adaptive-there : (how : Manner) → Finds Adaptive how (counts 2 2 2) faces-there (at 0 0 0) (at 1 1 1) (FirstHit.Clear 2)
   pub two-stories : (how : Manner) → OneStory 1 how (counts 2 2 2) faces-there (at 0 0 0) (at 1 1 1) → ⊥
   -- and back by rule 2 the adaptive walk hits
   pub one-way : AdaptiveBothWays 1 (counts 2 2 2) faces-there (at 0 0 0) (at 1 1 1) → ⊥
   -- solid at (0,1,0), from (1,1,1) to (0,0,0): rule 2 goes x, z, y
-  pub marks-back : (complete 1 (counts 2 2 2) faces-back ≡ true) × (complete 2 (counts 2 2 2) faces-back ≡ false)
+  pub marks-back : ByFaces (counts 2 2 2) faces-back
   pub plain-by-2 : (start : Start) →
       Finds Plain (record { start = start; rule = Two }) (counts 2 2 2) faces-back (at 1 1 1) (at 0 0 0) (FirstHit.Hit (tie-hit (at 0 1 0) (Face.Minus Z)))
   pub adaptive-by-2 : (start : Start) →
@@ -98,7 +104,7 @@ pub record FacesAlone : Type 0 where
   pub by-1 : (w : Walker) (start : Start) →
       Finds w (record { start = start; rule = One }) (counts 2 2 2) faces-back (at 1 1 1) (at 0 0 0) (FirstHit.Clear (tie-reads w))
   -- solid at (2,2,2), from (0,0,0) to (3,2,2): the segment enters its inside, and adaptive walk and sight are clear
-  pub marks-inside : (complete 1 far-counts faces-inside ≡ true) × (complete 2 far-counts faces-inside ≡ false)
+  pub marks-inside : ByFaces far-counts faces-inside
   pub plain-inside : (how : Manner) → Finds Plain how far-counts faces-inside (at 0 0 0) (at 3 2 2) (FirstHit.Hit inside-hit)
   pub adaptive-inside : (how : Manner) → Finds Adaptive how far-counts faces-inside (at 0 0 0) (at 3 2 2) (FirstHit.Clear 4)
   pub seen-inside : (how : Manner) → Sees how far-counts faces-inside one-metre camera-inside ball-inside Sight.Clear

@@ -48,7 +48,7 @@ use Rattle.sight.specs.Sight.{sight, told-sight, blocked}
 use Rattle.claims.specs.Points.{metres, next-above, one-metre, point}
 use Rattle.claims.specs.Tables.{EachRow}
 use Rattle.claims.specs.Example.{counts, at, example-counts, example-cells, marked-cells, set-cells, all-solid}
-use Rattle.claims.specs.Example.{corner-counts, corner-cells, corner-thin, corner-full, far-counts, far-thin, faces-there, faces-back, faces-inside}
+use Rattle.claims.specs.Example.{corner-counts, corner-cells, corner-thin, corner-full, far-counts, far-thin}
 use Rattle.claims.specs.Rules.{low-post}
 use Rattle.claims.specs.Story.{long-bytes}
 use Rattle.claims.specs.Records.{example-venue, example-pair, minus-one-pair}
@@ -359,19 +359,6 @@ shell-rows =
     ∷ complete-at 3 far-counts far-thin false
     ∷ finds Plain usual far-counts far-thin (at 0 0 0) (at 3 2 2) (hit (at 3 2 2) 2 5 6 (Face.Plus X) 8)
     ∷ finds Adaptive usual far-counts far-thin (at 0 0 0) (at 3 2 2) (hit (at 3 2 2) 2 5 6 (Face.Plus X) 4)
-    -- faces alone, as marking at 1 has them: not complete at 2, and the adaptive walk steps over what the plain one hits
-    ∷ marks 1 (counts 2 2 2) faces-there faces-there
-    ∷ complete-at 2 (counts 2 2 2) faces-there false
-    ∷ finds Plain usual (counts 2 2 2) faces-there (at 0 0 0) (at 1 1 1) (hit (at 0 1 1) 2 1 2 (Face.Plus Z) 3)
-    ∷ finds Adaptive usual (counts 2 2 2) faces-there (at 0 0 0) (at 1 1 1) (clear 2)
-    ∷ marks 1 (counts 2 2 2) faces-back faces-back
-    ∷ finds Plain (tested-by Two) (counts 2 2 2) faces-back (at 1 1 1) (at 0 0 0) (hit (at 0 1 0) 2 1 2 (Face.Minus Z) 3)
-    ∷ finds Adaptive (tested-by Two) (counts 2 2 2) faces-back (at 1 1 1) (at 0 0 0) (clear 2)
-    ∷ finds Plain (tested-by One) (counts 2 2 2) faces-back (at 1 1 1) (at 0 0 0) (clear 4)
-    ∷ finds Adaptive (tested-by One) (counts 2 2 2) faces-back (at 1 1 1) (at 0 0 0) (clear 2)
-    ∷ marks 1 far-counts faces-inside faces-inside
-    ∷ finds Plain usual far-counts faces-inside (at 0 0 0) (at 3 2 2) (hit (at 2 2 2) 2 3 4 (Face.Plus Z) 7)
-    ∷ finds Adaptive usual far-counts faces-inside (at 0 0 0) (at 3 2 2) (clear 4)
     ∷ count-rows
 
 -- every case; where a row says nothing else, the start is tested and ties go by rule 1
