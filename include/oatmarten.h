@@ -1,6 +1,6 @@
-/* Oatmarten: exact sight lines through a voxel grid. The C interface, revision 8 (OAT_REVISION).
+/* Oatmarten: exact sight lines through a voxel grid. The C interface, revision 9 (OAT_REVISION).
 
-   Link with liboatmarten.a (x86-64 Linux). docs/C.md has a whole program, docs/SCOPE.md the exact rules, docs/TRUST.md says what is proved
+   Link with liboatmarten.a or liboatmarten.so (x86-64 Linux). docs/C.md has a whole program, docs/SCOPE.md the exact rules, docs/TRUST.md says what is proved
    and what is not.
 
    Every call
@@ -28,7 +28,11 @@ extern "C" {
 #endif
 
 /* Grows by one when a struct, a call or a number of this header changes, or what a call answers. */
-#define OAT_REVISION 8
+#define OAT_REVISION 9
+
+/* The revision of the library that the program was linked with, or has loaded: where it is not OAT_REVISION, header and library do not belong
+   together. It answers a number and no struct, as it cannot refuse. */
+uint32_t oat_revision(void);
 
 /* The field `refusal`, with what it names. Where more than one applies, each call below says the order of its tests; ends are looked at P
    before Q, axes in the order x, y, z. */
@@ -49,6 +53,28 @@ enum oat_refusal {
     OAT_REFUSED_STALE = 13,     /* among the bricks with a named cell one whose mask is not what the bytes give, or a total that cannot be right */
     OAT_REFUSED_CORNERS = 14    /* a box's low corner above its high one on some axis */
 };
+
+/* A refusal in a few words, by its number; any other number has words too. Never null. What the refusal names is beside it in `said`. */
+static inline const char *oat_refusal_words(uint32_t refusal) {
+    switch (refusal) {
+    case OAT_ACCEPTED: return "accepted";
+    case OAT_REFUSED_LIMIT: return "an end beyond the coordinate limit";
+    case OAT_REFUSED_COUNT: return "a count outside 1 to 1024";
+    case OAT_REFUSED_BYTES: return "the number of cell bytes is not nx*ny*nz";
+    case OAT_REFUSED_LAYER: return "no such layer";
+    case OAT_REFUSED_OFF_GRID: return "an end, a cell or a corner outside the grid";
+    case OAT_REFUSED_ROOM: return "too little room for the answer, or too few masks";
+    case OAT_REFUSED_PLACEMENT: return "an origin that is not finite, or an edge that is no length";
+    case OAT_REFUSED_NOT_FINITE: return "a surveyed value not finite";
+    case OAT_REFUSED_OFF_SURVEY: return "a surveyed value outside the grid";
+    case OAT_REFUSED_RECORD: return "a record cut short or of the wrong length";
+    case OAT_REFUSED_VERSION: return "a record of another version";
+    case OAT_REFUSED_RULE: return "a rule that is neither 1 nor 2";
+    case OAT_REFUSED_STALE: return "masks or a total that are not those of the cells";
+    case OAT_REFUSED_CORNERS: return "a low corner above the high one";
+    default: return "no refusal of this revision";
+    }
+}
 
 /* The field `end`. In oat_sight P is the camera and Q the ball; in oat_cell_of the point is P. In oat_set the cell is P; in oat_refill the low
    corner is P and the high one Q. */

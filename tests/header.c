@@ -162,5 +162,10 @@ int main(void) {
     SHOW(oat_listed, oat_line26(least, most, numbers, OAT_LINE26_ROOM - 1));
     SHOW(oat_listed, oat_line_touching(least, most, numbers, OAT_TOUCHING_ROOM));
     SHOW(oat_listed, oat_line_touching(most, least, numbers, OAT_TOUCHING_ROOM - 1));
+
+    /* the revision, and the words of every number that a refusal can have, and of others */
+    printf("revision %u\n", oat_revision());
+    for (uint32_t k = 0; k < 300; k++) printf("words %u %s\n", k, oat_refusal_words(k));
+    printf("words %u %s\n", (uint32_t)-1, oat_refusal_words((uint32_t)-1));
     return 0;
 }

@@ -5,3 +5,4 @@ pub mod WalkCalls
 pub mod SightCalls
 pub mod RecordCalls
 pub mod BrickCalls
+pub mod Revision
