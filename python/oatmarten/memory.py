@@ -1,0 +1,154 @@
+"""Memory that is lent to calls: any object with the buffer protocol, where it lies, without a copy."""
+from __future__ import annotations
+
+import ctypes
+from typing import Any, ContextManager, List, Tuple, Union
+
+# what a call can be lent: bytes, bytearray, memoryview, array.array, mmap.mmap, ctypes arrays, numpy arrays .., or a Lent that is held already
+Buffer = Any
+
+
+class _View(ctypes.Structure):
+    """CPython's Py_buffer."""
+
+    _fields_ = [("buf", ctypes.c_void_p), ("obj", ctypes.c_void_p), ("len", ctypes.c_ssize_t), ("itemsize", ctypes.c_ssize_t),
+                ("readonly", ctypes.c_int), ("ndim", ctypes.c_int), ("format", ctypes.c_char_p), ("shape", ctypes.c_void_p),
+                ("strides", ctypes.c_void_p), ("suboffsets", ctypes.c_void_p), ("internal", ctypes.c_void_p)]
+
+
+_get = ctypes.pythonapi.PyObject_GetBuffer
+_get.argtypes, _get.restype = [ctypes.py_object, ctypes.POINTER(_View), ctypes.c_int], ctypes.c_int
+_release = ctypes.pythonapi.PyBuffer_Release
+_release.argtypes, _release.restype = [ctypes.POINTER(_View)], None
+
+# where memory of no bytes lies: a call takes no null pointer
+_NOWHERE = ctypes.create_string_buffer(16)
+_SOMEWHERE = (ctypes.addressof(_NOWHERE) + 7) // 8 * 8
+
+
+class Lent:
+    """Memory that is held for calls, until it is released: `at` is where it lies, `bytes` how many bytes it has.
+
+    A call holds what it is lent by itself. Holding it once pays where many calls are made over the same memory:
+
+        with Lent(cells) as held:
+            for p, q in lines:
+                oat_plain(n, held, p, q)
+
+    `writable` asks for memory that may be written; without it read-only memory (bytes, a map of a file that was opened for reading) will do. The
+    bytes must lie in one piece, in C order: an array that does not is refused by itself, with a BufferError or a ValueError."""
+
+    __slots__ = ("_view", "at", "bytes", "writable", "_held")
+
+    def __init__(self, thing: Buffer, writable: bool = False) -> None:
+        self._held = False
+        self._view = _View()
+        try:
+            _get(thing, self._view, 1 if writable else 0)
+        except TypeError:
+            raise TypeError("memory to lend is an object with bytes, and %s was given" % type(thing).__name__) from None
+        self._held = True
+        self.writable = writable
+        self.bytes: int = self._view.len
+        self.at: int = self._view.buf if self.bytes else _SOMEWHERE
+
+    def release(self) -> None:
+        """Gives the memory back; what was lent may be closed or resized again."""
+        if self._held:
+            self._held = False
+            _release(self._view)
+
+    def __enter__(self) -> "Lent":
+        return self
+
+    def __exit__(self, *raised: object) -> None:
+        self.release()
+
+    def __del__(self) -> None:
+        self.release()
+
+
+class _Again:
+    """A Lent that someone else holds and releases."""
+
+    __slots__ = ("held",)
+
+    def __init__(self, held: Lent) -> None:
+        self.held = held
+
+    def __enter__(self) -> Lent:
+        return self.held
+
+    def __exit__(self, *raised: object) -> None:
+        pass
+
+
+def lent(thing: Buffer, writable: bool, width: int, what: str) -> ContextManager[Lent]:
+    """Holds memory for one call; its numbers are `width` bytes wide, and have to be aligned so."""
+    held = thing if isinstance(thing, Lent) else Lent(thing, writable)
+    if held is thing:
+        if not held._held:
+            raise ValueError("%s were lent by a Lent that was released" % what)
+        if writable and not held.writable:
+            raise BufferError("%s are to be written, and were lent for reading" % what)
+    if held.at % width:
+        if held is not thing:
+            held.release()
+        raise ValueError("%s are numbers of %d bytes, and do not lie at a multiple of %d" % (what, width, width))
+    return _Again(held) if held is thing else held
+
+
+def apart(written: List[Tuple[str, Lent]], others: List[Tuple[str, Lent]]) -> None:
+    """What a call writes overlaps nothing else that is lent to it."""
+    for k, (name, one) in enumerate(written):
+        for other_name, other in written[k + 1:] + others:
+            if one.at < other.at + other.bytes and other.at < one.at + one.bytes:
+                raise ValueError("%s and %s overlap, and a call that writes takes them apart" % (name, other_name))
+
+
+# ---- numbers and structs that a call takes
+
+_WHOLE = {ctypes.c_uint8: (0, 255), ctypes.c_uint32: (0, 2**32 - 1), ctypes.c_int32: (-(2**31), 2**31 - 1), ctypes.c_uint64: (0, 2**64 - 1)}
+Number = Union[int, float]
+
+
+def number(kind: Any, value: Any, what: str) -> Number:
+    """A number that the type holds: ctypes alone would cut it."""
+    if kind is ctypes.c_double:
+        return float(value)
+    least, most = _WHOLE[kind]
+    try:
+        whole = value.__index__()
+    except AttributeError:
+        raise TypeError("%s is a whole number, and %r was given" % (what, value)) from None
+    if not least <= whole <= most:
+        raise OverflowError("%s is a number from %d to %d, and %d was given" % (what, least, most, whole))
+    return int(whole)
+
+
+def struct(kind: Any, value: Any, what: str) -> Any:
+    """A struct of the header: itself, or one made of as many numbers."""
+    if type(value) is kind:
+        return value
+    try:
+        given = tuple(value)
+    except TypeError:
+        given = ()
+    if len(given) != len(kind._fields_):
+        raise TypeError("%s has %s, and %r was given" % (what, ", ".join(field for field, _ in kind._fields_), value))
+    return kind(*[number(form, one, "%s of %s" % (field, what)) for (field, form), one in zip(kind._fields_, given)])
+
+
+class Struct(ctypes.Structure):
+    """A struct of the header; two are equal where all their fields are."""
+
+    def __repr__(self) -> str:
+        return "%s(%s)" % (type(self).__name__, ", ".join("%s=%r" % (field[0], getattr(self, field[0])) for field in self._fields_))
+
+    def __eq__(self, other: object) -> bool:
+        return type(other) is type(self) and all(getattr(self, f[0]) == getattr(other, f[0]) for f in self._fields_)
+
+    def __iter__(self) -> Any:
+        return (getattr(self, field[0]) for field in self._fields_)
+
+    __hash__ = None  # type: ignore[assignment]

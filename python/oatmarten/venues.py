@@ -1,0 +1,89 @@
+"""Venues: a record where it lies, in a file by memory map or in memory. The bytes of the cells lie x fastest, then y, then z: as an array they are
+a[z, y, x] in C order, of shape (nz, ny, nx)."""
+from __future__ import annotations
+
+import mmap
+import os
+import stat
+import sys
+from typing import Any, Optional, Tuple
+
+from .header import OAT_VENUE_HEAD, oat_counts, oat_read_venue, oat_write_venue
+from .memory import Buffer, Lent
+
+
+class Venue:
+    """A venue's record that was read: `counts` (nx, ny, nz), `cells`, a memoryview of its bytes where they lie, and `rest`, how many bytes follow the
+    record. `held` is the cells for calls, held until the venue is closed:
+
+        with Venue.open("ground.venue") as venue:
+            hit = oat_plain(venue.counts, venue.held, (0, 75, 10), (199, 75, 12))
+
+    With numpy, numpy.frombuffer(venue.cells, numpy.uint8).reshape(nz, ny, nx) is the same bytes as a[z, y, x]."""
+
+    def __init__(self, record: Buffer, writable: bool = False, owner: Any = None) -> None:
+        self._owner = owner
+        self._record = memoryview(record).cast("B") if not isinstance(record, memoryview) or record.format != "B" else record
+        read = oat_read_venue(self._record)
+        self.counts: Tuple[int, int, int] = (read.nx, read.ny, read.nz)
+        self.n = oat_counts(*self.counts)
+        self.offset: int = read.offset
+        self.cells = self._record[read.offset:read.offset + read.length]
+        self.rest: int = len(self._record) - read.offset - read.length
+        self.held = Lent(self.cells, writable)
+
+    @classmethod
+    def open(cls, path: str, writable: bool = False) -> "Venue":
+        """A venue file by memory map, so that it takes no memory of its own: for reading, or (writable) so that what calls write is written to the
+        file. `-` is standard input; that, and whatever cannot be mapped, is read into memory."""
+        if path == "-":
+            return cls(bytearray(sys.stdin.buffer.read()), True)
+        with open(path, "r+b" if writable else "rb") as file:
+            here = os.fstat(file.fileno())
+            if not stat.S_ISREG(here.st_mode) or not here.st_size:
+                return cls(bytearray(file.read()), True)
+            mapped = mmap.mmap(file.fileno(), 0, access=mmap.ACCESS_WRITE if writable else mmap.ACCESS_READ)
+        try:
+            return cls(mapped, writable, mapped)
+        except BaseException:
+            _closed(mapped)
+            raise
+
+    def close(self) -> None:
+        """Gives the memory back; a map that was written reaches its file."""
+        self.held.release()
+        self.cells.release()
+        self._record.release()
+        if self._owner is not None:
+            self._owner.close()
+            self._owner = None
+
+    def __enter__(self) -> "Venue":
+        return self
+
+    def __exit__(self, *raised: object) -> None:
+        self.close()
+
+
+def _closed(mapped: mmap.mmap) -> None:
+    """Closes a map; where an error still holds a part of it, the part goes with the error."""
+    try:
+        mapped.close()
+    except BufferError:
+        pass
+
+
+def record_of(counts: Any, cells: Buffer) -> bytearray:
+    """A venue's record, in memory of its own: the head and the cells."""
+    with Lent(cells) as held:
+        out = bytearray(OAT_VENUE_HEAD + held.bytes)
+        oat_write_venue(counts, held, out)
+    return out
+
+
+def marked_copy(cells: Buffer) -> Optional[mmap.mmap]:
+    """Memory that holds the same bytes and may be written, for marks that are only looked at."""
+    with Lent(cells) as held:
+        copy = mmap.mmap(-1, max(1, held.bytes))
+        copy[:held.bytes] = memoryview(cells).cast("B") if held.bytes else b""
+    return copy
