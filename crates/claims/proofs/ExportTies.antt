@@ -22,6 +22,7 @@ exports-promised =
       of-read-venue = stated.of-read-venue;
       of-read-pair = stated.of-read-pair;
       of-write-venue = stated.of-write-venue;
+      of-revision = stated.of-revision;
     }
 
 pub exports-ask-nothing : ExportsAskNothing
@@ -44,4 +45,5 @@ exports-ask-nothing =
       read-venue-asks = λ κs a. tt;
       read-pair-asks = λ κs a. tt;
       write-venue-asks = λ κs a. tt;
+      revision-asks = λ κs a. tt;
     }

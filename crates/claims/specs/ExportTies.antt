@@ -1,5 +1,6 @@
--- The contracts of which Exports speaks are those that the sources of the seventeen calls for C state, as Ties has it of the calls themselves: a call
+-- The contracts of which Exports speaks are those that the sources of the calls for C state, as Ties has it of the calls themselves: a call
 -- for C asks for nothing, and promises the record of its name, over what C's structs mean. Assumes nothing.
+use mathlib.Core.Path.{_≡_}
 use lib.ListN.{length}
 use Rattle.walks.specs.declared.Walker.the-variants.{Plain, Adaptive}
 use Rattle.structs.specs.Inputs.{as-cell, as-counts, as-start, as-placement, as-point}
@@ -9,6 +10,7 @@ use Rattle.oatmarten.specs.BrickCalls.{FlatBuilds, FlatSets, FlatRefills}
 use Rattle.oatmarten.specs.WalkCalls.{FlatFinds, FlatFindsTouching}
 use Rattle.oatmarten.specs.SightCalls.{FlatLooksUp, FlatSees}
 use Rattle.oatmarten.specs.RecordCalls.{FlatReadsVenue, FlatReadsPair, FlatWritesVenue}
+use Rattle.oatmarten.specs.Revision.{revision}
 use Rattle.oatmarten.proofs.oat_line6.Reads as line6
 use Rattle.oatmarten.proofs.oat_line26.Reads as line26
 use Rattle.oatmarten.proofs.oat_line_touching.Reads as line-touching
@@ -26,6 +28,7 @@ use Rattle.oatmarten.proofs.oat_sight.Reads as sight
 use Rattle.oatmarten.proofs.oat_read_venue.Reads as read-venue
 use Rattle.oatmarten.proofs.oat_read_pair.Reads as read-pair
 use Rattle.oatmarten.proofs.oat_write_venue.Reads as write-venue
+use Rattle.oatmarten.proofs.oat_revision.Reads as answered
 
 -- what each call promises
 pub record ExportsPromised : Type 1 where
@@ -61,6 +64,7 @@ pub record ExportsPromised : Type 1 where
   pub of-read-pair : (κs : _) (a : _) (r : _) (e : _) → read-pair.Post κs a r e → FlatReadsPair (a .0 .now) r
   pub of-write-venue : (κs : _) (a : _) (r : _) (e : _) → write-venue.Post κs a r e →
       FlatWritesVenue (as-counts (a .0)) (a .1 .0 .now) (a .1 .1 .0 .now) r (e .1 .1 .0 .now)
+  pub of-revision : (κs : _) (a : _) (r : _) (e : _) → answered.Post κs a r e → r ≡ revision
 
 -- what each call asks for: nothing, of any inputs
 pub record ExportsAskNothing : Type 1 where
@@ -81,3 +85,4 @@ pub record ExportsAskNothing : Type 1 where
   pub read-venue-asks : (κs : _) (a : _) → read-venue.Pre κs a
   pub read-pair-asks : (κs : _) (a : _) → read-pair.Pre κs a
   pub write-venue-asks : (κs : _) (a : _) → write-venue.Pre κs a
+  pub revision-asks : (κs : _) (a : _) → answered.Pre κs a

@@ -1,4 +1,4 @@
--- What is claimed of the calls for C, by the contracts of the seventeen exports (ExportTies: they are the sources' own). Assumes nothing.
+-- What is claimed of the calls for C, by the contracts of those exports that answer a struct (ExportTies: they are the sources' own). Assumes nothing.
 use Prim.Native.Nat.{ℕ, _≤_}
 use mathlib.Core.Path.{_≡_}
 use mathlib.Core.List.{List, [], _∷_}

@@ -1,5 +1,6 @@
--- What the sources of the seventeen calls promise is the record of each one's name: `Post` is a call's `ensures` as the toolchain reads it, of the call's
+-- What the sources of the calls promise is the record of each one's name: `Post` is a call's `ensures` as the toolchain reads it, of the call's
 -- inputs a, its answer r and the memory at exit e. A weaker `ensures` fails here, in its own crate. Assumes nothing.
+use mathlib.Core.Path.{_≡_}
 use lib.ListN.{length}
 use Rattle.walks.specs.declared.Walker.the-variants.{Plain, Adaptive}
 use Rattle.structs.specs.Inputs.{as-cell, as-counts, as-start, as-placement, as-point}
@@ -9,6 +10,7 @@ use Rattle.oatmarten.specs.BrickCalls.{FlatBuilds, FlatSets, FlatRefills
 use Rattle.oatmarten.specs.WalkCalls.{FlatFinds, FlatFindsTouching}
 use Rattle.oatmarten.specs.SightCalls.{FlatLooksUp, FlatSees}
 use Rattle.oatmarten.specs.RecordCalls.{FlatReadsVenue, FlatReadsPair, FlatWritesVenue}
+use Rattle.oatmarten.specs.Revision.{revision}
 use Rattle.oatmarten.proofs.line_calls.oat_line6.Reads as line6
 use Rattle.oatmarten.proofs.line_calls.oat_line26.Reads as line26
 use Rattle.oatmarten.proofs.line_calls.oat_line_touching.Reads as line-touching
@@ -26,6 +28,7 @@ use Rattle.oatmarten.proofs.sight_calls.oat_sight.Reads as sight
 use Rattle.oatmarten.proofs.record_calls.oat_read_venue.Reads as read-venue
 use Rattle.oatmarten.proofs.record_calls.oat_read_pair.Reads as read-pair
 use Rattle.oatmarten.proofs.record_calls.oat_write_venue.Reads as write-venue
+use Rattle.oatmarten.proofs.revision.oat_revision.Reads as answered
 
 pub of-line6 : (κs : _) (a : _) (r : _) (e : _) → line6.Post κs a r e →
     FlatLine6 (a .1 .1 .0) (as-cell (a .0)) (as-cell (a .1 .0)) (a .1 .1 .1 .0 .now) r (e .1 .1 .1 .0 .now)
@@ -89,3 +92,6 @@ of-read-pair κs a r e h = h
 pub of-write-venue : (κs : _) (a : _) (r : _) (e : _) → write-venue.Post κs a r e →
     FlatWritesVenue (as-counts (a .0)) (a .1 .0 .now) (a .1 .1 .0 .now) r (e .1 .1 .0 .now)
 of-write-venue κs a r e h = h
+
+pub of-revision : (κs : _) (a : _) (r : _) (e : _) → answered.Post κs a r e → r ≡ revision
+of-revision κs a r e h = h
