@@ -37,7 +37,10 @@ def aside(path: str) -> Iterator[BinaryIO]:
     # a link stays a link: what it leads to is replaced
     path = path if through else os.path.realpath(path)
     folder = None if through else os.path.dirname(path) or "."
-    handle, name = tempfile.mkstemp(prefix=".oatmarten-", dir=folder)
+    try:
+        handle, name = tempfile.mkstemp(prefix=".oatmarten-", dir=folder)
+    except OSError as wrong:
+        raise OSError(wrong.errno, wrong.strerror, path) from None
     try:
         with os.fdopen(handle, "w+b") as file:
             yield file

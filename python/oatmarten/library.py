@@ -23,14 +23,17 @@ class Refused(Exception):
 
     ENDS = ("", "P", "Q")
     AXES = ("", "x", "y", "z", "edge")
+    # for whoever tells it: what the refusal is about, and what P and Q are called
+    about = ""
+    called = ("P", "Q")
 
     def __init__(self, call: str, number: int, end: int, axis: int, words: str) -> None:
         self.call, self.number, self.end, self.axis, self.words = call, number, self.ENDS[end], self.AXES[axis], words
         super().__init__(call, number, end, axis, words)
 
     def __str__(self) -> str:
-        names = ", ".join(name for name in (self.end, self.axis) if name)
-        return "refused %d: %s%s" % (self.number, self.words, " (%s)" % names if names else "")
+        names = [dict(zip("PQ", self.called)).get(self.end, ""), self.axis]
+        return "%srefused %d: %s%s" % (self.about, self.number, self.words, "".join(", " + name for name in names if name))
 
 
 def candidates(revision: int) -> List[pathlib.Path]:

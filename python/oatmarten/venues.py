@@ -6,7 +6,7 @@ import mmap
 import os
 import stat
 import sys
-from typing import Any, Optional, Tuple
+from typing import Any, BinaryIO, Tuple
 
 from .header import OAT_VENUE_HEAD, oat_counts, oat_read_venue, oat_write_venue
 from .memory import Buffer, Lent
@@ -39,10 +39,15 @@ class Venue:
         if path == "-":
             return cls(bytearray(sys.stdin.buffer.read()), True)
         with open(path, "r+b" if writable else "rb") as file:
-            here = os.fstat(file.fileno())
-            if not stat.S_ISREG(here.st_mode) or not here.st_size:
-                return cls(bytearray(file.read()), True)
-            mapped = mmap.mmap(file.fileno(), 0, access=mmap.ACCESS_WRITE if writable else mmap.ACCESS_READ)
+            return cls.of(file, writable)
+
+    @classmethod
+    def of(cls, file: BinaryIO, writable: bool = False) -> "Venue":
+        """The same of a file that is open already, which may be closed afterwards."""
+        here = os.fstat(file.fileno())
+        if not stat.S_ISREG(here.st_mode) or not here.st_size:
+            return cls(bytearray(file.read()), True)
+        mapped = mmap.mmap(file.fileno(), 0, access=mmap.ACCESS_WRITE if writable else mmap.ACCESS_READ)
         try:
             return cls(mapped, writable, mapped)
         except BaseException:
@@ -81,8 +86,8 @@ def record_of(counts: Any, cells: Buffer) -> bytearray:
     return out
 
 
-def marked_copy(cells: Buffer) -> Optional[mmap.mmap]:
-    """Memory that holds the same bytes and may be written, for marks that are only looked at."""
+def copied(cells: Buffer) -> mmap.mmap:
+    """The same bytes in memory of their own, that may be written."""
     with Lent(cells) as held:
         copy = mmap.mmap(-1, max(1, held.bytes))
         copy[:held.bytes] = memoryview(cells).cast("B") if held.bytes else b""
