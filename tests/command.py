@@ -1,0 +1,404 @@
+#!/usr/bin/env python3
+"""Holds the command `oatmarten` against the independent program and against the library: answers, words, statuses, refusals and bad input of every
+command, files that are written whole or not at all. Exits 0 only where all agreed. Run it by tests/gate/python."""
+import contextlib
+import io
+import json
+import os
+import pathlib
+import random
+import resource
+import signal
+import struct
+import subprocess
+import sys
+import tempfile
+import time
+
+HERE = pathlib.Path(__file__).resolve().parent
+sys.path.insert(0, str(HERE.parent / "python"))
+import oatmarten as oat  # noqa: E402
+from oatmarten import command, looking  # noqa: E402
+
+WORK = pathlib.Path(tempfile.mkdtemp(prefix="oatmarten-"))
+ENV = {**os.environ, "PYTHONPATH": str(HERE.parent / "python")}
+COMMAND = [sys.executable, "-m", "oatmarten"]
+
+
+def fail(what):
+    print("command: " + what)
+    sys.exit(1)
+
+
+def same(what, got, expected):
+    if got != expected:
+        fail("%s\n  got      %s\n  expected %s" % (what, got, expected))
+
+
+def asked(*words):
+    """What the command says in this process: status, standard output, standard error."""
+    out, err = io.StringIO(), io.StringIO()
+    with contextlib.redirect_stdout(out), contextlib.redirect_stderr(err):
+        try:
+            status = command.main([str(word) for word in words])
+        except SystemExit as ended:
+            status = ended.code
+    return status, out.getvalue(), err.getvalue()
+
+
+def as_json(*words):
+    status, out, _ = asked(*words, "--json")
+    return status, json.loads(out)
+
+
+def run(*words, **named):
+    """The same as a process of its own."""
+    return subprocess.run([*COMMAND, *map(str, words)], env=ENV, stdout=subprocess.PIPE, stderr=subprocess.PIPE, **named)
+
+
+def independent(calls):
+    told = subprocess.run([str(HERE / "independent")], input="".join(call + "\n" for call in calls), stdout=subprocess.PIPE, text=True, check=True)
+    return told.stdout.splitlines()
+
+
+# ---- venues and lines
+
+def venue(chance, name):
+    """A random venue file, with marks, without, or with some missing: counts, cells and path."""
+    counts = [chance.randint(1, 7) for _ in range(3)]
+    cells = bytearray(chance.choice((0, 0, 0, 0, 0, 1, 2, 2, 3, 255)) for _ in range(counts[0] * counts[1] * counts[2]))
+    if chance.random() < 0.6:
+        oat.oat_mark(counts, cells)
+    if chance.random() < 0.3:
+        cells[chance.randrange(len(cells))] = 0
+    path = WORK / name
+    path.write_bytes(oat.record_of(counts, cells) + b"rest" * chance.randrange(2))
+    return counts, cells, path
+
+
+def grid_words(counts, cells):
+    return " ".join(map(str, [*counts, len(cells), *cells]))
+
+
+def ends(chance, counts, off=0.1):
+    """Two cells, now and then outside."""
+    return [[chance.randint(-1, n) if chance.random() < off else chance.randrange(n) for n in counts] for _ in range(2)]
+
+
+def plain_words(numbers):
+    """A hit of --json in the words of tests/independent."""
+    if not numbers["hit"]:
+        return "clear %d" % numbers["reads"]
+    return "hit %s %d %d %d %s %d" % (" ".join(map(str, numbers["cell"])), numbers["code"], *numbers["place"], numbers["face"], numbers["reads"])
+
+
+def refused_words(numbers):
+    return "refused %d %s %s" % (numbers["refused"], numbers["end"] or "-", numbers["axis"] or "-")
+
+
+# ---- each command against the independent program
+
+def hits(chance):
+    calls, got, blocked, differ = [], [], 0, 0
+    for k in range(300):
+        counts, cells, path = venue(chance, "hit.venue")
+        (p, q), start, rule = ends(chance, counts), chance.choice(("tested", "untested")), chance.choice((1, 2))
+        status, said = as_json("hit", path, *p, *q, "--start", start, "--rule", rule)
+        for name, walk in (("plain", "plain"), ("adapt", "adaptive")):
+            calls.append("%s %s %s %d %d" % (name, grid_words(counts, cells), " ".join(map(str, p + q)), start == "untested", rule))
+            got.append(refused_words(said) if "refused" in said else plain_words(said[walk]))
+        if "refused" in said:
+            same("status of a refusal", status, 2)
+        else:
+            same("status of hit", status, int(said["plain"]["hit"]))
+            without = [{k: v for k, v in said[walk].items() if k != "reads"} for walk in ("plain", "adaptive")]
+            same("whether they agree", said["agree"], without[0] == without[1])
+            blocked, differ = blocked + status, differ + (not said["agree"])
+    for call, one, other in zip(calls, got, independent(calls)):
+        same(call, one, other)
+    print("command: hit, %d answers of both walks agree, %d lines blocked, %d where the walks differ" % (len(calls), blocked, differ))
+
+
+def sights(chance):
+    calls, got = [], []
+    for k in range(200):
+        counts, cells, path = venue(chance, "sight.venue")
+        origin, edge = [chance.uniform(-5, 5) for _ in range(3)], chance.choice((0.25, 1.0, 0.7))
+        points = [[o + edge * chance.uniform(-0.05, n + 0.05) for o, n in zip(origin, counts)] for _ in range(2)]
+        if chance.random() < 0.05:
+            points[0][1] = chance.choice((float("nan"), float("inf"), float("-inf")))
+        start, rule = chance.choice(("tested", "untested")), chance.choice((1, 2))
+        status, said = as_json("sight", path, "--origin", *origin, "--edge", edge, *points[0], *points[1], "--start", start, "--rule", rule)
+        bits = [struct.unpack("<Q", struct.pack("<d", v))[0] for v in [*origin, edge, *points[0], *points[1]]]
+        calls.append("sight %s %s %d %d" % (grid_words(counts, cells), " ".join(map(str, bits)), start == "untested", rule))
+        if "refused" in said:
+            got.append(refused_words(said))
+            same("status of a refused sight", status, 2)
+        else:
+            share, = struct.unpack("<Q", struct.pack("<d", said.get("share", 0.0)))
+            got.append("blocked %d %s %d %d %s" % (share, " ".join(map(str, said["cell"])), said["code"], said["reads"], said["face"]) if said["blocked"] else "clear")
+            same("status of sight", status, int(said["blocked"]))
+    for call, one, other in zip(calls, got, independent(calls)):
+        same(call, one, other)
+    print("command: sight, %d answers agree" % len(calls))
+
+
+def lists(chance):
+    calls, got = [], []
+    for k in range(120):
+        p, q = [[chance.randint(-9, 9) * chance.choice((1, 1, 1, 1000)) for _ in range(3)] for _ in range(2)]
+        line = chance.choice(("6", "26", "touching"))
+        rule = chance.choice((1, 2))
+        status, said = as_json("list", line, *p, *q, *(["--rule", rule] if line == "6" else []))
+        calls.append("%s %s%s 500000" % ({"6": "six", "26": "tw6", "touching": "touch"}[line], " ".join(map(str, p + q)), " %d" % rule if line == "6" else ""))
+        got.append(refused_words(said) if "refused" in said else " ".join(map(str, [n for cell in said["cells"] for n in cell])))
+        same("status of list", status, 2 if "refused" in said else 0)
+        if k < 6 and "cells" in said:
+            same("the same in words", asked("list", line, *p, *q, *(["--rule", rule] if line == "6" else []))[1], "".join("%d %d %d\n" % tuple(c) for c in said["cells"]))
+    for call, one, other in zip(calls, got, independent(calls)):
+        same(call, one, other.split(" ;")[0] if one.startswith("refused") else " ".join(other.split(" ; ")[1].split()[:3 * int(other.split()[1])]) if other.startswith("ok") else other)
+    print("command: list, %d lists agree" % len(calls))
+
+
+def infos(chance):
+    calls, got, missing = [], [], 0
+    for k in range(120):
+        counts, cells, path = venue(chance, "info.venue")
+        status, said = as_json("info", path)
+        same("kinds", [said["counts"], said["clear"], said["near"], said["solid"]],
+             [counts, cells.count(0), cells.count(1), {str(code): cells.count(code) for code in range(2, 256) if code in cells}])
+        same("status of info", status, int(not said["complete"]))
+        out = WORK / "marked.venue"
+        same("status of mark", asked("mark", path, "-o", out)[0], 0)
+        data = out.read_bytes()
+        same("what is around the cells", (data[:11], data[11 + len(cells):]), (path.read_bytes()[:11], path.read_bytes()[11 + len(cells):]))
+        calls += ["%s %s 1" % (name, grid_words(counts, cells)) for name in ("complete", "mark")]
+        marked = data[11:11 + len(cells)]
+        got += ["yes" if said["complete"] else "no", "ok ; " + " ".join(map(str, marked))]
+        gone = [i for i in range(len(cells)) if cells[i] == 0 and marked[i] == 1]
+        same("missing marks", [said["missing"], said["first_missing"]], [len(gone), list(looking.cell_at(counts, gone[0])) if gone else None])
+        same("needless marks", said["needless"], sum(cells[i] == 1 and marked[i] == 0 for i in range(len(cells))))
+        same("complete", said["complete"], not gone)
+        missing += bool(gone)
+    for call, one, other in zip(calls, got, independent(calls)):
+        same(call, one, other)
+    print("command: info and mark, %d venues agree, %d of them with marks missing" % (len(calls) // 2, missing))
+
+
+def compares(chance):
+    calls, due = [], []
+    for k in range(8):
+        counts, cells, path = venue(chance, "compare.venue")
+        start, rule, seed = chance.choice(("tested", "untested")), chance.choice((1, 2)), chance.randrange(1000)
+        status, said = as_json("compare", path, "--lines", 60, "--seed", seed, "--start", start, "--rule", rule)
+        due.append((status, said))
+        for line in looking.lines(tuple(counts), 60, seed):
+            calls += ["%s %s %s %d %d" % (name, grid_words(counts, cells), " ".join(map(str, line[0] + line[1])), start == "untested", rule) for name in ("plain", "adapt")]
+    told = independent(calls)
+    for k, (status, said) in enumerate(due):
+        walks = [word.rsplit(" ", 1) for word in told[120 * k:120 * k + 120]]
+        reads = [sum(int(n) for _, n in walks[side::2]) for side in (0, 1)]
+        agreed = sum(walks[i][0] == walks[i + 1][0] for i in range(0, 120, 2))
+        same("compare", [said["lines"], said["agreed"], said["differing"], said["plain_reads"], said["adaptive_reads"], said["blocked"]],
+             [60, agreed, 60 - agreed, *reads, sum(word[0] != "clear" for word in walks[0::2])])
+        same("status of compare", status, int(agreed < 60))
+        same("the first that differs", said["first"] is None, agreed == 60)
+    print("command: compare, %d lines by both walks agree with the independent program" % (60 * len(due)))
+
+
+# ---- words, errors, files
+
+def one_sentence(what, ended):
+    """One line on standard error that begins with the command's name, and no traceback."""
+    lines = ended.stderr.decode().splitlines()
+    if ended.returncode != 2 or len(lines) != 1 or not lines[0].startswith("oatmarten"):
+        fail("%s: status %d, standard error %r" % (what, ended.returncode, ended.stderr))
+    return lines[0]
+
+
+def wrong_words():
+    good = WORK / "good.venue"
+    good.write_bytes(oat.record_of((4, 2, 1), bytes([1, 1, 1, 0, 1, 2, 1, 0])))
+    short, empty, version, counts = (WORK / name for name in ("short", "empty", "version", "counts"))
+    short.write_bytes(good.read_bytes()[:-1])
+    empty.write_bytes(b"")
+    version.write_bytes(good.read_bytes()[:4] + b"\2" + good.read_bytes()[5:])
+    counts.write_bytes(struct.pack(">IB3H", 7, 1, 0, 2, 1))
+    line, survey = "0 0 0 3 1 0".split(), "--origin 0 0 0 --edge 1 0.5 0.5 0.5 3.5 1.5 0.5".split()
+    out = ["-o", WORK / "never"]
+    over_files = {"info": [], "mark": out, "hit": line, "sight": survey, "compare": [], "picture": [*line, *out], "coverage": ["--layer", 0, "--camera", 0, 0, 0, *out]}
+    tried = 0
+    for name, rest in over_files.items():
+        for file, words in ((short, "refused 10"), (empty, "refused 10"), (version, "refused 11"), (counts, "refused 2"), (WORK / "none", "No such file"), (WORK, "Is a directory")):
+            said = one_sentence("%s of %s" % (name, file.name), run(name, file, *rest))
+            if words not in said or str(file) not in said:
+                fail("%s of %s says %s" % (name, file.name, said))
+            tried += 1
+    for words, part in [([], "say a command"), (["fly"], "invalid choice"), (["info"], "required"), (["info", good, "more"], "unrecognized"), (["info", good, "--loud"], "unrecognized"),
+                        (["hit", good, *line[:5]], "expected 3 arguments"), (["hit", good, *line[:5], "x"], "no whole number"), (["hit", good, *line[:5], "1.5"], "no whole number"),
+                        (["hit", good, *line[:5], "9"], "refused 5"), (["hit", good, *line[:5], 2**31], "from -2147483648 to 2147483647"), (["hit", good, *line, "--rule", 3], "invalid choice"),
+                        (["hit", good, *line, "--start", "solid"], "invalid choice"), (["sight", good, *survey[4:]], "required"), (["sight", good, *survey[:-1], "nine"], "no number"),
+                        (["sight", good, *survey[:-1], "1e300"], "refused 9"), (["sight", good, *survey[:-1], "-1e-3"], "refused 9: a surveyed value outside the grid, ball, z"),
+                        (["sight", good, *survey[:5], "-1", *survey[6:]], "refused 7"), (["list", "18", *line], "invalid choice"), (["list", "26", *line, "--rule", 1], "knows none"),
+                        (["list", "6", *line[:5], 8192], "refused 1"), (["compare", good, "--lines", 0], "not above 0"), (["mark", good], "required"),
+                        (["mark", good, "-o", WORK / "no" / "where"], "No such file"), (["mark", good, "-o", WORK], "Is a directory"), (["picture", good, *line, "--layer", 7, *out], "refused 4"),
+                        (["coverage", good, "--layer", 0, *out], "name a camera"), (["coverage", good, "--layer", 0, "--camera", 9, 0, 0, *out], "refused 5"),
+                        (["make", WORK / "none", *out], "cannot be read"), (["make", good], "required")]:
+        said = one_sentence(" ".join(map(str, words)), run(*words))
+        if part not in said:
+            fail("%s says %s" % (words, said))
+        tried += 1
+    same("files of commands that failed", [name for name in os.listdir(WORK) if name in ("never", "no") or name.startswith(".")], [])
+    for name in (None, *over_files, "list", "make"):
+        told = run(*([name] if name else []), "--help")
+        same("help of %s" % name, (told.returncode, told.stdout.startswith(b"usage: oatmarten"), told.stderr), (0, True, b""))
+    print("command: %d wrong words and files, each told in one sentence with status 2, and nothing written; help for each command" % tried)
+
+
+def streams():
+    """Standard input and output; outputs that fail, or are interrupted, leave no file and a status that is not 0."""
+    good = WORK / "good.venue"
+    same("info of standard input", run("info", "-", stdin=good.open("rb")).stdout, run("info", good).stdout)
+    told = run("mark", "-", "-o", "-", stdin=good.open("rb"))
+    same("mark from standard input to standard output", (told.returncode, told.stdout), (0, good.read_bytes()))
+    one_sentence("nothing on standard input", run("info", "-", stdin=subprocess.DEVNULL))
+    if os.path.exists("/dev/full"):
+        for words in (["info", good], ["list", "6", *"000999"], ["--version"]):
+            with open("/dev/full", "wb") as full:
+                ended = subprocess.run([*COMMAND, *map(str, words)], env=ENV, stdout=full, stderr=subprocess.PIPE)
+            one_sentence("%s to a full disk" % words, ended)
+        one_sentence("mark to a full disk", run("mark", good, "-o", "/dev/full"))
+    else:
+        print("command: a full disk SKIPPED, there is no /dev/full")
+    # a reader that goes away
+    reader = subprocess.Popen([*COMMAND, "list", "6", *"0 0 0 8000 8000 8000".split()], env=ENV, stdout=subprocess.PIPE, stderr=subprocess.PIPE)
+    reader.stdout.close()
+    same("a closed pipe", (reader.stderr.read().count(b"\n"), reader.wait()), (1, 2))
+    large(good)
+    print("command: standard input and output, a full disk, a closed pipe, a limit on the size of files, an interruption: no half file, and a status that is not 0")
+
+
+def large(good):
+    """A large output under a limit, and one that is interrupted."""
+    big, out = WORK / "big.venue", WORK / "big.marked"
+    with big.open("wb") as file:
+        file.write(struct.pack(">IB3H", 7 + 2**26, 1, 1024, 1024, 64))
+        file.truncate(11 + 2**26)
+
+    def limited():
+        signal.signal(signal.SIGXFSZ, signal.SIG_IGN)
+        resource.setrlimit(resource.RLIMIT_FSIZE, (2**24, 2**24))
+    one_sentence("a limit on the size of files", run("mark", big, "-o", out, preexec_fn=limited))
+    for number in (signal.SIGINT, signal.SIGTERM):
+        process = subprocess.Popen([*COMMAND, "compare", str(big), "--lines", "100000000"], env=ENV, stdout=subprocess.PIPE, stderr=subprocess.PIPE)
+        time.sleep(0.5)
+        process.send_signal(number)
+        out_said, err_said = process.communicate(timeout=60)
+        same("interrupted by %d" % number, (process.returncode, b"Traceback" in err_said, out_said), (128 + number, False, b""))
+    same("what is left", [name for name in os.listdir(WORK) if name.startswith((".", "big.marked"))], [])
+
+
+def in_place():
+    """A venue of 1024 x 1024 x 64 cells, by memory map: marked in the file, and looked at there."""
+    path, chance = WORK / "big.venue", random.Random(5)
+    solid = [(chance.randrange(1024), chance.randrange(1024), chance.randrange(64)) for _ in range(200)]
+    with oat.Venue.open(str(path), writable=True) as venue:
+        for x, y, z in solid:
+            venue.cells[x + 1024 * (y + 1024 * z)] = 9
+        same("before", oat.oat_complete(venue.counts, venue.held).yes, 0)
+        oat.oat_mark(venue.counts, venue.held)
+        same("after", oat.oat_complete(venue.counts, venue.held).yes, 1)
+    near = {(x + a, y + b, z + c) for x, y, z in solid for a in (-1, 0, 1) for b in (-1, 0, 1) for c in (-1, 0, 1)
+            if 0 <= x + a < 1024 and 0 <= y + b < 1024 and 0 <= z + c < 64} - set(solid)
+    data = path.read_bytes()
+    same("the length of the file", len(data), 11 + 2**26)
+    same("cells that are marked", {looking.cell_at((1024, 1024, 64), i - 11) for i in indices(data, 1)}, near)
+    status, said = as_json("info", path)
+    same("info of it", (status, said["near"], said["solid"], said["complete"]), (0, len(near), {"9": len(set(solid))}, True))
+    with oat.Venue.open(str(path)) as venue:
+        try:
+            oat.oat_mark(venue.counts, venue.cells)
+            fail("a map for reading was marked")
+        except BufferError:
+            pass
+    print("command: a venue of 1024 x 1024 x 64 marked and looked at in its file")
+
+
+def indices(data, byte):
+    at = data.find(bytes([byte]), 11)
+    while at >= 0:
+        yield at
+        at = data.find(bytes([byte]), at + 1)
+
+
+def memories():
+    """What may be lent, and what is not taken."""
+    import array
+    n, cells = (4, 2, 1), bytes([0, 0, 0, 0, 0, 2, 0, 0])
+    for what, lent, error in (("a number", 7, TypeError), ("every other byte", memoryview(bytearray(16))[::2], (BufferError, ValueError)), ("a list", [0] * 8, TypeError)):
+        try:
+            oat.oat_plain(n, lent, (0, 0, 0), (3, 1, 0))
+            fail("%s was lent" % what)
+        except error:
+            pass
+    both = bytearray(64)
+    for what, call in (("overlap", lambda: oat.oat_write_venue(n, memoryview(both)[:8], memoryview(both)[4:])),
+                       ("not aligned", lambda: oat.oat_build(n, cells, memoryview(bytearray(64))[1:])),
+                       ("released", lambda: oat.oat_plain(n, gone, (0, 0, 0), (3, 1, 0)))):
+        gone = oat.Lent(cells)
+        gone.release()
+        try:
+            call()
+            fail("memory was lent that is %s" % what)
+        except ValueError:
+            pass
+    for what, call in (("a coordinate", lambda: oat.oat_plain(n, cells, (0, 0, 0), (2**31, 0, 0))), ("a rule", lambda: oat.oat_line6((0, 0, 0), (1, 0, 0), array.array("i", [0] * 9), 2**32)),
+                       ("a byte", lambda: oat.oat_set(n, bytearray(cells), array.array("Q", [32]), 1, (0, 0, 0), 256)), ("a total", lambda: oat.oat_set(n, bytearray(cells), array.array("Q", [32]), -1, (0, 0, 0), 2))):
+        try:
+            call()
+            fail("%s was cut" % what)
+        except OverflowError:
+            pass
+    held = bytearray(cells)
+    with oat.Lent(held):
+        try:
+            held.append(0)
+            fail("memory that is held was resized")
+        except BufferError:
+            pass
+    held.append(0)
+    try:
+        import numpy
+    except ImportError:
+        print("command: numpy SKIPPED, it is not there")
+    else:
+        a = numpy.zeros((1, 2, 4), numpy.uint8)
+        a[0, 1, 1] = 2
+        oat.oat_mark(n, a)
+        same("a numpy array, marked where it lies", a.tobytes(), bytes([1, 1, 1, 0, 1, 2, 1, 0]))
+    print("command: memory that cannot be lent, overlaps, is not aligned or was given back is not taken, and no number is cut")
+
+
+def libraries():
+    """The library that OATMARTEN_LIBRARY names; what is no library is told in a sentence."""
+    for name, words in ((str(WORK / "none.so"), "cannot be loaded"), (str(WORK / "good.venue"), "cannot be loaded"), ("libc.so.6", "cannot be loaded")):
+        ended = subprocess.run([*COMMAND, "list", "6", *"000111"], env={**ENV, "OATMARTEN_LIBRARY": name}, stdout=subprocess.PIPE, stderr=subprocess.PIPE)
+        said = one_sentence("the library " + name, ended)
+        if words not in said:
+            fail("the library %s: %s" % (name, said))
+    print("command: a library that is none is told in a sentence")
+
+
+def main():
+    chance = random.Random(20)
+    for test in (hits, sights, lists, infos, compares):
+        test(chance)
+    for test in (wrong_words, streams, in_place, memories, libraries):
+        test()
+
+
+try:
+    main()
+finally:
+    import shutil
+    shutil.rmtree(WORK, ignore_errors=True)
