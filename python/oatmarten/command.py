@@ -257,7 +257,7 @@ def coverage(asked: argparse.Namespace, say: Said) -> int:
 
 def cameras_of(asked: argparse.Namespace) -> Tuple[List[str], List[Tuple[int, int, int]]]:
     """The cameras that were named one by one, and those of a description."""
-    names, cells = [str(k) for k, _ in enumerate(asked.camera, 1)], [tuple(cell) for cell in asked.camera]
+    names, cells = [str(k) for k, _ in enumerate(asked.camera, 1)], [(x, y, z) for x, y, z in asked.camera]
     if asked.cameras:
         from . import descriptions
         for spot in descriptions.read(asked.cameras).cameras:

@@ -5,11 +5,13 @@ from __future__ import annotations
 
 import ctypes
 import enum
-from typing import Any, Dict, Iterable, Union
+from typing import Dict, Iterable, TypeVar, Union
 
 from . import library
 from .library import Refused
 from .memory import Buffer, Struct, apart, lent, number, struct
+
+Answer = TypeVar("Answer", bound=Struct)
 
 
 # Grows by one when a struct, a call or a number of this header changes, or what a call answers.
@@ -392,7 +394,7 @@ def oat_refusal_words(refusal: int) -> str:
     return WORDS.get(refusal, "no refusal of this revision")
 
 
-def _accepted(call: str, answer: Any) -> Any:
+def _accepted(call: str, answer: Answer) -> Answer:
     """The answer, or what it says of a refusal, raised."""
     said = answer.said
     if said.refusal:
@@ -434,8 +436,8 @@ def oat_line6(p: CellLike, q: CellLike, out: Buffer, rule: int = OAT_RULE_1) -> 
     cells share a face; the line has every cell whose inside the segment between the two centres enters. Ties go by `rule`, a number of enum
     oat_rule."""
     with lent(out, True, 4, "out") as lent_out:
-        answer = library.load().oat_line6(struct(oat_cell, p, "p"), struct(oat_cell, q, "q"), number(ctypes.c_uint32, rule, "rule"), lent_out.at,
-            lent_out.bytes // 4)
+        answer: oat_listed = library.load().oat_line6(struct(oat_cell, p, "p"), struct(oat_cell, q, "q"), number(ctypes.c_uint32, rule, "rule"),
+            lent_out.at, lent_out.bytes // 4)
     return _accepted("oat_line6", answer)
 
 
@@ -444,7 +446,7 @@ def oat_line26(p: CellLike, q: CellLike, out: Buffer) -> oat_listed:
     or a corner. On an axis with difference D, cell number m (from 0) has moved m*D/M cells towards q, rounded to the nearest; a half is rounded
     up, so towards q."""
     with lent(out, True, 4, "out") as lent_out:
-        answer = library.load().oat_line26(struct(oat_cell, p, "p"), struct(oat_cell, q, "q"), lent_out.at, lent_out.bytes // 4)
+        answer: oat_listed = library.load().oat_line26(struct(oat_cell, p, "p"), struct(oat_cell, q, "q"), lent_out.at, lent_out.bytes // 4)
     return _accepted("oat_line26", answer)
 
 
@@ -459,7 +461,7 @@ def oat_line_touching(p: CellLike, q: CellLike, out: Buffer) -> oat_listed:
     and where `room` is so many the cells need not be counted first. The longest, from one corner of the limits to the opposite one, has 114,682
     cells."""
     with lent(out, True, 4, "out") as lent_out:
-        answer = library.load().oat_line_touching(struct(oat_cell, p, "p"), struct(oat_cell, q, "q"), lent_out.at, lent_out.bytes // 4)
+        answer: oat_listed = library.load().oat_line_touching(struct(oat_cell, p, "p"), struct(oat_cell, q, "q"), lent_out.at, lent_out.bytes // 4)
     return _accepted("oat_line_touching", answer)
 
 
@@ -467,7 +469,7 @@ def oat_mark(n: CountsLike, cells: Buffer) -> oat_verdict:
     """Marks the near cells in place: each solid byte stays; any other becomes OAT_NEAR where its cell touches a solid one, else OAT_CLEAR, whatever
     it was."""
     with lent(cells, True, 1, "cells") as lent_cells:
-        answer = library.load().oat_mark(struct(oat_counts, n, "n"), lent_cells.at, lent_cells.bytes)
+        answer: oat_verdict = library.load().oat_mark(struct(oat_counts, n, "n"), lent_cells.at, lent_cells.bytes)
     return _accepted("oat_mark", answer)
 
 
@@ -475,14 +477,14 @@ def oat_complete(n: CountsLike, cells: Buffer) -> oat_complete_answer:
     """Whether the marks are complete: no clear cell touches a solid one. It holds after oat_mark. For oat_adaptive and oat_sight a mark that is
     missing at a corner alone does no harm; but a 0 does not tell which mark is missing, and no call tests for less: after a 0, mark."""
     with lent(cells, False, 1, "cells") as lent_cells:
-        answer = library.load().oat_complete(struct(oat_counts, n, "n"), lent_cells.at, lent_cells.bytes)
+        answer: oat_complete_answer = library.load().oat_complete(struct(oat_counts, n, "n"), lent_cells.at, lent_cells.bytes)
     return _accepted("oat_complete", answer)
 
 
 def oat_layer(n: CountsLike, cells: Buffer, z: int) -> oat_part:
     """Where layer z lies: nx*ny bytes. Nothing is copied."""
     with lent(cells, False, 1, "cells") as lent_cells:
-        answer = library.load().oat_layer(struct(oat_counts, n, "n"), lent_cells.at, lent_cells.bytes, number(ctypes.c_int32, z, "z"))
+        answer: oat_part = library.load().oat_layer(struct(oat_counts, n, "n"), lent_cells.at, lent_cells.bytes, number(ctypes.c_int32, z, "z"))
     return _accepted("oat_layer", answer)
 
 
@@ -491,8 +493,8 @@ def oat_plain(n: CountsLike, cells: Buffer, p: CellLike, q: CellLike, how: Manne
     is p the way is clear with one read, whatever the byte. With a tested start p comes first: where it is solid it is the hit, at 0/1 and by no
     side. Asks for no marks. By rule 2, with a tested start, the way from q to p is clear exactly where the way from p to q is."""
     with lent(cells, False, 1, "cells") as lent_cells:
-        answer = library.load().oat_plain(struct(oat_counts, n, "n"), lent_cells.at, lent_cells.bytes, struct(oat_cell, p, "p"), struct(oat_cell, q,
-            "q"), struct(oat_manner, how, "how"))
+        answer: oat_hit = library.load().oat_plain(struct(oat_counts, n, "n"), lent_cells.at, lent_cells.bytes, struct(oat_cell, p, "p"),
+            struct(oat_cell, q, "q"), struct(oat_manner, how, "how"))
     return _accepted("oat_plain", answer)
 
 
@@ -502,8 +504,8 @@ def oat_adaptive(n: CountsLike, cells: Buffer, p: CellLike, q: CellLike, how: Ma
     that 6-line enters it. After oat_mark, and wherever every cell across a face or an edge from a solid one is near or solid, it gives the answer
     that oat_plain gives for the same `how`, but for its reads, which are no more; elsewhere it may miss a solid cell, and never makes one up."""
     with lent(cells, False, 1, "cells") as lent_cells:
-        answer = library.load().oat_adaptive(struct(oat_counts, n, "n"), lent_cells.at, lent_cells.bytes, struct(oat_cell, p, "p"), struct(oat_cell,
-            q, "q"), struct(oat_manner, how, "how"))
+        answer: oat_hit = library.load().oat_adaptive(struct(oat_counts, n, "n"), lent_cells.at, lent_cells.bytes, struct(oat_cell, p, "p"),
+            struct(oat_cell, q, "q"), struct(oat_manner, how, "how"))
     return _accepted("oat_adaptive", answer)
 
 
@@ -513,8 +515,8 @@ def oat_touching(n: CountsLike, cells: Buffer, p: CellLike, q: CellLike, start: 
     lead to the cell, the first in the order y, z, x. `reads` counts the cells of the list up to the hit, and all of them where the way is clear:
     it may read more cells than oat_plain. Where the way is clear, oat_plain with the same start is clear by either rule."""
     with lent(cells, False, 1, "cells") as lent_cells:
-        answer = library.load().oat_touching(struct(oat_counts, n, "n"), lent_cells.at, lent_cells.bytes, struct(oat_cell, p, "p"), struct(oat_cell,
-            q, "q"), number(ctypes.c_uint32, start, "start"))
+        answer: oat_hit = library.load().oat_touching(struct(oat_counts, n, "n"), lent_cells.at, lent_cells.bytes, struct(oat_cell, p, "p"),
+            struct(oat_cell, q, "q"), number(ctypes.c_uint32, start, "start"))
     return _accepted("oat_touching", answer)
 
 
@@ -522,7 +524,8 @@ def oat_build(n: CountsLike, cells: Buffer, masks: Buffer) -> oat_tally:
     """Writes the mask of every brick at the front of `masks`, whatever was there, and answers the number of solid cells."""
     with lent(cells, False, 1, "cells") as lent_cells, lent(masks, True, 8, "masks") as lent_masks:
         apart([("masks", lent_masks)], [("cells", lent_cells)])
-        answer = library.load().oat_build(struct(oat_counts, n, "n"), lent_cells.at, lent_cells.bytes, lent_masks.at, lent_masks.bytes // 8)
+        answer: oat_tally = library.load().oat_build(struct(oat_counts, n, "n"), lent_cells.at, lent_cells.bytes, lent_masks.at, lent_masks.bytes //
+            8)
     return _accepted("oat_build", answer)
 
 
@@ -531,7 +534,7 @@ def oat_set(n: CountsLike, cells: Buffer, masks: Buffer, total: int, cell: CellL
     Where the cell has that byte already nothing changes. A refusal 5 names P."""
     with lent(cells, True, 1, "cells") as lent_cells, lent(masks, True, 8, "masks") as lent_masks:
         apart([("cells", lent_cells), ("masks", lent_masks)], [])
-        answer = library.load().oat_set(struct(oat_counts, n, "n"), lent_cells.at, lent_cells.bytes, lent_masks.at, lent_masks.bytes // 8,
+        answer: oat_tally = library.load().oat_set(struct(oat_counts, n, "n"), lent_cells.at, lent_cells.bytes, lent_masks.at, lent_masks.bytes // 8,
             number(ctypes.c_uint64, total, "total"), struct(oat_cell, cell, "cell"), number(ctypes.c_uint8, byte, "byte"))
     return _accepted("oat_set", answer)
 
@@ -542,8 +545,8 @@ def oat_refill(n: CountsLike, cells: Buffer, masks: Buffer, total: int, low: Cel
     Q."""
     with lent(cells, True, 1, "cells") as lent_cells, lent(masks, True, 8, "masks") as lent_masks:
         apart([("cells", lent_cells), ("masks", lent_masks)], [])
-        answer = library.load().oat_refill(struct(oat_counts, n, "n"), lent_cells.at, lent_cells.bytes, lent_masks.at, lent_masks.bytes // 8,
-            number(ctypes.c_uint64, total, "total"), struct(oat_cell, low, "low"), struct(oat_cell, high, "high"), number(ctypes.c_uint8, byte,
+        answer: oat_tally = library.load().oat_refill(struct(oat_counts, n, "n"), lent_cells.at, lent_cells.bytes, lent_masks.at, lent_masks.bytes //
+            8, number(ctypes.c_uint64, total, "total"), struct(oat_cell, low, "low"), struct(oat_cell, high, "high"), number(ctypes.c_uint8, byte,
             "byte"))
     return _accepted("oat_refill", answer)
 
@@ -552,7 +555,7 @@ def oat_cell_of(n: CountsLike, at: PlacementLike, point: PointLike) -> oat_found
     """The cell of a point: refusals 2, 7 (origin x, y, z, edge), then for each axis 8, then 9. On each axis let q be (point - origin) / edge, the
     difference and the quotient rounded once each. The cell is the whole number n below the count with n <= q < n + 1. The far faces belong to the
     last cells: where q equals the count it is the last one. A q below 0 or above the count is refused 9. The end that a refusal names is P."""
-    answer = library.load().oat_cell_of(struct(oat_counts, n, "n"), struct(oat_placement, at, "at"), struct(oat_point, point, "point"))
+    answer: oat_found = library.load().oat_cell_of(struct(oat_counts, n, "n"), struct(oat_placement, at, "at"), struct(oat_point, point, "point"))
     return _accepted("oat_cell_of", answer)
 
 
@@ -562,8 +565,8 @@ def oat_sight(n: CountsLike, cells: Buffer, at: PlacementLike, camera: PointLike
     3, 7, then the camera (P) by axis 8, 9, then the ball (Q). The camera's own cell is tested where `how` says so, and by OAT_MANNER_USUAL it is
     not; a ball in that same cell is then seen. The ball's cell is tested otherwise. Takes the marks as they are: mark first."""
     with lent(cells, False, 1, "cells") as lent_cells:
-        answer = library.load().oat_sight(struct(oat_counts, n, "n"), lent_cells.at, lent_cells.bytes, struct(oat_placement, at, "at"),
-            struct(oat_point, camera, "camera"), struct(oat_point, ball, "ball"), struct(oat_manner, how, "how"))
+        answer: oat_sight_answer = library.load().oat_sight(struct(oat_counts, n, "n"), lent_cells.at, lent_cells.bytes, struct(oat_placement, at,
+            "at"), struct(oat_point, camera, "camera"), struct(oat_point, ball, "ball"), struct(oat_manner, how, "how"))
     return _accepted("oat_sight", answer)
 
 
@@ -573,7 +576,7 @@ def oat_read_venue(record: Buffer) -> oat_venue:
     7; 2; 3 where the length is not 7 + nx*ny*nz. The cells stay where they are, `offset` bytes into the record. They can be marked there, by
     oat_mark at record + offset: its first OAT_VENUE_HEAD + nx*ny*nz bytes are then the marked venue's record, ready to be saved."""
     with lent(record, False, 1, "record") as lent_record:
-        answer = library.load().oat_read_venue(lent_record.at, lent_record.bytes)
+        answer: oat_venue = library.load().oat_read_venue(lent_record.at, lent_record.bytes)
     return _accepted("oat_read_venue", answer)
 
 
@@ -582,7 +585,7 @@ def oat_read_pair(record: Buffer) -> oat_pair:
     two bytes; in version 2 the rule, a byte. Version 1 means OAT_RULE_1. Refusals, in this order: 10 as of a venue; 11; 10 where the length is not
     that of the version; 12."""
     with lent(record, False, 1, "record") as lent_record:
-        answer = library.load().oat_read_pair(lent_record.at, lent_record.bytes)
+        answer: oat_pair = library.load().oat_read_pair(lent_record.at, lent_record.bytes)
     return _accepted("oat_read_pair", answer)
 
 
@@ -591,7 +594,7 @@ def oat_write_venue(n: CountsLike, cells: Buffer, out: Buffer) -> oat_written:
     nx*ny*nz. `cells` and `out` must not overlap."""
     with lent(cells, False, 1, "cells") as lent_cells, lent(out, True, 1, "out") as lent_out:
         apart([("out", lent_out)], [("cells", lent_cells)])
-        answer = library.load().oat_write_venue(struct(oat_counts, n, "n"), lent_cells.at, lent_cells.bytes, lent_out.at, lent_out.bytes)
+        answer: oat_written = library.load().oat_write_venue(struct(oat_counts, n, "n"), lent_cells.at, lent_cells.bytes, lent_out.at, lent_out.bytes)
     return _accepted("oat_write_venue", answer)
 
 

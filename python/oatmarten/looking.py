@@ -132,4 +132,4 @@ def listed(call: Callable[..., Any], room: int, *given: Any, **named: Any) -> Li
     """The cells that a call lists, in memory for so many numbers."""
     out = array.array("i", bytes(4 * room))
     count = call(*given, out=out, **named).count
-    return list(zip(*[iter(out[:3 * count])] * 3))
+    return list(zip(out[0:3 * count:3], out[1:3 * count:3], out[2:3 * count:3]))

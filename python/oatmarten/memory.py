@@ -36,7 +36,7 @@ class Lent:
                 oat_plain(n, held, p, q)
 
     `writable` asks for memory that may be written; without it read-only memory (bytes, a map of a file that was opened for reading) will do. The
-    bytes must lie in one piece, in C order: an array that does not is refused by itself, with a BufferError or a ValueError."""
+    bytes must lie in one piece, in C order. Memory that cannot be lent so raises BufferError, and what has no bytes TypeError."""
 
     __slots__ = ("_view", "at", "bytes", "writable", "_held")
 
@@ -47,6 +47,8 @@ class Lent:
             _get(thing, self._view, 1 if writable else 0)
         except TypeError:
             raise TypeError("memory to lend is an object with bytes, and %s was given" % type(thing).__name__) from None
+        except (BufferError, ValueError) as wrong:
+            raise BufferError("memory that cannot be lent to be %s: %s" % ("written" if writable else "read", wrong)) from None
         self._held = True
         self.writable = writable
         self.bytes: int = self._view.len
@@ -95,7 +97,9 @@ def lent(thing: Buffer, writable: bool, width: int, what: str) -> ContextManager
         if held is not thing:
             held.release()
         raise ValueError("%s are numbers of %d bytes, and do not lie at a multiple of %d" % (what, width, width))
-    return _Again(held) if held is thing else held
+    if held is thing:
+        return _Again(held)
+    return held
 
 
 def apart(written: List[Tuple[str, Lent]], others: List[Tuple[str, Lent]]) -> None:
