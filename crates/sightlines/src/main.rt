@@ -1,5 +1,6 @@
 // The program `sightlines`: a venue and then pairs come in on standard input, and what the walks between each pair's ends find goes out on standard
-// output. What is written is decided by the steps of `program`; here frames are read and texts are written.
+// output. What is written is decided by the steps of `program`; here frames are read and texts are written. A read or a write that fails ends it, with
+// one line on standard error.
 ghost use mathlib.Core.Path.{_≡_};
 ghost use Prim.Native.Nat.{ℕ, _+_, _-_, _^_, _≤_, _<_};
 ghost use lib.ListN.{length, take};
@@ -30,14 +31,26 @@ fn read_frame(buf: &mut [u8], most: usize) -> usize
     4 + io::read_full(STDIN_FILENO, &mut buf[4..end])
 }
 
-// What comes next, once the text is written; a write that fails ends the program.
+// Where nothing comes next because the input could not be read, says so on standard error. A failed read gives a short frame, as an end of the input
+// does. What tells them apart is errno: a program starts with 0 there, a call that succeeds leaves it, and the writes have all succeeded.
+fn say_unread(next: Next) {
+    if let Next::Over = next {
+        if os::errno() != 0 {
+            os::fail(b"sightlines: standard input cannot be read");
+        }
+    }
+}
+
+// What comes next, once the text is written. A write that fails is told on standard error and ends the program; nothing more is told then.
 fn written(text: &[u8], next: Next) -> Next
     ensures { λ r. ⌜ ((k : ℕ) → Follows k next → Follows k r) ⌝ }
 {
-    if io::write_all(STDOUT_FILENO, text) {
-        return next;
+    if !io::write_all(STDOUT_FILENO, text) {
+        os::fail(b"sightlines: standard output cannot be written");
+        return Next::Over;
     }
-    Next::Over
+    say_unread(next);
+    next
 }
 
 // Writes what the venue's step says.
