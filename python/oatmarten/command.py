@@ -124,9 +124,11 @@ def named(path: str) -> str:
 
 def info(asked: argparse.Namespace, say: Said) -> int:
     with opened(asked.file) as venue:
-        kinds = looking.kinds(venue.cells)
+        show = shown("info", sys.stderr)
+        kinds = looking.kinds(venue.cells, lambda share: show(share / 2))
         complete = bool(oat_complete(venue.n, venue.held).yes)
-        marks = looking.marks(venue.counts, venue.cells)
+        marks = looking.marks(venue.counts, venue.cells, lambda share: show(0.5 + share / 2))
+        show(1)
         clear, near = kinds.pop(0, 0), kinds.pop(1, 0)
         nx, ny, nz = venue.counts
         words = ["%d x %d x %d, %d cells" % (nx, ny, nz, len(venue.cells)), "clear: %d" % clear, "near: %d" % near, "solid: %d" % sum(kinds.values())]

@@ -14,12 +14,19 @@ from .venues import copied
 # bytes that are looked at in one go
 _PIECE = 1 << 24
 Cell = Tuple[int, int, int]
+# what is told on the way: the share that is done
+Progress = Callable[[float], None]
 
 
-def kinds(cells: memoryview) -> Dict[int, int]:
+def _silent(share: float) -> None:
+    pass
+
+
+def kinds(cells: memoryview, progress: Progress = _silent) -> Dict[int, int]:
     """How many cells have each byte, smallest byte first."""
     found: Dict[int, int] = {}
     for at in range(0, len(cells), _PIECE):
+        progress(at / len(cells))
         rest = bytes(cells[at:at + _PIECE])
         while rest:
             less = rest.translate(None, rest[:1])
@@ -52,14 +59,17 @@ def _both(one: bytes, other: bytes) -> bytes:
     return (int.from_bytes(one, "little") & int.from_bytes(other, "little")).to_bytes(len(one), "little")
 
 
-def marks(counts: Cell, cells: memoryview) -> Marks:
+def marks(counts: Cell, cells: memoryview, progress: Progress = _silent) -> Marks:
     """Marks a copy, and compares the bytes."""
     clear, near = _where(OAT_CLEAR), _where(OAT_NEAR)
     missing, first, needless = 0, None, 0
     with copied(cells) as copy:
         oat_mark(counts, memoryview(copy)[:len(cells)])
         for at in range(0, len(cells), _PIECE):
+            progress(at / len(cells))
             had, has = bytes(cells[at:at + _PIECE]), copy[at:min(at + _PIECE, len(cells))]
+            if had == has:
+                continue
             gone = _both(had.translate(clear), has.translate(near))
             if first is None and b"\1" in gone:
                 first = cell_at(counts, at + gone.index(b"\1"))
@@ -116,7 +126,7 @@ class Compared:
             self.first = line, plain, adaptive
 
 
-def compare(counts: Cell, cells: Lent, many: int, seed: int, how: Any, progress: Callable[[float], None]) -> Compared:
+def compare(counts: Cell, cells: Lent, many: int, seed: int, how: Any, progress: Progress = _silent) -> Compared:
     """Both walks, over the same lines."""
     said, began, manner = Compared(), time.perf_counter(), oat_manner(*how)
     for k, line in enumerate(lines(counts, many, seed)):
