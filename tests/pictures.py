@@ -15,7 +15,7 @@ import oatmarten as oat
 from oatmarten import pictures
 
 SVG = "{http://www.w3.org/2000/svg}"
-FACES = {0: "none", 1: "+x", -1: "-x", 2: "+y", -2: "-y", 3: "+z", -3: "-z"}
+FACES = {0: "0", 1: "+x", -1: "-x", 2: "+y", -2: "-y", 3: "+z", -3: "-z"}
 MANNERS = [(start, rule) for start in (oat.OAT_START_UNTESTED, oat.OAT_START_TESTED) for rule in (oat.OAT_RULE_1, oat.OAT_RULE_2)]
 
 

@@ -60,7 +60,7 @@ def text(x: float, y: float, words: str, size: int = 12, bold: bool = False, **w
 
 def tick_step(least: float) -> int:
     """The least of 1, 2, 5, 10, 20 .. that is not below this number."""
-    return next(step * 10 ** k for k in itertools.count() for step in (1, 2, 5) if step * 10 ** k >= least)
+    return next(step * int(10 ** k) for k in itertools.count() for step in (1, 2, 5) if step * 10 ** k >= least)
 
 
 class Panel:

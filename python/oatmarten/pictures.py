@@ -16,17 +16,16 @@ import itertools
 from array import array
 from typing import Any, Callable, Dict, Iterable, Iterator, List, Optional, Sequence, Tuple
 
-from . import header, library
+from . import library
 from .drawing import MARGIN, SAMPLE, Labels, Page, Panel, Place, digits, group, path, tag, text, tick_step
-from .header import (OAT_CLEAR, OAT_LINE6_ROOM, OAT_MANNER_USUAL, OAT_NEAR, OAT_SOLID_LEAST, CellLike, CountsLike, MannerLike, oat_adaptive, oat_cell,
-                     oat_complete, oat_counts, oat_hit, oat_layer, oat_line6, oat_manner, oat_plain)
+from .header import (OAT_CLEAR, OAT_LINE6_ROOM, OAT_MANNER_USUAL, OAT_NEAR, OAT_SOLID_LEAST, CellLike, CountsLike, MannerLike, oat_adaptive,
+                     oat_adaptive_cells, oat_cell, oat_complete, oat_counts, oat_hit, oat_layer, oat_line6, oat_manner, oat_plain)
+from .looking import listed
 from .memory import Buffer, Lent, lent, struct
+from .telling import cell_words, code_words, face_name, hit_words
 
 Cell = Tuple[int, ...]
 
-_FACE = header.oat_face
-FACES = {_FACE.OAT_FACE_NONE: "none", _FACE.OAT_FACE_PLUS_X: "+x", _FACE.OAT_FACE_MINUS_X: "-x", _FACE.OAT_FACE_PLUS_Y: "+y",
-         _FACE.OAT_FACE_MINUS_Y: "-y", _FACE.OAT_FACE_PLUS_Z: "+z", _FACE.OAT_FACE_MINUS_Z: "-z"}
 FROM = {"+z": "below", "-z": "above"}
 PLAIN, ADAPTIVE, HIT = "#1457b8", "#e65100", "#c4002b"
 # where a line is blocked and its cells would have fewer pixels than this, those up to so far from the hit are shown
@@ -39,7 +38,7 @@ NOT_COMPLETE = "The marks are not complete: a walk may step over something solid
 def colour(byte: int) -> str:
     """The colour of a cell by its byte: clear is white, near a light shade; each code has a colour of its own."""
     if byte < OAT_SOLID_LEAST:
-        return {OAT_CLEAR: "#ffffff", OAT_NEAR: "#f4ead0"}[byte]
+        return "#f4ead0" if byte == OAT_NEAR else "#ffffff"
     k = byte - OAT_SOLID_LEAST
     shades = ((0.40, 0.42), (0.55, 0.34), (0.30, 0.36))
     light, strong = shades[k // 12 % 3]
@@ -72,9 +71,9 @@ class _Walks:
         self.p, self.q = _triple(struct(oat_cell, p, "p")), _triple(struct(oat_cell, q, "q"))
         self.how = how
         self.plain, self.adaptive = oat_plain(n, held, self.p, self.q, how), oat_adaptive(n, held, self.p, self.q, how)
-        self.line = _listed(lambda out: oat_line6(self.p, self.q, out, how.rule))
+        self.line = listed(oat_line6, OAT_LINE6_ROOM, self.p, self.q, rule=how.rule)
         self.plain_cells = self.line[:self.plain.reads]
-        self.adaptive_cells = _listed(lambda out: header.oat_adaptive_cells(n, held, self.p, self.q, out, how))
+        self.adaptive_cells = listed(oat_adaptive_cells, OAT_LINE6_ROOM, n, held, self.p, self.q, how=how)
         self.missed = bool(self.plain.hit) and not (self.adaptive.hit and _triple(self.adaptive) == _triple(self.plain))
         # what a closer look is at
         self.focus = _triple(self.plain) if self.plain.hit else self.p
@@ -82,12 +81,6 @@ class _Walks:
 
 def _triple(cell: Any) -> Cell:
     return cell.x, cell.y, cell.z
-
-
-def _listed(call: Callable[[array], Any]) -> List[Cell]:
-    """The cells that a call lists."""
-    out = array("i", bytes(4 * OAT_LINE6_ROOM))
-    return [tuple(out[3 * k:3 * k + 3]) for k in range(call(out).count)]
 
 
 def _layer_bytes(n: oat_counts, held: Lent, z: int) -> memoryview:
@@ -142,7 +135,7 @@ class _Layer(_View):
         return cell[2] == self.z
 
     def move(self, face: int) -> Optional[Tuple[int, int]]:
-        return {"+x": (1, 0), "-x": (-1, 0), "+y": (0, 1), "-y": (0, -1)}.get(FACES[face])
+        return {"+x": (1, 0), "-x": (-1, 0), "+y": (0, 1), "-y": (0, -1)}.get(face_name(face))
 
     def way(self, walks: _Walks) -> List[Place]:
         return [(end[0] + 0.5, end[1] + 0.5) for end in (walks.p, walks.q)]
@@ -169,7 +162,7 @@ class _Cut(_View):
         return [view[x + self.n.nx * y] for x, y in self.plan[self.columns[0]:self.columns[-1] + 1]]
 
     def move(self, face: int) -> Optional[Tuple[int, int]]:
-        return {"none": None, "+z": (0, 1), "-z": (0, -1)}.get(FACES[face], (1, 0))
+        return {"0": None, "+z": (0, 1), "-z": (0, -1)}.get(face_name(face), (1, 0))
 
     def way(self, walks: _Walks) -> List[Place]:
         """Columns are of one width, however far the segment goes through each: so it bends from column to column."""
@@ -282,7 +275,7 @@ def _hit_mark(panel: _View, hit: oat_hit, name: str, stroke: str) -> str:
     column, row = panel.at(_triple(hit))
     x, y, move = column + 0.5, row + 0.5, panel.move(hit.face)
     side = _bar(x, y, move, panel.k) if move else _ring(x, y, panel.k) if hit.face else []
-    return group([*side, *_crossed(x, y, panel.k, stroke)], class_=name, data_cell=_spelled(_triple(hit)), data_face=FACES[hit.face],
+    return group([*side, *_crossed(x, y, panel.k, stroke)], class_=name, data_cell=_spelled(_triple(hit)), data_face=face_name(hit.face),
                  opacity=None if panel.here(_triple(hit)) else 0.45)
 
 
@@ -316,14 +309,15 @@ def walks_picture(counts: CountsLike, cells: Buffer, p: CellLike, q: CellLike, h
         walks = _Walks(n, held, p, q, struct(oat_manner, how, "how"))
         (columns, rows, heights, along), clipped = _windows(n, walks, reach)
         z = walks.focus[2] if layer is None else layer
-        panels = [_Layer(n, held, z, columns, rows, clipped), _Cut(n, held, walks, along, heights, clipped)]
-        heading = title or "From %s to %s: %s" % (_in_words(walks.p), _in_words(walks.q), "blocked" if walks.plain.hit else "clear")
+        over = _Layer(n, held, z, columns, rows, clipped)
+        panels = [over, _Cut(n, held, walks, along, heights, clipped)]
+        heading = title or "From %s to %s: %s" % (cell_words(walks.p), cell_words(walks.q), "blocked" if walks.plain.hit else "clear")
         page = Page(panels, heading, _stepped_over(walks) if walks.missed else "")
         bytes_shown = set()
         for panel, says in zip(panels, ("Layer z = %d, seen from above" % z, "Upright cut along the line, seen from its side")):
             page.place(panel, says)
             bytes_shown.update(_panel_of_walks(page, panel, walks))
-        page.legend([*_byte_samples(sorted(bytes_shown)), *_walk_samples(panels[0], walks)])
+        page.legend([*_byte_samples(sorted(bytes_shown)), *_walk_samples(over, walks)])
         return page.done(_caption(walks, clipped))
 
 
@@ -348,9 +342,9 @@ def _panel_of_walks(page: Page, panel: _View, walks: _Walks) -> List[int]:
     ends = [(walks.p, "P"), (walks.q, "Q")] if walks.p != walks.q else [(walks.p, "P = Q")]
     for cell, name in ends:
         if panel.shows(cell):
-            labels.add(panel.middle(cell), "%s %s" % (name, _in_words(cell)))
+            labels.add(panel.middle(cell), "%s %s" % (name, cell_words(cell)))
     if walks.plain.hit and panel.shows(_triple(walks.plain)):
-        labels.add(panel.middle(_triple(walks.plain)), "hit %s" % _in_words(_triple(walks.plain)), HIT)
+        labels.add(panel.middle(_triple(walks.plain)), "hit %s" % cell_words(_triple(walks.plain)), HIT)
     return found
 
 
@@ -363,41 +357,24 @@ def _ends(panel: _View, walks: _Walks) -> List[str]:
 
 # ---- words
 
-def _in_words(cell: Sequence[int]) -> str:
-    return "(%d, %d, %d)" % tuple(cell)
-
-
-def _code(byte: int) -> str:
-    return "%d (0x%02x)" % (byte, byte)
-
-
-def _answer(hit: oat_hit) -> str:
-    """What a walk answered."""
-    read = "%d %s read" % (hit.reads, "cell" if hit.reads == 1 else "cells")
-    if not hit.hit:
-        return "clear, " + read
-    face = "by face %s" % FACES[hit.face] if hit.face else "by no face, as it is the start"
-    return "hit at %s, code %s, at %d/%d of the way, %s, %s" % (_in_words(_triple(hit)), _code(hit.code), hit.num, hit.den, face, read)
-
-
 def _stepped_over(walks: _Walks) -> str:
     """That the adaptive walk does not find what is in the way."""
-    return "Blocked at %s, but the adaptive walk steps over it: the marks are not complete." % _in_words(_triple(walks.plain))
+    return "Blocked at %s, but the adaptive walk steps over it: the marks are not complete." % cell_words(_triple(walks.plain))
 
 
 def _caption(walks: _Walks, clipped: bool) -> List[str]:
     start = "tested" if walks.how.start else "not tested"
-    said = ["Plain walk: %s." % _answer(walks.plain), "Adaptive walk: %s." % _answer(walks.adaptive),
-            "P %s, Q %s; the start is %s; rule %d." % (_in_words(walks.p), _in_words(walks.q), start, walks.how.rule)]
-    return [*said, "Shown is the part of the line around %s." % _in_words(walks.focus)] if clipped else said
+    said = ["Plain walk: %s." % hit_words(walks.plain), "Adaptive walk: %s." % hit_words(walks.adaptive),
+            "P %s, Q %s; the start is %s; rule %d." % (cell_words(walks.p), cell_words(walks.q), start, walks.how.rule)]
+    return [*said, "Shown is the part of the line around %s." % cell_words(walks.focus)] if clipped else said
 
 
 # ---- the legend
 
 def _byte_samples(shown: Iterable[int]) -> List[Tuple[str, str]]:
     """Each byte that is in the picture."""
-    names = {OAT_CLEAR: "clear", OAT_NEAR: "near"}
-    return [(tag("rect", width=1, height=1, fill=colour(byte), stroke="#999999", stroke_width=0.07), names.get(byte, "code " + _code(byte)))
+    names: Dict[int, str] = {OAT_CLEAR: "clear", OAT_NEAR: "near"}
+    return [(tag("rect", width=1, height=1, fill=colour(byte), stroke="#999999", stroke_width=0.07), names.get(byte, code_words(byte)))
             for byte in shown]
 
 
@@ -416,14 +393,14 @@ def _walk_samples(layer: _Layer, walks: _Walks) -> List[Tuple[str, str]]:
     if faces:
         found.append(("".join(_bar(0.7, 0.5, (1, 0), k)), "the side by which the line comes in"))
     for face in [face for face in faces if not layer.move(face)][:1]:
-        found.append(("".join(_ring(0.5, 0.5, k, 0.4)), "it comes in from %s (%s), which a layer does not show" % (FROM[FACES[face]], FACES[face])))
+        found.append(("".join(_ring(0.5, 0.5, k, 0.4)), "it comes in from %s (%s), which a layer does not show" % (FROM[face_name(face)], face_name(face))))
     return found
 
 
 # ---- how many cameras see a ball
 
 def coverage(counts: CountsLike, cells: Buffer, layer: int, cameras: Iterable[CellLike], how: MannerLike = OAT_MANNER_USUAL,
-             progress: Optional[Callable[[float], None]] = None) -> array:
+             progress: Optional[Callable[[float], None]] = None) -> array[int]:
     """How many of the cameras see a ball in each cell of a layer, x fastest, then y; -1 where the cell is solid, and so no place for a ball. A camera
     sees it where oat_adaptive from its cell is clear: that is the truth where the marks are complete. `progress` is told the share that is done."""
     n, manner = struct(oat_counts, counts, "counts"), struct(oat_manner, how, "how")
@@ -440,7 +417,7 @@ def coverage(counts: CountsLike, cells: Buffer, layer: int, cameras: Iterable[Ce
     return seen
 
 
-def _count_row(n: oat_counts, held: Lent, camera: oat_cell, ball: oat_cell, how: oat_manner, seen: array) -> None:
+def _count_row(n: oat_counts, held: Lent, camera: oat_cell, ball: oat_cell, how: oat_manner, seen: array[int]) -> None:
     """Adds a camera to the cells of a row that it sees: by the bare call, as there are many."""
     call, at, size = library.load().oat_adaptive, held.at, held.bytes
     first = n.nx * ball.y
@@ -453,7 +430,7 @@ def _count_row(n: oat_counts, held: Lent, camera: oat_cell, ball: oat_cell, how:
 
 def coverage_picture(counts: CountsLike, cells: Buffer, layer: int, cameras: Iterable[CellLike], how: MannerLike = OAT_MANNER_USUAL,
                      names: Optional[Sequence[str]] = None, title: Optional[str] = None, progress: Optional[Callable[[float], None]] = None,
-                     seen: Optional[array] = None) -> str:
+                     seen: Optional[array[int]] = None) -> str:
     """How many of the cameras see a ball in each cell of a layer, as a picture; `seen` is what `coverage` answered, where that is there already."""
     n, places = struct(oat_counts, counts, "counts"), [_triple(struct(oat_cell, camera, "a camera")) for camera in cameras]
     called = ["%d" % k for k in range(1, len(places) + 1)] if names is None else list(names)
@@ -471,7 +448,7 @@ def coverage_picture(counts: CountsLike, cells: Buffer, layer: int, cameras: Ite
             labels.add(panel.middle(place), name if len(name) <= 24 else name[:23] + "\u2026")
         _colour_bar(page, len(places))
         page.legend(_coverage_samples(panel, places))
-        listed = "; ".join("%s %s" % pair for pair in zip(called, map(_in_words, places)))
+        listed = "; ".join("%s %s" % pair for pair in zip(called, map(cell_words, places)))
         return page.done([_counted(seen, len(places)), "Cameras: %s." % listed])
 
 
@@ -481,7 +458,7 @@ class _Coverage(_Layer):
     name = "coverage"
 
 
-def _heat(panel: _Coverage, seen: array, most: int) -> List[str]:
+def _heat(panel: _Coverage, seen: array[int], most: int) -> List[str]:
     """The cells by how many cameras see them; solid ones are hatched in the colour of their code."""
     rects: Dict[int, List[str]] = {}
     for y in panel.rows:
@@ -532,13 +509,13 @@ def _coverage_samples(panel: _Coverage, cameras: Sequence[Cell]) -> List[Tuple[s
     # as large as in the panel, so that the hatching is the same
     side = SAMPLE / panel.k
     found = [(group([tag("rect", width=side, height=side, fill="url(#%s)" % _hatch_name(code), stroke="#999999", stroke_width=1 / panel.k)],
-                    transform="scale(%s)" % digits(1 / side)), "code %s, solid" % _code(code)) for code in codes]
+                    transform="scale(%s)" % digits(1 / side)), "%s, solid" % code_words(code)) for code in codes]
     heights = {panel.here(camera) for camera in cameras}
     words = {True: "camera in this layer", False: "camera in another layer"}
     return found + [(_camera((0, 0), here, 14.0), words[here]) for here in sorted(heights, reverse=True)]
 
 
-def _counted(seen: array, most: int) -> str:
+def _counted(seen: array[int], most: int) -> str:
     """The counts in words."""
     open_to = [many for many in seen if many >= 0]
     if not open_to:
