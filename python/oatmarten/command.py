@@ -16,14 +16,11 @@ from .header import (OAT_COUNT_MOST, OAT_LINE6_ROOM, OAT_LINE26_ROOM, OAT_REVISI
                      oat_line_touching, oat_mark, oat_plain, oat_read_venue, oat_revision, oat_sight)
 from . import library, looking, telling
 from .files import aside
+from .inputs import Wrong, named, shown as shortened, whole as whole_number
 from .library import LibraryError, Refused
 from .venues import Venue
 
 DONE, NOT, WRONG = 0, 1, 2  # what the command ends with: yes or done; no; a refusal or an error
-
-
-class Wrong(Exception):
-    """What is wrong with what was asked, in a sentence."""
 
 
 class Parser(argparse.ArgumentParser):
@@ -40,22 +37,23 @@ class Parser(argparse.ArgumentParser):
 # ---- words of the command line
 
 def whole(word: str) -> int:
-    if not re.fullmatch(r"-?[0-9]{1,30}", word):
-        raise argparse.ArgumentTypeError("'%s' is no whole number" % word)
-    return int(word)
+    number = whole_number(word)
+    if number is None:
+        raise argparse.ArgumentTypeError("'%s' is no whole number" % shortened(word))
+    return number
 
 
 def some(word: str) -> int:
     if whole(word) < 1:
-        raise argparse.ArgumentTypeError("'%s' is not above 0" % word)
-    return int(word)
+        raise argparse.ArgumentTypeError("'%s' is not above 0" % shortened(word))
+    return whole(word)
 
 
 def real(word: str) -> float:
     try:
         return float(word)
     except ValueError:
-        raise argparse.ArgumentTypeError("'%s' is no number" % word) from None
+        raise argparse.ArgumentTypeError("'%s' is no number" % shortened(word)) from None
 
 
 def manner(asked: argparse.Namespace) -> Tuple[int, int]:
@@ -114,10 +112,6 @@ def opened(path: str) -> Iterator[Venue]:
 def no_venue(path: str, refused: Refused) -> Refused:
     refused.about = "%s is no venue record: " % named(path)
     return refused
-
-
-def named(path: str) -> str:
-    return "standard input" if path == "-" else path
 
 
 # ---- the commands: each takes what was asked and says; it answers the status
@@ -241,8 +235,7 @@ def compare(asked: argparse.Namespace, say: Said) -> int:
 def picture(asked: argparse.Namespace, say: Said) -> int:
     from . import pictures
     with opened(asked.file) as venue:
-        drawn = pictures.walks_picture(venue.counts, venue.cells, tuple(asked.p), tuple(asked.q), manner(asked), layer=asked.layer,
-                                       title=asked.title or os.path.basename(asked.file))
+        drawn = pictures.walks_picture(venue.counts, venue.held, asked.p, asked.q, manner(asked), asked.layer, asked.title, asked.reach)
     return written(asked.out, drawn, say)
 
 
@@ -251,8 +244,7 @@ def coverage(asked: argparse.Namespace, say: Said) -> int:
     names, cameras = cameras_of(asked)
     with opened(asked.file) as venue:
         show = shown("coverage", sys.stderr)
-        drawn = pictures.coverage_picture(venue.counts, venue.cells, asked.layer, cameras, manner(asked), names=names,
-                                          title=asked.title or os.path.basename(asked.file), progress=show)
+        drawn = pictures.coverage_picture(venue.counts, venue.held, asked.layer, cameras, manner(asked), names, asked.title, show)
         show(1)
     return written(asked.out, drawn, say)
 
@@ -262,8 +254,8 @@ def cameras_of(asked: argparse.Namespace) -> Tuple[List[str], List[Tuple[int, in
     names, cells = [str(k) for k, _ in enumerate(asked.camera, 1)], [(x, y, z) for x, y, z in asked.camera]
     if asked.cameras:
         from . import descriptions
-        for spot in descriptions.read(asked.cameras).cameras:
-            names.append(spot.name)
+        for name, spot in descriptions.read(asked.cameras).cameras.items():
+            names.append(name)
             cells.append(spot.cell)
     if not cells:
         raise Wrong("name a camera or more, by --camera X Y Z, or a description that has some, by --cameras FILE")
@@ -272,13 +264,15 @@ def cameras_of(asked: argparse.Namespace) -> Tuple[List[str], List[Tuple[int, in
 
 def make(asked: argparse.Namespace, say: Said) -> int:
     from . import making
-    made = making.make(asked.source, kind=asked.kind, bare=asked.bare, pairs=asked.pairs, code=asked.code, up=asked.up)
+    made = making.make(asked.source, asked.kind, asked.bare, asked.pairs, asked.code, asked.up)
     with aside(asked.out) as out:
         out.write(made.record)
-        out.write(made.pairs)
+    for note in made.notes:
+        warn(note)
     if asked.out != "-":
-        say(["%s: %s cells%s" % (asked.out, " x ".join(map(str, made.counts)), "" if asked.bare else ", marked")],
-            {"out": asked.out, "counts": list(made.counts), "bare": asked.bare})
+        pairs = ", and %d pairs" % made.pairs if asked.pairs else ""
+        say(["%s: %s cells, %s%s" % (asked.out, " x ".join(map(str, made.counts)), "bare" if asked.bare else "marked", pairs)],
+            {"out": asked.out, "kind": made.kind, "counts": list(made.counts), "bare": asked.bare, "pairs": made.pairs, "notes": made.notes})
     return DONE
 
 
@@ -342,7 +336,7 @@ def commands(parser: Parser) -> None:
     made.add_argument("--bare", action="store_true", help="leave the near marks out")
     made.add_argument("--pairs", action="store_true", help="of a description: behind the venue a pair record for each camera with each ball, as the program sightlines reads them")
     made.add_argument("--code", metavar="N", type=whole, help="of an array or a binvox file: the code that cells of value 1 get, since byte 1 means near (2)")
-    made.add_argument("--up", choices=("y", "z"), default="z", help="of a binvox file: which of its axes points up, and becomes z (z)")
+    made.add_argument("--up", choices=("y", "z"), help="of a binvox file: which of its axes points up, and becomes z (z)")
 
 
 def picture_commands(command: Any, venue: Any, cells: Any, out: Any, both: Parser) -> None:
@@ -350,13 +344,14 @@ def picture_commands(command: Any, venue: Any, cells: Any, out: Any, both: Parse
     cells(made)
     out(made, "the picture")
     made.add_argument("--layer", metavar="Z", type=whole, help="the layer (that of the hit, or of P)")
-    made.add_argument("--title", metavar="TEXT", help="what stands above it (the file's name)")
+    made.add_argument("--reach", metavar="N", type=some, help="show the cells up to N from the hit, or from P (all of the line, unless its cells could not be told apart)")
+    made.add_argument("--title", metavar="TEXT", help="what stands above it (from where to where)")
     made = venue(command("coverage", coverage, "draws how many cameras see a ball in each cell of a layer, as SVG", "0", [both]))
     made.add_argument("--layer", metavar="Z", type=whole, required=True, help="the layer of the ball")
     made.add_argument("--camera", metavar=("X", "Y", "Z"), nargs=3, type=whole, action="append", default=[], help="the cell of a camera; as often as there are cameras")
     made.add_argument("--cameras", metavar="FILE", help="a description, whose cameras are taken")
     out(made, "the picture")
-    made.add_argument("--title", metavar="TEXT", help="what stands above it (the file's name)")
+    made.add_argument("--title", metavar="TEXT", help="what stands above it (how many cameras there are)")
 
 
 def warn(what: str) -> None:
