@@ -13,7 +13,7 @@ use Rattle.cells.specs.Manners.{is-tested}
 use Rattle.lines.specs.Steps.{Axis, X, Y, Z, Steps, at, total}
 use Rattle.lines.specs.Lines.{differences, longest, place-26, six-cell, number-26}
 use Rattle.lines.specs.Decisions.{raised}
-use Rattle.lines.proofs.Centres.{within-26, grows-26, moved-start, moved-end, longest-most}
+use Rattle.lines.proofs.Centres.{within-26, grows-26}
 use Rattle.lines.proofs.Cells.{six-at-26}
 use Rattle.tripod.specs.declared.Moves.{Moves}
 use Rattle.tripod.proofs.Laws.{place-small}
@@ -155,19 +155,6 @@ module _ (from : Start) (bytes : ℕ) (k : Route) (plan : Planned bytes k) (l : 
         where
           next-left : m + 1 ≡ cell-left k (left - 1)
           next-left = omega (arith, here .some, here .most)
-
-  -- ---- the first and the last
-
-  pub first-26 : at-number 0 ≡ 0
-  first-26 = omega (arith, moved-start (longest D) (D X), moved-start (longest D) (D Y), moved-start (longest D) (D Z))
-
-  pub last-26 : at-number (longest D) ≡ last l k
-  last-26 = omega (
-    arith,
-    moved-end (longest D) (D X) (longest-most D X),
-    moved-end (longest D) (D Y) (longest-most D Y),
-    moved-end (longest D) (D Z) (longest-most D Z),
-  )
 
 -- ---- what a turn is given
 

@@ -6,7 +6,7 @@ use Rattle.lines.specs.Steps.{X, Y, Z, Steps, total}
 use Rattle.lines.specs.Crossings.{place}
 use Rattle.lines.specs.Lines.{differences, longest, place-26, number-26}
 use Rattle.lines.specs.Decisions.{values, raised}
-use Rattle.lines.proofs.Centres.{is-place-26}
+use Rattle.lines.proofs.Centres.{is-place-26, moved-start, moved-end, longest-most}
 use Rattle.lines.proofs.Signs.{raised-back}
 use Rattle.tripod.specs.declared.Moves.{Moves}
 use Rattle.tripod.specs.Tripod.{LongMoves, moves-on}
@@ -29,6 +29,18 @@ module _ (k : Route) where
   pub figure-6-values : (m : ℕ) (s : Spot) → m ≤ longest D → SpotAt k (place (course k) (number-26 (k .p) (k .q) m)) s →
       raised (k .order) (s .e) ≡ values D (place-26 D m)
   figure-6-values m s le h = ap (raised (k .order)) (at-26 m s le h .value) ∙ raised-back (k .order) (values D (place-26 D m))
+
+  -- P has number 0, and Q the last one
+  pub first-26 : number-26 (k .p) (k .q) 0 ≡ 0
+  first-26 = omega (arith, moved-start (longest D) (D X), moved-start (longest D) (D Y), moved-start (longest D) (D Z))
+
+  pub last-26 : number-26 (k .p) (k .q) (longest D) ≡ total D
+  last-26 = omega (
+    arith,
+    moved-end (longest D) (D X) (longest-most D X),
+    moved-end (longest D) (D Y) (longest-most D Y),
+    moved-end (longest D) (D Z) (longest-most D Z),
+  )
 
   -- so many faces lie before the next
   pub faces-between :

@@ -1,5 +1,5 @@
 -- The spot of a place: across a face lies the spot of the next place, every sum on the way fits, and every spot has its byte. Assumes nothing.
-use mathlib.Core.Path.{_≡_, refl, sym, ap, ap₂, _∙_, subst}
+use mathlib.Core.Path.{_≡_, refl, sym, ap, ap₂, _∙_, subst, fun-ext}
 use mathlib.Core.Bool.{Bool, true, false, cond}
 use mathlib.Core.List.{List}
 use Prim.Native.Nat.{ℕ, _+_, _*_, _≤_, _<_}
@@ -18,19 +18,19 @@ use Rattle.cells.proofs.Machine.{parts-small, nat-small}
 use Rattle.lines.specs.Steps.{Axis, X, Y, Z, Steps, at, total}
 use Rattle.lines.specs.Towards.{towards}
 use Rattle.lines.specs.Crossings.{next, place}
-use Rattle.lines.specs.Lines.{differences, cell-of, InLimit, in-limit}
+use Rattle.lines.specs.Lines.{differences, cell-of, six-cell, InLimit, in-limit}
 use Rattle.lines.specs.Decisions.{values, moved-values}
 use Rattle.lines.proofs.Steps.{bump}
-use Rattle.lines.proofs.Fractions.{place-suc, place-on, place-total}
+use Rattle.lines.proofs.Fractions.{place-start, place-suc, place-on, place-total}
 use Rattle.lines.proofs.Centres.{centres-good}
-use Rattle.lines.proofs.Cells.{limited-difference, cell-on}
+use Rattle.lines.proofs.Cells.{limited-difference, cell-on, six-is}
 use Rattle.lines.proofs.Signs.{lowered-moves}
 use Rattle.tripod.specs.Tripod.{NextFace}
 use Rattle.tripod.proofs.Laws.{lowered-small, doubled-small}
 use Rattle.grids.specs.Grid.{index, cell-at, byte-of, byte-index}
 use Rattle.grids.specs.Inside.{Shaped, count-on, InGrid, off-axis}
 use Rattle.grids.proofs.Places.{x-below, y-below, z-below}
-use Rattle.grids.proofs.Inside.{inside-parts, counts-most, byte-below}
+use Rattle.grids.proofs.Inside.{inside-parts, counts-most, byte-below, indexed}
 use Rattle.walks.proofs.Inside.{cell-inside}
 use Rattle.routes.specs.declared.Route.{Route}
 use Rattle.routes.specs.declared.Spot.{Spot}
@@ -170,7 +170,13 @@ module _ (bytes : ℕ) (k : Route) (plan : Planned bytes k) where
         few = few;
       }
 
-  -- which is the cell's
+  -- whose number tells the cell
+  pub spot-cell : (t : Steps) (at : ℤ) → ((a : Axis) → t a ≤ D a) → at ≡ pos (byte-index (k .n) (cell-of (k .p) (k .q) t)) →
+      cell-at (k .n) (natAbs at) ≡ cell-of (k .p) (k .q) t
+  spot-cell t at le is =
+      ap (λ z. cell-at (k .n) (natAbs z)) is ∙ indexed (k .n) bytes (cell-of (k .p) (k .q) t) (plan .shaped) (inside t le) .is
+
+  -- it is the cell's
   pub byte-is : (l : List ℕ) (t : Steps) (s : Spot) → SpotAt k t s → byte-of-spot l s ≡ byte-of (k .n) l (cell-of (k .p) (k .q) t)
   byte-is l t s h = ap (λ z. getD l (natAbs z) 0) (h .index)
 
@@ -187,6 +193,20 @@ module _ (bytes : ℕ) (k : Route) (plan : Planned bytes k) where
       }
 
   -- ---- the 6-line
+
+  -- P has number 0
+  pub at-first : (s : Spot) → SpotAt k (at 0 0 0) s → SpotAt k (place (course k) 0) s
+  at-first s = subst (λ t. SpotAt k t s) (fun-ext no-steps)
+    where
+      no-steps : (a : Axis) → at 0 0 0 a ≡ place (course k) 0 a
+      no-steps X = sym (place-start (course k) X)
+      no-steps Y = sym (place-start (course k) Y)
+      no-steps Z = sym (place-start (course k) Z)
+
+  -- the byte of a number's spot is that of its cell
+  pub six-byte : (l : List ℕ) (m : ℕ) (s : Spot) → SpotAt k (place (course k) m) s →
+      byte-of-spot l s ≡ byte-of (k .n) l (six-cell (preference k) (k .p) (k .q) m)
+  six-byte l m s h = byte-is l (place (course k) m) s h ∙ ap (byte-of (k .n) l) (sym (six-is (preference k) (k .p) (k .q) m))
 
   pub place-within : (m : ℕ) → m ≤ total D → (a : Axis) → place (course k) m a ≤ D a
   place-within m le = place-on (course k) (centres-good (preference k) D) m le .1

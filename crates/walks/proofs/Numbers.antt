@@ -13,7 +13,9 @@ use lib.ListN.{length}
 use borrow.Author.Tests.{eq-eqb, ne-eqb}
 use Rattle.cells.specs.declared.Cell.{Cell}
 use Rattle.cells.specs.declared.Counts.{Counts}
+use Rattle.cells.specs.Tabulate.{tabulate}
 use Rattle.cells.specs.Touching.{Touches}
+use Rattle.cells.proofs.Tabulate.{tabulate-length, tabulate-first}
 use Rattle.lines.specs.Steps.{X, Y, Z}
 use Rattle.lines.specs.Preference.{Preference}
 use Rattle.lines.specs.Lines.{differences, longest, six-cell, cell-26, number-26}
@@ -26,7 +28,7 @@ use Rattle.walks.specs.Walks.{Conduct, is-cell, number-of, six-count, co
 use Rattle.walks.specs.Walks.{walk, next-cell, walk-of}
 use Rattle.walks.specs.Answers.{last-of}
 use Rattle.walks.proofs.Find.{found, found-is, same-is-cell, other-is-not}
-use Rattle.walks.specs.Numbers.{stop, ends, visits, Rises, last-number, go-by, go, hits-at, step, end-of, reads-of}
+use Rattle.walks.specs.Numbers.{stop, ends, visits, stands, Rises, last-number, go-by, go, hits-at, step, end-of, reads-of}
 use Rattle.walks.proofs.Runs.{not-stopped, by-one}
 
 module _ (r : Preference) (p q : Cell) where
@@ -140,28 +142,28 @@ module _ (how : Conduct) (n : Counts) (l : List ℕ) (p q : Cell) (next : Cell �
   abbrev stops : ℕ → Bool
   stops s = stop (hits-at how n l p q) (last-number p q) s
 
-  -- the number of its cells, and its last cell
+  -- its cells, and its last cell
   pub record Followed (s fuel : ℕ) : Type 0 where
-    pub long : length (walk (hit-at how n l p) next q fuel (F s)) ≡ visits (hits-at how n l p q) (last-number p q) g fuel s
+    pub cells : walk (hit-at how n l p) next q fuel (F s) ≡ tabulate (λ m. F (stands g s m)) (visits (hits-at how n l p q) (last-number p q) g fuel s)
     pub last : (c : Cell) → last-of c (walk (hit-at how n l p) next q fuel (F s)) ≡ F (ends (hits-at how n l p q) (last-number p q) g fuel s)
 
   pub followed : (fuel s : ℕ) → s ≤ last-number p q → last-number p q < s + fuel → Followed s fuel
-  unfolding walk visits ends
+  unfolding walk visits ends stands
   followed zero s le enough = absurd (omega arith)
   followed (suc fuel) s le enough =
       let e : (hit-at how n l p (F s) || is-cell (F s) q) ≡ stops s = ap (λ b. hits-at how n l p q s || b) (is-q (how .preference) p q s) in
       let r = turn (stops s) refl (λ lt. followed fuel (g s) (rises .most s lt) (omega (arith, rises .up s lt))) in
       record {
-        long = subst (λ t. length (F s ∷ cond t [] (walk (hit-at how n l p) next q fuel (next (F s)))) ≡ suc
-            (cond (stops s) 0 (visits (hits-at how n l p q) (last-number p q) g fuel (g s)))) (sym e) (r .0);
+        cells = subst (λ t. F s ∷ cond t [] (walk (hit-at how n l p) next q fuel (next (F s))) ≡ tabulate (λ m. F (stands g s m)) (suc
+            (cond (stops s) 0 (visits (hits-at how n l p q) (last-number p q) g fuel (g s))))) (sym e) (r .0);
         last = λ c. subst (λ t. last-of (F s) (cond t [] (walk (hit-at how n l p) next q fuel (next (F s)))) ≡ F
             (cond (stops s) s (ends (hits-at how n l p q) (last-number p q) g fuel (g s)))) (sym e) (r .1);
       }
     where
       turn :
           (u : Bool) → stops s ≡ u → (s < last-number p q → Followed (g s) fuel) →
-          (length (F s ∷ cond u [] (walk (hit-at how n l p) next q fuel (next (F s)))) ≡ suc
-          (cond u 0 (visits (hits-at how n l p q) (last-number p q) g fuel (g s)))) ×
+          (F s ∷ cond u [] (walk (hit-at how n l p) next q fuel (next (F s))) ≡ tabulate (λ m. F (stands g s m)) (suc
+          (cond u 0 (visits (hits-at how n l p q) (last-number p q) g fuel (g s))))) ×
           (last-of (F s) (cond u [] (walk (hit-at how n l p) next q fuel (next (F s)))) ≡ F
           (cond u s (ends (hits-at how n l p q) (last-number p q) g fuel (g s))))
       turn true h ih = (refl, refl)
@@ -169,7 +171,7 @@ module _ (how : Conduct) (n : Counts) (l : List ℕ) (p q : Cell) (next : Cell �
           let ne : s ≢ last-number p q = not-stopped (hits-at how n l p q s) s (last-number p q) h .1 in
           let lt : s < last-number p q = omega arith in
           let r = ih lt in (
-            ap suc (ap (λ w. length (walk (hit-at how n l p) next q fuel w)) (steps s lt) ∙ r .long),
+            ap (λ cells. F s ∷ cells) (ap (walk (hit-at how n l p) next q fuel) (steps s lt) ∙ r .cells) ∙ sym (tabulate-first (λ m. F (stands g s m)) (visits (hits-at how n l p q) (last-number p q) g fuel (g s))),
             ap (λ w. last-of (F s) (walk (hit-at how n l p) next q fuel w)) (steps s lt) ∙ r .last (F s),
           )
 
@@ -177,8 +179,9 @@ module _ (how : Conduct) (n : Counts) (l : List ℕ) (p q : Cell) (next : Cell �
   whole : Followed 0 (six-count p q)
   whole = followed (six-count p q) 0 (omega arith) (omega arith)
 
-  pub whole-long : length (walk (hit-at how n l p) next q (six-count p q) p) ≡ visits (hits-at how n l p q) (last-number p q) g (six-count p q) 0
-  whole-long = ap (λ w. length (walk (hit-at how n l p) next q (six-count p q) w)) (sym (six-start (how .preference) p q)) ∙ whole .long
+  pub whole-cells : walk (hit-at how n l p) next q (six-count p q) p ≡ tabulate (λ m. F (stands g 0 m))
+      (visits (hits-at how n l p q) (last-number p q) g (six-count p q) 0)
+  whole-cells = ap (walk (hit-at how n l p) next q (six-count p q)) (sym (six-start (how .preference) p q)) ∙ whole .cells
 
   pub whole-last : (c : Cell) → last-of c (walk (hit-at how n l p) next q (six-count p q) p) ≡ F
       (ends (hits-at how n l p q) (last-number p q) g (six-count p q) 0)
@@ -195,10 +198,15 @@ module _ (r : Preference) (n : Counts) (l : List ℕ) (p q : Cell) where
   step-next Adaptive = adaptive-next r n l p q
 
 module _ (how : Conduct) (n : Counts) (l : List ℕ) (p q : Cell) where
-  pub walk-length : (k : Walker) → length (walk-of k how n l p q) ≡ reads-of how n l p q k
+  -- its cells are those of the numbers on which it stands
+  pub walk-cells : (k : Walker) →
+      walk-of k how n l p q ≡ tabulate (λ m. six-cell (how .preference) p q (stands (step (how .preference) n l p q k) 0 m)) (reads-of how n l p q k)
   unfolding walk-of
-  walk-length k = whole-long how n l p q (next-cell k (how .preference) n l p q) (step (how .preference) n l p q k)
+  walk-cells k = whole-cells how n l p q (next-cell k (how .preference) n l p q) (step (how .preference) n l p q k)
       (step-rises (how .preference) n l p q k) (step-next (how .preference) n l p q k)
+
+  pub walk-length : (k : Walker) → length (walk-of k how n l p q) ≡ reads-of how n l p q k
+  walk-length k = ap length (walk-cells k) ∙ tabulate-length _ (reads-of how n l p q k)
 
   pub walk-last : (k : Walker) (c : Cell) → last-of c (walk-of k how n l p q) ≡ six-cell (how .preference) p q (end-of how n l p q k)
   unfolding walk-of

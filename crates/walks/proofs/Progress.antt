@@ -1,11 +1,12 @@
 -- A walk on its way, as a loop follows it: at number s, r numbers visited before it, with the end and the visits of the whole walk still ahead.
 -- Knows nothing of cells. Assumes nothing.
-use mathlib.Core.Path.{_≡_, refl, sym, ap, _∙_}
+use mathlib.Core.Path.{_≡_, refl, sym, ap, _∙_, subst₂}
 use mathlib.Core.Logic.{_≢_}
 use mathlib.Core.Bool.{Bool, true, false, cond}
 use Prim.Native.Nat.{ℕ, zero, suc, _+_, _<_}
 use native.Mathlib.Omega.{arith}
-use Rattle.walks.specs.Numbers.{stop, ends, visits, Rises, OnWay}
+use native.Mathlib.Numerals.{add-one}
+use Rattle.walks.specs.Numbers.{stop, ends, visits, stands, Rises, OnWay}
 use Rattle.walks.proofs.Runs.{not-stopped}
 
 module _ (hits : ℕ → Bool) (N : ℕ) (go : ℕ → ℕ) where
@@ -52,3 +53,33 @@ module _ (hits : ℕ → Bool) (N : ℕ) (go : ℕ → ℕ) where
             end = sym (ends-by fuel s h) ∙ e;
             reads = omega (arith, visits-by fuel s h);
           }
+
+-- ---- on which numbers it stands
+
+-- one step more
+pub stands-next : (go : ℕ → ℕ) (s m : ℕ) → stands go s (suc m) ≡ go (stands go s m)
+unfolding stands
+stands-next go s zero = refl
+stands-next go s (suc m) = stands-next go (go s) m
+
+module _ (hits : ℕ → Bool) (N : ℕ) (go : ℕ → ℕ) (rises : Rises N go) where
+  -- before its last visit it is on its way, as many numbers visited as steps made
+  pub stands-on : (m : ℕ) → m < visits hits N go (N + 1) 0 → OnWay hits N go (stands go 0 m) m
+  unfolding stands
+  stands-on zero lt = on-start hits N go
+  stands-on (suc m) lt = by (stands-on m (omega arith)) (stop hits N (stands go 0 m)) refl
+    where
+      by : OnWay hits N go (stands go 0 m) m → (b : Bool) → stop hits N (stands go 0 m) ≡ b → OnWay hits N go (stands go 0 (suc m)) (suc m)
+      by here true e = absurd (omega (arith, on-stop hits N go (stands go 0 m) m here e .1))
+      by here false e = subst₂ (λ s r. OnWay hits N go s r) (sym (stands-next go 0 m)) (add-one m) (on-turn hits N go rises (stands go 0 m) m here e)
+
+  -- and it has not come to the last number
+  pub stands-below : (m : ℕ) → m + 1 < visits hits N go (N + 1) 0 → stands go 0 m < N
+  stands-below m lt = by (stop hits N (stands go 0 m)) refl
+    where
+      here : OnWay hits N go (stands go 0 m) m
+      here = stands-on m (omega arith)
+
+      by : (b : Bool) → stop hits N (stands go 0 m) ≡ b → stands go 0 m < N
+      by true e = absurd (omega (arith, on-stop hits N go (stands go 0 m) m here e .1))
+      by false e = let ne : stands go 0 m ≢ N = not-stopped (hits (stands go 0 m)) (stands go 0 m) N e .1 in omega (arith, here .most)

@@ -35,6 +35,11 @@ unfoldable pub visits : (ℕ → Bool) → ℕ → (ℕ → ℕ) → ℕ → ℕ
 visits hits N go zero s = 0
 visits hits N go (suc fuel) s = suc (cond (stop hits N s) 0 (visits hits N go fuel (go s)))
 
+-- on which number it stands after so many steps from s, if nothing stops it
+unfoldable pub stands : (ℕ → ℕ) → ℕ → ℕ → ℕ
+stands go s zero = s
+stands go s (suc m) = stands go (go s) m
+
 -- it rises, and does not pass the last
 pub record Rises (N : ℕ) (go : ℕ → ℕ) : Type 0 where
   pub up : (s : ℕ) → s < N → s < go s

@@ -13,7 +13,8 @@ use Rattle.runs.proofs.Along.{route-small}
 use Rattle.hits.specs.Found.{going, Walking, At26, Came}
 use Rattle.routes.proofs.Spots.{short-at}
 use Rattle.hits.proofs.Walking.{at-end}
-use Rattle.hits.proofs.Turns.{turn-stopped, turn-walking, last-26}
+use Rattle.routes.proofs.Cells26.{last-26}
+use Rattle.hits.proofs.Turns.{turn-stopped, turn-walking}
 use Rattle.hits.proofs.Starting.{turn-begins, turn-came}
 use Rattle.hits.proofs.walk_adaptive.Statement.{statement}
 use Rattle.hits.proofs.walk_adaptive.Tie as tie
@@ -134,7 +135,7 @@ returns-3 c =
     let k = s .args .k in
     let all-made : cell-left k (a .loop .t .left) ≡ longest (differences (k .p) (k .q)) = omega (arith, c .before .before .if2 .left) in
     at-end (s .args .how .start) _ k (s .pre .0) (s .args .cells .now) _ _ _ _ (walking a)
-    (ap (number-26 (k .p) (k .q)) all-made ∙ last-26 (s .args .how .start) _ k (s .pre .0) (s .args .cells .now))
+    (ap (number-26 (k .p) (k .q)) all-made ∙ last-26 k)
 
 pub walk-adaptive-spec : {M : Type 1} → statement M
 walk-adaptive-spec =
