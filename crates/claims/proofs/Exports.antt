@@ -20,7 +20,7 @@ use Rattle.lines.specs.Lines.{six-line, line-26}
 use Rattle.lines.specs.Touching.{touching-line}
 use Rattle.lists.specs.declared.Listed.{Listed}
 use Rattle.lists.specs.declared.Listed.the-variants as Listed
-use Rattle.lists.specs.Lists.{list-check, filled, Lists, Line6}
+use Rattle.lists.specs.Lists.{ends-check, list-check, filled, Lists, Line6}
 use Rattle.grids.specs.Grid.{shape, layer-part}
 use Rattle.grids.specs.Marks.{marked, complete, completeness, any}
 use Rattle.bricks.specs.declared.Tally.the-variants as Tally
@@ -90,7 +90,7 @@ module _ (rule : ℕ) (p q : Cell) (entry exit : List ℤ) where
   line = six-line (by-rule (rule-of rule) p q) p q
 
   abbrev line-check : Verdict
-  line-check = list-check p q (length line) (length entry)
+  line-check = list-check (ends-check p q) (length line) (length entry)
 
   abbrev MeetsLine6 : Listed → Type 0
   MeetsLine6 a = After (rule-check rule) (λ why. (a ≡ Listed.Refused why) × (exit ≡ entry)) (Line6 (rule-of rule) p q entry a exit)
@@ -171,11 +171,11 @@ refill-untouched n low high byte l m total r l′ m′ h refused =
     )
 
 -- of any list
-list-untouched : (l : List Cell) (p q : Cell) (entry exit : List ℤ) (r : OatListed) (a : Listed) → r ≡ flat-listed a → Lists l p q entry a exit →
+list-untouched : (l : List Cell) (first : Verdict) (entry exit : List ℤ) (r : OatListed) (a : Listed) → r ≡ flat-listed a → Lists l first entry a exit →
     (r .said .refusal ≡ 0 → ⊥) → exit ≡ entry
-list-untouched l p q entry exit r a flat meets =
+list-untouched l first entry exit r a flat meets =
     untouched (λ f. f .said) (λ v. flat-listed (by-verdict Listed.Refused (Listed.Cells (length l)) v)) (by-verdict (λ x. entry) (filled l entry)) refl
-    (λ x. refl) (list-check p q (length l) (length entry)) (flat ∙ ap flat-listed (meets .says)) (meets .holds)
+    (λ x. refl) (list-check first (length l) (length entry)) (flat ∙ ap flat-listed (meets .says)) (meets .holds)
 
 pub refused-untouched : RefusedUntouched
 refused-untouched =
@@ -185,8 +185,8 @@ refused-untouched =
           untouched (λ f. f .said) (λ v. flat-listed (by-verdict Listed.Refused (Listed.Cells (length l)) v))
           (by-verdict (λ x. entry) (filled l entry)) refl (λ x. refl) (rule-check rule then line-check rule p q entry exit)
           (h .flat ∙ ap flat-listed (line6-says rule p q entry exit (h .answer) (h .meets))) (line6-holds rule p q entry exit (h .answer) (h .meets));
-      line26 = λ p q entry r exit h. list-untouched (line-26 p q) p q entry exit r (h .answer) (h .flat) (h .meets);
-      line-touching = λ p q entry r exit h. list-untouched (touching-line p q) p q entry exit r (h .answer) (h .flat) (h .meets);
+      line26 = λ p q entry r exit h. list-untouched (line-26 p q) (ends-check p q) entry exit r (h .answer) (h .flat) (h .meets);
+      line-touching = λ p q entry r exit h. list-untouched (touching-line p q) (ends-check p q) entry exit r (h .answer) (h .flat) (h .meets);
       mark = λ n entry r exit h.
           untouched (λ f. f .said) flat-verdict (by-verdict (λ x. entry) (marked 3 n entry)) refl (λ x. refl) (shape n (length entry))
           (h .flat ∙ ap flat-verdict (h .meets .says)) (h .meets .holds);

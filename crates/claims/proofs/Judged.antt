@@ -25,13 +25,13 @@ use Rattle.cells.specs.declared.Verdict.the-variants.{Fine}
 use Rattle.cells.specs.declared.Verdict.{Verdict}
 use Rattle.cells.specs.Checks.{refuse-when, _then_}
 use Rattle.cells.specs.Refusals.{alone}
-use Rattle.cells.specs.Tests.{_gives_}
+use Rattle.cells.specs.Tests.{Tests, _gives_}
 use Rattle.cells.specs.Manners.{names-rule, rule-check}
 use Rattle.cells.proofs.Conditions.{ltb-means, eqb-means, zero-means, not-eqb-means, ltZ-means, leZ-means, leZ-fails, not-means, or-means, not-and-means}
 use Rattle.cells.proofs.Signed.{le-ltZ}
 use Rattle.cells.proofs.Tests.{Judges, when, _next_, next-if, next-fine}
 use Rattle.lines.specs.Lines.{in-limit}
-use Rattle.lists.specs.Lists.{end-check, list-check}
+use Rattle.lists.specs.Lists.{end-check, ends-check, list-check}
 use Rattle.grids.specs.Grid.{bad-count, size, count-check, shape, layer-check}
 use Rattle.grids.specs.Inside.{off-axis, grid-check, walk-check}
 use Rattle.cells.proofs.Touching.{and-both}
@@ -54,7 +54,7 @@ use Rattle.records.specs.Writing.{write-check}
 use Rattle.claims.specs.Kept.{HoldsNamed}
 use Rattle.claims.proofs.Kept.{holds-is, is-holds}
 use Rattle.claims.specs.Refused.{bricks-tests, corner-tests, Disagrees, box-tests, set-tests}
-use Rattle.claims.specs.Refused.{limit-tests, line-tests, count-tests, shape-tests, layer-tests, grid-tests, walk-tests, placement-tests}
+use Rattle.claims.specs.Refused.{limit-tests, ends-tests, list-tests, count-tests, shape-tests, layer-tests, grid-tests, walk-tests, placement-tests}
 use Rattle.claims.specs.Refused.{value-tests, point-tests, whole-tests, version-test, counts-in, venue-tests, pair-tests, write-tests, rule-test}
 
 -- ---- line lists
@@ -66,8 +66,11 @@ limit-judged : (e : End) (c : cell.Cell) → Judges (limit-tests e c) (end-check
 limit-judged e c = when (beyond-limit (c .x)) (Refusal.Limit e X) next when (beyond-limit (c .y)) (Refusal.Limit e Y) next when (beyond-limit (c .z))
     (Refusal.Limit e Z)
 
-pub line-judged : (p q : cell.Cell) (cells room : ℕ) → Judges (line-tests p q cells room) (list-check p q cells room)
-line-judged p q cells room = (limit-judged P p next limit-judged Q q) next when (ltb-means room (3 * cells)) Refusal.Room
+pub list-judged : {tests : Tests} {first : Verdict} → Judges tests first → (cells room : ℕ) → Judges (list-tests tests cells room) (list-check first cells room)
+list-judged judged cells room = judged next when (ltb-means room (3 * cells)) Refusal.Room
+
+pub ends-judged : (p q : cell.Cell) → Judges (ends-tests p q) (ends-check p q)
+ends-judged p q = limit-judged P p next limit-judged Q q
 
 -- ---- grids
 

@@ -13,6 +13,7 @@ use Rattle.cells.specs.declared.Axis.{Axis}
 use Rattle.cells.specs.declared.Axis.the-variants.{X, Y, Z}
 use Rattle.cells.specs.declared.Cell.{Cell}
 use Rattle.cells.specs.declared.Rule.{Rule}
+use Rattle.cells.specs.declared.Verdict.{Verdict}
 use Rattle.cells.specs.declared.Verdict.the-variants as Verdict
 use Rattle.cells.specs.Touching.{on}
 use Rattle.cells.specs.Checks.{by-verdict}
@@ -34,14 +35,14 @@ unfoldable pub accepted : Listed → ℕ
 accepted (Cells n) = 1
 accepted (Refused r) = 0
 
-pub listed-once : (line : List Cell) (p q : Cell) (entry : List ℤ) → ListedOnce line p q entry
+pub listed-once : (line : List Cell) (first : Verdict) (entry : List ℤ) → ListedOnce line first entry
 unfolding accepted
-listed-once line p q entry =
+listed-once line first entry =
     record {
       answer = λ r s exit last h k. h .says ∙ sym (k .says);
       memory = λ r s exit last h k. h .holds ∙ sym (k .holds);
       untouched = λ r exit h.
-          by-refusal Refused (list-check p q (length line) (length entry)) (Cells (length line)) (filled line entry)
+          by-refusal Refused (list-check first (length line) (length entry)) (Cells (length line)) (filled line entry)
           (λ e. let z : _≡_ {A = ℕ} 1 0 = ap accepted e in omega arith) (sym (h .says)) (h .holds);
     }
 
@@ -65,11 +66,11 @@ numbers-at (c ∷ line) l (suc n) d lt =
     ap (three-at (numbers (c ∷ line) ++ l)) e ∙ three-on c (numbers line ++ l) (3 * n) ∙ numbers-at line l n d (omega arith)
 
 -- of any line
-module _ (line : List Cell) (p q : Cell) (entry exit : List ℤ) (k : ℕ) (h : Lists line p q entry (Cells k) exit) where
-  pub fits : (list-check p q (length line) (length entry) ≡ Verdict.Fine) × (Cells (length line) ≡ Cells k)
+module _ (line : List Cell) (first : Verdict) (entry exit : List ℤ) (k : ℕ) (h : Lists line first entry (Cells k) exit) where
+  pub fits : (list-check first (length line) (length entry) ≡ Verdict.Fine) × (Cells (length line) ≡ Cells k)
   unfolding accepted
   fits =
-      by-fine Refused (list-check p q (length line) (length entry)) (Cells (length line))
+      by-fine Refused (list-check first (length line) (length entry)) (Cells (length line))
       (λ r e. absurd (let z : _≡_ {A = ℕ} 0 1 = ap accepted e in omega arith)) (sym (h .says))
 
   whole : k ≡ length line
@@ -80,7 +81,7 @@ module _ (line : List Cell) (p q : Cell) (entry exit : List ℤ) (k : ℕ) (h : 
   written = h .holds ∙ ap (by-verdict (λ r. entry) (filled line entry)) (fits .0)
 
   pub roomy : 3 * length line ≤ length entry
-  roomy = ltb-false (length entry) (3 * length line) (passed _ _ (fine-rest (ends-check p q) _ (fits .0)))
+  roomy = ltb-false (length entry) (3 * length line) (passed _ _ (fine-rest first _ (fits .0)))
 
   behind : (i : ℕ) → 3 * length line ≤ i → getD (filled line entry) i (pos 0) ≡ getD entry i (pos 0)
   behind i le =
@@ -90,12 +91,12 @@ module _ (line : List Cell) (p q : Cell) (entry exit : List ℤ) (k : ℕ) (h : 
       ap (λ m. getD (filled line entry) m (pos 0)) e ∙ getD-append-add (numbers line) (drop (3 * length line) entry) j (pos 0)
       ∙ getD-drop (3 * length line) entry j (pos 0) ∙ ap (λ m. getD entry m (pos 0)) e′
 
-  pub cells-at : (many : ℕ) (cell : ℕ → Cell) → length line ≡ many → ((n : ℕ) → n < many → getD line n p ≡ cell n) → CellsAt many cell entry exit k
-  cells-at many cell long is =
+  pub cells-at : (many : ℕ) (cell : ℕ → Cell) (d : Cell) → length line ≡ many → ((n : ℕ) → n < many → getD line n d ≡ cell n) → CellsAt many cell entry exit k
+  cells-at many cell d long is =
       record {
         all = whole ∙ long;
         each = λ n lt.
-            ap (λ l. three-at l (3 * n)) written ∙ numbers-at line (drop (3 * length line) entry) n p (omega (arith, whole)) ∙ is n (omega (arith, whole));
+            ap (λ l. three-at l (3 * n)) written ∙ numbers-at line (drop (3 * length line) entry) n d (omega (arith, whole)) ∙ is n (omega (arith, whole));
         rest = λ i le. ap (λ l. getD l i (pos 0)) written ∙ behind i (omega (arith, whole));
         long =
             ap length written
@@ -105,9 +106,9 @@ module _ (line : List Cell) (p q : Cell) (entry exit : List ℤ) (k : ℕ) (h : 
 pub cells-listed : (p q : Cell) (entry exit : List ℤ) (k : ℕ) → CellsListed p q entry exit k
 cells-listed p q entry exit k =
     record {
-      six = λ rule h. cells-at (six-line (by-rule rule p q) p q) p q entry exit k h _ _ (six-length (by-rule rule p q) p q)
+      six = λ rule h. cells-at (six-line (by-rule rule p q) p q) (ends-check p q) entry exit k h _ _ p (six-length (by-rule rule p q) p q)
           (λ n lt. six-numbered (by-rule rule p q) p q n (omega arith));
-      twenty-six = λ h. cells-at (line-26 p q) p q entry exit k h _ _ (length-26 p q)
+      twenty-six = λ h. cells-at (line-26 p q) (ends-check p q) entry exit k h _ _ p (length-26 p q)
           (λ n lt. numbered-26 p q n (omega arith));
     }
 
@@ -159,9 +160,9 @@ longest-list =
 
 -- from (0,0,0) to (2,1,0) both rules have the order y, z, x
 by-one : (rule : Rule) (r : Listed) (exit : List ℤ) → Line6 rule (at 0 0 0) (at 2 1 0) room r exit →
-    Lists (six-line y-z-x (at 0 0 0) (at 2 1 0)) (at 0 0 0) (at 2 1 0) room r exit
+    Lists (six-line y-z-x (at 0 0 0) (at 2 1 0)) (ends-check (at 0 0 0) (at 2 1 0)) room r exit
 unfolding comes-before
-by-one rule r exit = subst (λ v. Lists (six-line v (at 0 0 0) (at 2 1 0)) (at 0 0 0) (at 2 1 0) room r exit) (first-order rule (at 0 0 0) (at 2 1 0) refl)
+by-one rule r exit = subst (λ v. Lists (six-line v (at 0 0 0) (at 2 1 0)) (ends-check (at 0 0 0) (at 2 1 0)) room r exit) (first-order rule (at 0 0 0) (at 2 1 0) refl)
 
 pub wrong-lists : WrongLists
 unfolding six-line line-26 accepted

@@ -19,7 +19,7 @@ use Rattle.cells.specs.declared.Verdict.the-variants.{Fine, Refused}
 use Rattle.cells.specs.Checks.{_then_, by-verdict}
 use Rattle.cells.specs.Manners.{rule-of, rule-check}
 use Rattle.cells.specs.Refusals.{Told, told-verdict}
-use Rattle.cells.specs.Tests.{First, ByTests}
+use Rattle.cells.specs.Tests.{Tests, First, ByTests}
 use Rattle.cells.proofs.Checks.{each-fine}
 use Rattle.cells.proofs.Tests.{Judges, _next_, answered, empty-by}
 use Rattle.lines.specs.Lines.{six-line, line-26}
@@ -29,7 +29,7 @@ use Rattle.lines.proofs.Touched.{start}
 use Rattle.lines.proofs.Cells.{six-length, length-26}
 use Rattle.lists.specs.declared.Listed.{Listed}
 use Rattle.lists.specs.declared.Listed.the-variants as Listed
-use Rattle.lists.specs.Lists.{Lists, list-check, told-listed}
+use Rattle.lists.specs.Lists.{ends-check, Lists, list-check, told-listed}
 use Rattle.grids.specs.declared.LayerPart.{LayerPart}
 use Rattle.grids.specs.declared.LayerPart.the-variants as LayerPart
 use Rattle.grids.specs.declared.Completeness.the-variants as Completeness
@@ -74,26 +74,26 @@ use Rattle.records.specs.Writing.{record-length, told-written}
 use Rattle.oatmarten.specs.Flattening.{After}
 use Rattle.structs.specs.Inputs.{as-manner}
 use Rattle.claims.specs.Refused.{box-tests, set-tests, TalliesTold}
-use Rattle.claims.specs.Refused.{line-tests, LinesTold, layer-tests, GridsTold, cell-tests, sight-tests, PointsTold, venue-tests, RecordsTold, RulesTold}
+use Rattle.claims.specs.Refused.{list-tests, LinesTold, layer-tests, GridsTold, cell-tests, sight-tests, PointsTold, venue-tests, RecordsTold, RulesTold}
 use Rattle.claims.proofs.Records.{the-part}
-use Rattle.claims.proofs.Judged.{line-judged, counts-judged, shape-judged, layer-judged, walk-judged, placement-judged}
+use Rattle.claims.proofs.Judged.{list-judged, ends-judged, counts-judged, shape-judged, layer-judged, walk-judged, placement-judged}
 use Rattle.claims.proofs.Judged.{bricks-judged, box-judged, one-corner, set-judged, point-judged, rule-judged}
 use Rattle.claims.proofs.Judged.{venue-judged, pair-judged, write-judged}
 
 -- ---- line lists
 
-listed-told : (line : List cell.Cell) (p q : cell.Cell) (entry exit : List ℤ) (r : Listed) → Lists line p q entry r exit →
-    ByTests (line-tests p q (length line) (length entry)) (told-listed r)
-listed-told line p q entry exit r c =
-    answered told-listed (by-verdict Listed.Refused (Listed.Cells (length line))) (λ r. refl) (line-judged p q (length line) (length entry))
+listed-told : (line : List cell.Cell) {tests : Tests} {first : Verdict} → Judges tests first → (entry exit : List ℤ) (r : Listed) →
+    Lists line first entry r exit → ByTests (list-tests tests (length line) (length entry)) (told-listed r)
+listed-told line judged entry exit r c =
+    answered told-listed (by-verdict Listed.Refused (Listed.Cells (length line))) (λ r. refl) (list-judged judged (length line) (length entry))
     (λ fine. (length line, refl)) (c .says)
 
 pub lines-told : (p q : cell.Cell) (entry exit : List ℤ) (r : Listed) → LinesTold p q entry exit r
 lines-told p q entry exit r =
     record {
-      six = λ rule c. let o = by-rule rule p q in rw (six-length o p q) at (listed-told (six-line o p q) p q entry exit r c);
-      twenty-six = λ c. rw (length-26 p q) at (listed-told (line-26 p q) p q entry exit r c);
-      touching = λ c. listed-told (touching-line p q) p q entry exit r c;
+      six = λ rule c. let o = by-rule rule p q in rw (six-length o p q) at (listed-told (six-line o p q) (ends-judged p q) entry exit r c);
+      twenty-six = λ c. rw (length-26 p q) at (listed-told (line-26 p q) (ends-judged p q) entry exit r c);
+      touching = λ c. listed-told (touching-line p q) (ends-judged p q) entry exit r c;
     }
 
 -- ---- grids
@@ -323,8 +323,8 @@ rules-told =
             h .answer,
             h .flat,
             rw (six-length o p q) at (answered told-listed (by-verdict Listed.Refused (Listed.Cells many)) (λ r. refl)
-                (rule-judged number next line-judged p q many (length entry)) (λ fine. (many, refl))
-                (after-says Listed.Refused (Listed.Cells many) (rule-check number) (list-check p q many (length entry)) (λ r m. m .0) (λ m. m .says)
+                (rule-judged number next list-judged (ends-judged p q) many (length entry)) (λ fine. (many, refl))
+                (after-says Listed.Refused (Listed.Cells many) (rule-check number) (list-check (ends-check p q) many (length entry)) (λ r m. m .0) (λ m. m .says)
                 (h .meets))),
           );
       walks = λ w how n l p q r h.

@@ -143,11 +143,11 @@ module _ (p q : Cell) where
   both-accepted entry exit other last k r h long-enough g =
       let line = six-line (by-rule Two p q) p q in
       let back = six-line (by-rule Two q p) q p in
-      let (fine, is) = fits line p q entry exit k h in
+      let (fine, is) = fits line (ends-check p q) entry exit k h in
       let (hp, hq) = ends-fine p q (fine-first (ends-check p q) _ fine) in
       let long : length back ≡ length line = six-length (by-rule Two q p) q p
       ∙ ap (λ m. m + 1) (either-way-total p q) ∙ sym (six-length (by-rule Two p q) p q) in
-      let room : 3 * length back ≤ length other = omega (arith, roomy line p q entry exit k h) in
+      let room : 3 * length back ≤ length other = omega (arith, roomy line (ends-check p q) entry exit k h) in
       g .says ∙ rw (limits-pass q p hq hp, le-ltb (length other) (3 * length back) room) (ap Cells long ∙ is)
 
 pub mirrored : (p q : Cell) → Mirror p q

@@ -34,6 +34,7 @@ use Rattle.lines.proofs.Fractions.{chain-le}
 use Rattle.lines.proofs.Touched.{start, visit, touching-parts, touching-length, touching-at, touched-in, share-at, touched-at, first-at, never-falls}
 use Rattle.lines.proofs.Touched.{all-different, has-six, ends-at, visiting-at}
 use Rattle.lines.proofs.Visits.{not-start, reached-upper, reached-lower}
+use Rattle.lists.specs.Lists.{ends-check}
 use Rattle.grids.specs.Grid.{byte-of, solid}
 use Rattle.grids.specs.Inside.{walk-check}
 use Rattle.walks.specs.declared.Walker.the-variants.{Plain}
@@ -126,7 +127,7 @@ longest-touching =
 
 pub touching-listed : (p q : Cell) (entry exit : List ℤ) (k : ℕ) → TouchingListed p q entry exit k
 touching-listed p q entry exit k =
-    record { cells = λ h. cells-at (touching-line p q) p q entry exit k h (length (touching-line p q)) (touching-cell p q) refl (λ n lt. refl) }
+    record { cells = λ h. cells-at (touching-line p q) (ends-check p q) entry exit k h (length (touching-line p q)) (touching-cell p q) p refl (λ n lt. refl) }
 
 pub touching-worked : TouchingRows
 unfolding touching-line

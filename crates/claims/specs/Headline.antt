@@ -12,6 +12,7 @@ use Rattle.cells.specs.declared.Manner.{Manner}
 use Rattle.cells.specs.declared.Refusal.{Refusal}
 use Rattle.cells.specs.declared.Rule.{Rule}
 use Rattle.cells.specs.declared.Start.{Start}
+use Rattle.cells.specs.declared.Verdict.{Verdict}
 use Rattle.lines.specs.Steps.{total}
 use Rattle.lines.specs.Preference.{by-rule}
 use Rattle.lines.specs.Lines.{differences, six-cell}
@@ -59,7 +60,7 @@ pub record TakesAnything : Type 1 where
   pub asks-nothing : AsksNothing
   pub promised : Promised
   pub numbers : (r : Refusal) → OneNumber r
-  pub lists : (line : List Cell) (p q : Cell) (entry : List ℤ) → ListedOnce line p q entry
+  pub lists : (line : List Cell) (first : Verdict) (entry : List ℤ) → ListedOnce line first entry
   pub grid-calls : grids.OneAnswer
   pub marking : (n : Counts) (l : List ℕ) → grids.MarkedCall n l
   pub walks : (how : Manner) (n : Counts) (l : List ℕ) (p q : Cell) → HitOnce how n l p q

@@ -7,6 +7,7 @@ use lib.ListN.{length, getD, replicate}
 use Rattle.cells.specs.declared.Cell.{Cell}
 use Rattle.cells.specs.declared.Refusal.{Refusal}
 use Rattle.cells.specs.declared.Rule.{Rule}
+use Rattle.cells.specs.declared.Verdict.{Verdict}
 use Rattle.lines.specs.Steps.{total}
 use Rattle.lines.specs.Preference.{by-rule}
 use Rattle.lines.specs.Lines.{differences, longest, six-cell, six-line, cell-26, line-26, InLimit}
@@ -15,11 +16,11 @@ use Rattle.lists.specs.declared.Listed.the-variants.{Cells, Refused}
 use Rattle.lists.specs.Lists.{Lists, Line6, Line26, numbers}
 use Rattle.claims.specs.Example.{at}
 
--- one answer and one final memory for each input: of every list call, whatever line it lists; a refusal writes nothing
-pub record ListedOnce (line : List Cell) (p q : Cell) (entry : List ℤ) : Type 0 where
-  pub answer : (r s : Listed) (exit last : List ℤ) → Lists line p q entry r exit → Lists line p q entry s last → r ≡ s
-  pub memory : (r s : Listed) (exit last : List ℤ) → Lists line p q entry r exit → Lists line p q entry s last → exit ≡ last
-  pub untouched : (r : Refusal) (exit : List ℤ) → Lists line p q entry (Refused r) exit → exit ≡ entry
+-- one answer and one final memory for each input: of every list call, whatever it lists and tests first; a refusal writes nothing
+pub record ListedOnce (line : List Cell) (first : Verdict) (entry : List ℤ) : Type 0 where
+  pub answer : (r s : Listed) (exit last : List ℤ) → Lists line first entry r exit → Lists line first entry s last → r ≡ s
+  pub memory : (r s : Listed) (exit last : List ℤ) → Lists line first entry r exit → Lists line first entry s last → exit ≡ last
+  pub untouched : (r : Refusal) (exit : List ℤ) → Lists line first entry (Refused r) exit → exit ≡ entry
 
 -- the numbers at i, i+1 and i+2 as x, y and z of a cell
 abbrev pub three-at : List ℤ → ℕ → Cell

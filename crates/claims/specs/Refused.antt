@@ -80,9 +80,13 @@ limit-tests e c = each-axis λ a. ((on c a <ℤ negℤ (pos 8192)) ⊎ (pos 8191
 abbrev pub ends-tests : (p q : Cell) → Tests
 ends-tests p q = limit-tests P p else limit-tests Q q
 
--- 1, then 6: fewer than three numbers lent for each cell of the line
+-- of a list, behind the tests that come first: 6, fewer than three numbers lent for each cell
+abbrev pub list-tests : Tests → (cells room : ℕ) → Tests
+list-tests first cells room = first else (room < 3 * cells) gives alone 6
+
+-- 1, then 6
 abbrev pub line-tests : (p q : Cell) (cells room : ℕ) → Tests
-line-tests p q cells room = ends-tests p q else (room < 3 * cells) gives alone 6
+line-tests p q = list-tests (ends-tests p q)
 
 -- ---- grids
 

@@ -25,7 +25,7 @@ use Rattle.lines.specs.declared.Order.the-variants.{Yzx, Xzy}
 use Rattle.lines.specs.Preference.{order-of, by-rule}
 use Rattle.lines.specs.Lines.{six-line, line-26}
 use Rattle.lists.specs.declared.Listed.the-variants as Listed
-use Rattle.lists.specs.Lists.{list-check, told-listed}
+use Rattle.lists.specs.Lists.{ends-check, list-check, told-listed}
 use Rattle.grids.specs.Marks.{marked, complete, completeness, told-completeness}
 use Rattle.bricks.specs.declared.Tally.{Tally}
 use Rattle.bricks.specs.declared.Tally.the-variants as Tally
@@ -130,7 +130,7 @@ Holds (six rule p q l) = six-line (by-rule rule p q) p q ≡ l
 Holds (orders p q o) = order-of Two p q ≡ o
 Holds (twenty-six p q l) = line-26 p q ≡ l
 Holds (lists p q room says) = told-listed
-    (by-verdict Listed.Refused (Listed.Cells (length (six-line (by-rule One p q) p q))) (list-check p q (length (six-line (by-rule One p q) p q)) room)) ≡ says
+    (by-verdict Listed.Refused (Listed.Cells (length (six-line (by-rule One p q) p q))) (list-check (ends-check p q) (length (six-line (by-rule One p q) p q)) room)) ≡ says
 Holds (marks k n l m) = marked k n l ≡ m
 Holds (complete-at k n l whether) = complete k n l ≡ whether
 Holds (complete-is n l whether) = told-completeness (completeness n l) ≡ inr whether

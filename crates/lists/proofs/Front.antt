@@ -19,6 +19,7 @@ use Rattle.cells.specs.declared.End.the-variants.{P, Q}
 use Rattle.cells.specs.Checks.{refuse-when}
 use Rattle.cells.specs.Touching.{on}
 use Rattle.cells.proofs.Checks.{fine-first, fine-rest, passed}
+use Rattle.cells.specs.declared.Verdict.{Verdict}
 use Rattle.cells.specs.declared.Verdict.the-variants.{Fine, Refused}
 use Rattle.lines.specs.Lines.{in-limit, InLimit}
 use Rattle.cells.specs.Tabulate.{tabulate}
@@ -63,18 +64,18 @@ front-filled f n entry = ap (λ k. numbers (tabulate f n) ++ drop (3 * k) entry)
 
 -- ---- the ways out
 
-module _ (line : List Cell) (p q : Cell) (entry : List ℤ) where
-  pub refused-ends : (r : Refusal) → ends-check p q ≡ Refused r → Lists line p q entry (Listed.Refused r) entry
-  refused-ends r h = record { says = sym (simp h); holds = sym (simp h) }
+module _ (line : List Cell) (first : Verdict) (entry : List ℤ) where
+  pub refused-first : (r : Refusal) → first ≡ Refused r → Lists line first entry (Listed.Refused r) entry
+  refused-first r h = record { says = sym (simp h); holds = sym (simp h) }
 
-  pub refused-room : ends-check p q ≡ Fine → length entry < 3 * length line → Lists line p q entry (Listed.Refused Room) entry
+  pub refused-room : first ≡ Fine → length entry < 3 * length line → Lists line first entry (Listed.Refused Room) entry
   refused-room h short = record {
     says = sym (simp (h, lt-ltb (length entry) (3 * length line) short));
     holds = sym (simp (h, lt-ltb (length entry) (3 * length line) short));
   }
 
-  pub listed-all : (exit : List ℤ) → ends-check p q ≡ Fine → 3 * length line ≤ length entry → exit ≡ filled line entry →
-      Lists line p q entry (Listed.Cells (length line)) exit
+  pub listed-all : (exit : List ℤ) → first ≡ Fine → 3 * length line ≤ length entry → exit ≡ filled line entry →
+      Lists line first entry (Listed.Cells (length line)) exit
   listed-all exit h room e =
       record { says = sym (simp (h, le-ltb (length entry) (3 * length line) room)); holds = e ∙ sym (simp (h, le-ltb (length entry) (3 * length line) room)) }
 

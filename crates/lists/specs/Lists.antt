@@ -32,30 +32,31 @@ end-check e c =
 abbrev pub ends-check : Cell → Cell → Verdict
 ends-check p q = end-check P p then end-check Q q
 
--- SCOPE A3: after the ends, 6 where the slice is too short for the list
-abbrev pub list-check : Cell → Cell → ℕ → ℕ → Verdict
-list-check p q cells room = ends-check p q then refuse-when (ltb room (3 * cells)) Room
+-- SCOPE A3: after the tests that come first, 6 where the slice is too short for the list
+abbrev pub list-check : Verdict → ℕ → ℕ → Verdict
+list-check first cells room = first then refuse-when (ltb room (3 * cells)) Room
 
 -- three numbers a cell
 abbrev pub numbers : List Cell → List ℤ
 numbers [] = []
 numbers (c ∷ l) = c .x ∷ c .y ∷ c .z ∷ numbers l
 
--- the line at the front, the rest as it was
+-- the cells at the front, the rest as it was
 abbrev pub filled : List Cell → List ℤ → List ℤ
 filled line entry = numbers line ++ drop (3 * length line) entry
 
--- a call that lists a line: its answer and the memory at exit, from its inputs; refused, the memory as it was
-pub record Lists (line : List Cell) (p q : Cell) (entry : List ℤ) (r : Listed) (exit : List ℤ) : Type 0 where
-  pub says : r ≡ by-verdict Listed.Refused (Listed.Cells (length line)) (list-check p q (length line) (length entry))
-  pub holds : exit ≡ by-verdict (λ r. entry) (filled line entry) (list-check p q (length line) (length entry))
+-- a call that lists cells: its answer and the memory at exit, from the verdict of the tests that come first and the memory that is lent; refused, the memory
+-- as it was
+pub record Lists (line : List Cell) (first : Verdict) (entry : List ℤ) (r : Listed) (exit : List ℤ) : Type 0 where
+  pub says : r ≡ by-verdict Listed.Refused (Listed.Cells (length line)) (list-check first (length line) (length entry))
+  pub holds : exit ≡ by-verdict (λ r. entry) (filled line entry) (list-check first (length line) (length entry))
 
 -- the contracts of the two calls
 abbrev pub Line6 : Rule → Cell → Cell → List ℤ → Listed → List ℤ → Type 0
-Line6 rule p q = Lists (six-line (by-rule rule p q) p q) p q
+Line6 rule p q = Lists (six-line (by-rule rule p q) p q) (ends-check p q)
 
 abbrev pub Line26 : Cell → Cell → List ℤ → Listed → List ℤ → Type 0
-Line26 p q = Lists (line-26 p q) p q
+Line26 p q = Lists (line-26 p q) (ends-check p q)
 
 -- each case of the answer: what is said of a refusal, or the number of cells
 abbrev pub told-listed : Listed → Told ⊎ ℕ

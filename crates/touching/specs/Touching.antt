@@ -15,7 +15,7 @@ use Rattle.lines.specs.Preference.{y-z-x}
 use Rattle.lines.specs.Lines.{face-along}
 use Rattle.lines.specs.Touching.{Visit, visits, visit-cell, crossings, touching-line, first-axis, is-start, visit-upper, visit-lower}
 use Rattle.lists.specs.declared.Listed.{Listed}
-use Rattle.lists.specs.Lists.{Lists}
+use Rattle.lists.specs.Lists.{ends-check, Lists}
 use Rattle.grids.specs.Grid.{byte-of}
 use Rattle.grids.specs.Inside.{walk-check}
 use Rattle.walks.specs.declared.Place.{Place}
@@ -25,7 +25,7 @@ use Rattle.walks.specs.Walks.{Conduct, hit-at}
 
 -- SCOPE M8: the contract of the list
 abbrev pub LineTouching : Cell → Cell → List ℤ → Listed → List ℤ → Type 0
-LineTouching p q = Lists (touching-line p q) p q
+LineTouching p q = Lists (touching-line p q) (ends-check p q)
 
 -- ---- the first hit
 

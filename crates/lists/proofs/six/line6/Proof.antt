@@ -9,7 +9,7 @@ use Rattle.lines.specs.Lines.{differences, six-line}
 use Rattle.lines.proofs.Cells.{six-length}
 use Rattle.lists.specs.declared.Listed.the-variants.{Cells}
 use Rattle.lists.specs.Lists.{ends-check, Line6}
-use Rattle.lists.proofs.Front.{refused-ends, refused-room, listed-all, ends-fine}
+use Rattle.lists.proofs.Front.{refused-first, refused-room, listed-all, ends-fine}
 use borrow.Author.Needs.{needs}
 use Rattle.lists.proofs.six.line6.Statement.{statement}
 use Rattle.lists.proofs.six.line6.Tie as tie
@@ -57,7 +57,7 @@ fill6-requires c κs =
 returns : tie.Need-returns
 returns c =
     let s = c .before .before .before .before in
-    refused-ends (six-line (by-rule (s .args .rule) (s .args .p) (s .args .q)) (s .args .p) (s .args .q)) (s .args .p) (s .args .q) (s .args .out .now) _
+    refused-first (six-line (by-rule (s .args .rule) (s .args .p) (s .args .q)) (s .args .p) (s .args .q)) (ends-check (s .args .p) (s .args .q)) (s .args .out .now) _
     (sym (c .before .before .before .check-ends .ensures) ∙ c .before .r .given .1)
 
 returns-2 : tie.Need-returns-2
@@ -65,7 +65,7 @@ returns-2 c =
     let a = c .before in
     let m = a .before in
     let s = m .before .before .before .before in
-    refused-room (six-line (by-rule (s .args .rule) (s .args .p) (s .args .q)) (s .args .p) (s .args .q)) (s .args .p) (s .args .q)
+    refused-room (six-line (by-rule (s .args .rule) (s .args .p) (s .args .q)) (s .args .p) (s .args .q)) (ends-check (s .args .p) (s .args .q))
     (s .args .out .now) (fine (m .before))
     (omega (arith, six-length (by-rule (s .args .rule) (s .args .p) (s .args .q)) (s .args .p) (s .args .q), count a))
 
@@ -81,7 +81,7 @@ returns-3 c =
     let q = s .args .q in
     let r = by-rule (s .args .rule) p q in
     subst (λ n. Line6 (s .args .rule) p q (s .args .out .now) (Cells n) (c .before .fill6 .last .0)) (six-length r p q ∙ ap (λ k. k + 1) (count a))
-    (listed-all (six-line r p q) p q (s .args .out .now) _ (fine (m .before)) (omega (arith, six-length r p q, count a)) (c .before .fill6 .ensures))
+    (listed-all (six-line r p q) (ends-check p q) (s .args .out .now) _ (fine (m .before)) (omega (arith, six-length r p q, count a)) (c .before .fill6 .ensures))
 
 pub line6-spec : {M : Type 1} → statement M
 line6-spec =

@@ -7,7 +7,7 @@ use Rattle.lines.specs.Lines.{differences, longest, line-26}
 use Rattle.lines.proofs.Cells.{length-26}
 use Rattle.lists.specs.declared.Listed.the-variants.{Cells}
 use Rattle.lists.specs.Lists.{ends-check, Line26}
-use Rattle.lists.proofs.Front.{refused-ends, refused-room, listed-all, ends-fine}
+use Rattle.lists.proofs.Front.{refused-first, refused-room, listed-all, ends-fine}
 use borrow.Author.Needs.{needs}
 use Rattle.lists.proofs.twenty_six.line26.Statement.{statement}
 use Rattle.lists.proofs.twenty_six.line26.Tie as tie
@@ -56,7 +56,7 @@ fill26-requires c κs =
 returns : tie.Need-returns
 returns c =
     let s = c .before .before .before .before in
-    refused-ends (line-26 (s .args .p) (s .args .q)) (s .args .p) (s .args .q) (s .args .out .now) _
+    refused-first (line-26 (s .args .p) (s .args .q)) (ends-check (s .args .p) (s .args .q)) (s .args .out .now) _
     (sym (c .before .before .before .check-ends .ensures) ∙ c .before .r .given .1)
 
 returns-2 : tie.Need-returns-2
@@ -64,7 +64,7 @@ returns-2 c =
     let a = c .before in
     let m = a .before in
     let s = m .before .before .before .before in
-    refused-room (line-26 (s .args .p) (s .args .q)) (s .args .p) (s .args .q) (s .args .out .now) (fine (m .before))
+    refused-room (line-26 (s .args .p) (s .args .q)) (ends-check (s .args .p) (s .args .q)) (s .args .out .now) (fine (m .before))
     (omega (arith, length-26 (s .args .p) (s .args .q), count a))
 
 same-length : tie.Need-same-length
@@ -78,7 +78,7 @@ returns-3 c =
     let p = s .args .p in
     let q = s .args .q in
     subst (λ n. Line26 p q (s .args .out .now) (Cells n) (c .before .fill26 .last .0)) (length-26 p q ∙ ap (λ k. k + 1) (count a))
-    (listed-all (line-26 p q) p q (s .args .out .now) _ (fine (m .before)) (omega (arith, length-26 p q, count a)) (c .before .fill26 .ensures))
+    (listed-all (line-26 p q) (ends-check p q) (s .args .out .now) _ (fine (m .before)) (omega (arith, length-26 p q, count a)) (c .before .fill26 .ensures))
 
 pub line26-spec : {M : Type 1} → statement M
 line26-spec =

@@ -10,7 +10,7 @@ use Rattle.lines.specs.Touching.{touching-line, visits}
 use Rattle.lines.proofs.Touched.{touching-length}
 use Rattle.lists.specs.declared.Listed.the-variants.{Cells}
 use Rattle.lists.specs.Lists.{ends-check}
-use Rattle.lists.proofs.Front.{refused-ends, refused-room, listed-all, ends-fine}
+use Rattle.lists.proofs.Front.{refused-first, refused-room, listed-all, ends-fine}
 use Rattle.touching.specs.Touching.{LineTouching}
 use Rattle.touching.specs.Listing.{course-of}
 use Rattle.touching.proofs.list.line_touching.Statement.{statement}
@@ -57,14 +57,14 @@ fill-requires c κs =
 returns : tie.Need-returns
 returns c =
     let s = c .before .before .before .before in
-    refused-ends (touching-line (s .args .p) (s .args .q)) (s .args .p) (s .args .q) (s .args .out .now) _
+    refused-first (touching-line (s .args .p) (s .args .q)) (ends-check (s .args .p) (s .args .q)) (s .args .out .now) _
     (sym (c .before .before .before .check-ends .ensures) ∙ c .before .r .given .1)
 
 returns-2 : tie.Need-returns-2
 returns-2 c =
     let m = c .before .before in
     let s = m .before .before .before .before in
-    refused-room (touching-line (s .args .p) (s .args .q)) (s .args .p) (s .args .q) (s .args .out .now) (fine (m .before))
+    refused-room (touching-line (s .args .p) (s .args .q)) (ends-check (s .args .p) (s .args .q)) (s .args .out .now) (fine (m .before))
     (ltb-true _ _ (sym (room (c .before)) ∙ c .if1 .taken))
 
 same-length : tie.Need-same-length
@@ -79,7 +79,7 @@ returns-3 c =
     let q = s .args .q in
     let (stored, many) = c .before .fill .ensures in
     subst (λ n. LineTouching p q (s .args .out .now) (Cells n) (c .before .fill .last .0)) (sym many)
-    (listed-all (touching-line p q) p q (s .args .out .now) _ (fine (m .before)) (enough e) stored)
+    (listed-all (touching-line p q) (ends-check p q) (s .args .out .now) _ (fine (m .before)) (enough e) stored)
 
 pub line-touching-spec : {M : Type 1} → statement M
 line-touching-spec =
