@@ -1,0 +1,2 @@
+pub mod Steps26
+pub mod Along
