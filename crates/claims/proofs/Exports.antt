@@ -33,6 +33,8 @@ use Rattle.walks.specs.declared.Walker.{Walker}
 use Rattle.walks.specs.declared.FirstHit.{FirstHit}
 use Rattle.walks.specs.declared.FirstHit.the-variants as FirstHit
 use Rattle.walks.specs.Answers.{first-hit, Finds}
+use Rattle.grids.specs.Inside.{walk-check}
+use Rattle.trails.specs.Trails.{trail, AdaptiveCells}
 use Rattle.survey.specs.declared.Placement.{Placement}
 use Rattle.survey.specs.declared.Point.{Point}
 use Rattle.sight.specs.declared.Sight.{Sight}
@@ -51,12 +53,12 @@ use Rattle.structs.specs.Refusals.{accepted}
 use Rattle.oatmarten.specs.Flattening.{Flattens, After}
 use Rattle.structs.specs.Inputs.{as-start, as-manner}
 use Rattle.structs.specs.LineAnswers.{flat-listed}
-use Rattle.oatmarten.specs.LineCalls.{FlatLine6}
+use Rattle.oatmarten.specs.LineCalls.{FlatByRule, FlatLine6}
 use Rattle.structs.specs.GridAnswers.{flat-verdict, flat-complete, flat-part}
 use Rattle.structs.specs.BrickAnswers.{flat-tally}
 use Rattle.oatmarten.specs.BrickCalls.{FlatRefills}
 use Rattle.structs.specs.WalkAnswers.{flat-hit}
-use Rattle.oatmarten.specs.WalkCalls.{FlatFinds}
+use Rattle.oatmarten.specs.WalkCalls.{FlatFinds, FlatAdaptiveCells}
 use Rattle.structs.specs.SightAnswers.{flat-found, flat-sight}
 use Rattle.oatmarten.specs.SightCalls.{FlatSees}
 use Rattle.structs.specs.RecordAnswers.{rule-number, flat-venue, flat-pair, flat-written}
@@ -64,7 +66,8 @@ use Rattle.claims.proofs.Grids.{one}
 use Rattle.claims.proofs.Flattenings.{input-rows}
 use Rattle.claims.proofs.Refused.{after-says}
 use Rattle.claims.specs.Example.{at}
-use Rattle.claims.specs.Exports.{One, OnePair, BothUntouched, ExportsOnce, RefusedUntouched, WrongExports, ExportsAre, NoSuchRule}
+use Rattle.claims.specs.Flattenings.{three}
+use Rattle.claims.specs.Exports.{One, OneEach, OnePair, Untouched, BothUntouched, ExportsOnce, RefusedUntouched, WrongExports, ExportsAre, NoSuchRule}
 use Rattle.claims.specs.Lists.{room}
 
 -- ---- one answer, one final memory
@@ -84,22 +87,25 @@ after-call : {A : Type 0} (refused : Refusal → A) {x a : A} {meets : Type 0} (
 after-call refused Verdict.Fine says h = says h
 after-call refused (Verdict.Refused r) says h = h
 
--- the 6-line after the test of its rule, in one verdict: its answer, and the memory
-module _ (rule : ℕ) (p q : Cell) (entry exit : List ℤ) where
-  abbrev line : List Cell
-  line = six-line (by-rule (rule-of rule) p q) p q
+-- a list after the test of its rule, in one verdict: its answer, and the memory
+module _ (rule : ℕ) (line : List Cell) (first : Verdict) (entry : List ℤ) where
+  abbrev all-checks : Verdict
+  all-checks = rule-check rule then list-check first (length line) (length entry)
 
-  abbrev line-check : Verdict
-  line-check = list-check (ends-check p q) (length line) (length entry)
+  abbrev ByRule : OatListed → List ℤ → Type 0
+  ByRule r exit = FlatByRule rule (λ a. Lists line first entry a exit) entry r exit
 
-  abbrev MeetsLine6 : Listed → Type 0
-  MeetsLine6 a = After (rule-check rule) (λ why. (a ≡ Listed.Refused why) × (exit ≡ entry)) (Line6 (rule-of rule) p q entry a exit)
+  list-says : {r : OatListed} (exit : List ℤ) → ByRule r exit → r ≡ flat-listed (by-verdict Listed.Refused (Listed.Cells (length line)) all-checks)
+  list-says exit h =
+      h .flat ∙ ap flat-listed (after-says Listed.Refused (Listed.Cells (length line)) (rule-check rule) (list-check first (length line) (length entry))
+      (λ r m. m .0) (λ m. m .says) (h .meets))
 
-  line6-says : (a : Listed) → MeetsLine6 a → a ≡ by-verdict Listed.Refused (Listed.Cells (length line)) (rule-check rule then line-check)
-  line6-says a = after-says Listed.Refused (Listed.Cells (length line)) (rule-check rule) line-check (λ r m. m .0) (λ m. m .says)
+  list-holds : {r : OatListed} (exit : List ℤ) → ByRule r exit → exit ≡ by-verdict (λ r. entry) (filled line entry) all-checks
+  list-holds exit h =
+      after-says (λ r. entry) (filled line entry) (rule-check rule) (list-check first (length line) (length entry)) (λ r m. m .1) (λ m. m .holds) (h .meets)
 
-  line6-holds : (a : Listed) → MeetsLine6 a → exit ≡ by-verdict (λ r. entry) (filled line entry) (rule-check rule then line-check)
-  line6-holds a = after-says (λ r. entry) (filled line entry) (rule-check rule) line-check (λ r m. m .1) (λ m. m .holds)
+  list-once : OneEach ByRule
+  list-once r s exit last h k = (one r s (list-says exit h) (list-says last k), one exit last (list-holds exit h) (list-holds last k))
 
 -- a walk and a sight after the test of the rule
 walk-says : (w : Walker) (how : OatManner) (n : Counts) (cells : List ℕ) (p q : Cell) (a : FirstHit) →
@@ -122,10 +128,7 @@ one-refill n low high byte l m total r s exit last lent left h k = (
 pub exports-once : ExportsOnce
 exports-once =
     record {
-      line6 = λ rule p q entry r s exit last h k. (
-        same-flat flat-listed (line6-says rule p q entry exit) (line6-says rule p q entry last) h k,
-        one exit last (line6-holds rule p q entry exit (h .answer) (h .meets)) (line6-holds rule p q entry last (k .answer) (k .meets)),
-      );
+      line6 = λ rule p q. list-once rule (six-line (by-rule (rule-of rule) p q) p q) (ends-check p q);
       line26 = λ p q entry r s exit last h k.
           (same-flat flat-listed (λ a m. m .says) (λ a m. m .says) h k, one exit last (h .meets .holds) (k .meets .holds));
       line-touching = λ p q entry r s exit last h k.
@@ -139,6 +142,7 @@ exports-once =
       set = λ n cell. one-refill n cell cell;
       refill = one-refill;
       walks = λ w how n cells p q. flat-one flat-hit (walk-says w how n cells p q);
+      adaptive-cells = λ how n cells p q. list-once (how .rule) (trail (as-manner how) n cells p q) (walk-check n (length cells) p q);
       touching = λ s n cells p q. flat-one flat-hit (λ a m. m .says);
       found = λ n at p. flat-one flat-found (λ a m. m .says);
       seen = λ how n cells at camera ball. flat-one flat-sight (sight-says how n cells at camera ball);
@@ -177,16 +181,18 @@ list-untouched l first entry exit r a flat meets =
     untouched (λ f. f .said) (λ v. flat-listed (by-verdict Listed.Refused (Listed.Cells (length l)) v)) (by-verdict (λ x. entry) (filled l entry)) refl
     (λ x. refl) (list-check first (length l) (length entry)) (flat ∙ ap flat-listed (meets .says)) (meets .holds)
 
+by-rule-untouched : (rule : ℕ) (l : List Cell) (first : Verdict) (entry : List ℤ) → Untouched (λ f. f .said) (ByRule rule l first entry) entry
+by-rule-untouched rule l first entry r exit h =
+    untouched (λ f. f .said) (λ v. flat-listed (by-verdict Listed.Refused (Listed.Cells (length l)) v)) (by-verdict (λ x. entry) (filled l entry)) refl
+    (λ x. refl) (all-checks rule l first entry) (list-says rule l first entry exit h) (list-holds rule l first entry exit h)
+
 pub refused-untouched : RefusedUntouched
 refused-untouched =
     record {
-      line6 = λ rule p q entry r exit h.
-          let l = line rule p q entry exit in
-          untouched (λ f. f .said) (λ v. flat-listed (by-verdict Listed.Refused (Listed.Cells (length l)) v))
-          (by-verdict (λ x. entry) (filled l entry)) refl (λ x. refl) (rule-check rule then line-check rule p q entry exit)
-          (h .flat ∙ ap flat-listed (line6-says rule p q entry exit (h .answer) (h .meets))) (line6-holds rule p q entry exit (h .answer) (h .meets));
+      line6 = λ rule p q. by-rule-untouched rule (six-line (by-rule (rule-of rule) p q) p q) (ends-check p q);
       line26 = λ p q entry r exit h. list-untouched (line-26 p q) (ends-check p q) entry exit r (h .answer) (h .flat) (h .meets);
       line-touching = λ p q entry r exit h. list-untouched (touching-line p q) (ends-check p q) entry exit r (h .answer) (h .flat) (h .meets);
+      adaptive-cells = λ how n cells p q. by-rule-untouched (how .rule) (trail (as-manner how) n cells p q) (walk-check n (length cells) p q);
       mark = λ n entry r exit h.
           untouched (λ f. f .said) flat-verdict (by-verdict (λ x. entry) (marked 3 n entry)) refl (λ x. refl) (shape n (length entry))
           (h .flat ∙ ap flat-verdict (h .meets .says)) (h .meets .holds);
@@ -239,6 +245,13 @@ module _ (p q : Cell) where
   line6-is Rule.One entry exit r h = (h .answer, h .meets, h .flat)
   line6-is Rule.Two entry exit r h = (h .answer, h .meets, h .flat)
 
+  trail-is : (rule : Rule) (s : ℕ) (n : Counts) (cells : List ℕ) (entry exit : List ℤ) (r : OatListed) →
+      FlatAdaptiveCells (record { start = s; rule = rule-number rule }) n cells p q entry r exit →
+      (a : Listed) × AdaptiveCells (record { start = as-start s; rule = rule }) n cells p q entry a exit × (r ≡ flat-listed a)
+  unfolding rule-check rule-of
+  trail-is Rule.One s n cells entry exit r h = (h .answer, h .meets, h .flat)
+  trail-is Rule.Two s n cells entry exit r h = (h .answer, h .meets, h .flat)
+
   walk-is : (rule : Rule) (w : Walker) (s : ℕ) (n : Counts) (cells : List ℕ) (r : OatHit) →
       FlatFinds w (record { start = s; rule = rule-number rule }) n cells p q r →
       (a : FirstHit) × Finds w (record { start = as-start s; rule = rule }) n cells p q a × (r ≡ flat-hit a)
@@ -266,6 +279,7 @@ exports-are =
       set = λ n cell byte l m total l′ m′ r h. (h .answer, h .meets, h .flat);
       refill = λ n low high byte l m total l′ m′ r h. (h .answer, h .meets, h .flat);
       walks = λ w s rule n cells p q. walk-is p q rule w s n cells;
+      adaptive-cells = λ s rule n cells p q. trail-is p q rule s n cells;
       touching = λ s n cells p q r h. (h .answer, h .meets, h .flat);
       found = λ n at p r h. (h .answer, h .meets, h .flat);
       seen = λ s rule. sight-is rule s;
@@ -279,14 +293,9 @@ exports-are =
 pub no-such-rule : (number : ℕ) → NoSuchRule number
 no-such-rule number =
     record {
-      line6 = λ not-1 not-2 p q entry exit r h.
-          let none = input-rows .no-rule number not-1 not-2 in
-          let l = line number p q entry exit in
-          let rest = line-check number p q entry exit in (
-            h .flat ∙ ap flat-listed (line6-says number p q entry exit (h .answer) (h .meets)
-                ∙ ap (λ v. by-verdict Listed.Refused (Listed.Cells (length l)) (v then rest)) none),
-            line6-holds number p q entry exit (h .answer) (h .meets) ∙ ap (λ v. by-verdict (λ r. entry) (filled l entry) (v then rest)) none,
-          );
+      line6 = λ not-1 not-2 p q. none-listed (six-line (by-rule (rule-of number) p q) p q) (ends-check p q) not-1 not-2;
+      adaptive-cells = λ not-1 not-2 s n cells p q.
+          none-listed (trail (as-manner (record { start = s; rule = number })) n cells p q) (walk-check n (length cells) p q) not-1 not-2;
       walks = λ not-1 not-2 w s n cells p q r h.
           let how : OatManner = record { start = s; rule = number } in
           h .flat ∙ ap flat-hit (walk-says w how n cells p q (h .answer) (h .meets)
@@ -296,3 +305,12 @@ no-such-rule number =
           h .flat ∙ ap flat-sight (sight-says how n cells at camera ball (h .answer) (h .meets)
           ∙ ap (by-verdict Sight.Refused (sight (as-manner how) n cells at camera ball)) (input-rows .no-rule number not-1 not-2));
     }
+  where
+    none-listed : (line : List Cell) (first : Verdict) → (number ≡ 1 → ⊥) → (number ≡ 2 → ⊥) → (entry exit : List ℤ) (r : OatListed) →
+        ByRule number line first entry r exit → (r ≡ record { said = three 12 0 0; count = 0 }) × (exit ≡ entry)
+    none-listed line first not-1 not-2 entry exit r h =
+        let none = input-rows .no-rule number not-1 not-2 in
+        let rest = list-check first (length line) (length entry) in (
+          list-says number line first entry exit h ∙ ap (λ v. flat-listed (by-verdict Listed.Refused (Listed.Cells (length line)) (v then rest))) none,
+          list-holds number line first entry exit h ∙ ap (λ v. by-verdict (λ r. entry) (filled line entry) (v then rest)) none,
+        )

@@ -4,7 +4,7 @@ use Rattle.lines.specs.Preference.{by-rule}
 use Rattle.lines.specs.Lines.{differences}
 use Rattle.claims.proofs.Ties.{asks-nothing, promised}
 use Rattle.claims.proofs.ExportTies.{exports-promised, exports-ask-nothing}
-use Rattle.claims.proofs.Refused.{lines-told, grids-told, tallies-told, points-told, records-told, rules-told}
+use Rattle.claims.proofs.Refused.{lines-told, trails-told, grids-told, tallies-told, points-told, records-told, rules-told}
 use Rattle.claims.proofs.Exports.{exports-are, exports-once, refused-untouched, no-such-rule}
 use Rattle.claims.proofs.Flattenings.{flattenings}
 use Rattle.claims.proofs.Words.{one-number}
@@ -21,6 +21,7 @@ use Rattle.claims.proofs.Story.{hit-once, hit-face, first-on-line, walk
 use Rattle.claims.proofs.Story.{never-invented}
 use Rattle.claims.proofs.Starts.{start-tests, two-starts}
 use Rattle.claims.proofs.Touching.{touched-cells, crossing-order, over-six-lines, touching-listed, touching-hits, touching-starts, beside-plain, touching-once}
+use Rattle.claims.proofs.Trails.{trail-listed, beside-first-hit}
 use Rattle.claims.proofs.Rules.{the-rules, mirrored, both-ways}
 
 pub takes-anything : TakesAnything
@@ -39,6 +40,7 @@ takes-anything =
       sights = seen-once;
       record-calls = records.one-answer;
       list-refusals = lines-told;
+      trail-refusals = trails-told;
       grid-refusals = grids-told;
       count-refusals = tallies-told;
       point-refusals = points-told;
@@ -61,6 +63,7 @@ are-the-papers =
       walks = λ how n l p q. (step-by-step how n l p q, walks-end how n l p q);
       tests = start-tests;
       answers = as-its-walk;
+      trails = λ how n l p q entry exit k. (trail-listed how n l p q entry exit k, beside-first-hit how n l p q entry exit k);
       adaptive = λ rule n l p q. adaptive-step (by-rule rule p q) n l p q;
       plain = first-on-line;
       read-back = λ n cells entry exit k. records.read-back-same n cells entry .same exit k;

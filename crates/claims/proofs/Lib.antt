@@ -10,6 +10,7 @@ pub mod Story
 pub mod Starts
 pub mod Rules
 pub mod Touching
+pub mod Trails
 pub mod Points
 pub mod FarWall
 pub mod Sights

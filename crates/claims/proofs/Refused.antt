@@ -19,7 +19,7 @@ use Rattle.cells.specs.declared.Verdict.the-variants.{Fine, Refused}
 use Rattle.cells.specs.Checks.{_then_, by-verdict}
 use Rattle.cells.specs.Manners.{rule-of, rule-check}
 use Rattle.cells.specs.Refusals.{Told, told-verdict}
-use Rattle.cells.specs.Tests.{Tests, First, ByTests}
+use Rattle.cells.specs.Tests.{Tests, _else_, First, ByTests}
 use Rattle.cells.proofs.Checks.{each-fine}
 use Rattle.cells.proofs.Tests.{Judges, _next_, answered, empty-by}
 use Rattle.lines.specs.Lines.{six-line, line-26}
@@ -29,7 +29,7 @@ use Rattle.lines.proofs.Touched.{start}
 use Rattle.lines.proofs.Cells.{six-length, length-26}
 use Rattle.lists.specs.declared.Listed.{Listed}
 use Rattle.lists.specs.declared.Listed.the-variants as Listed
-use Rattle.lists.specs.Lists.{ends-check, Lists, list-check, told-listed}
+use Rattle.lists.specs.Lists.{Lists, list-check, told-listed}
 use Rattle.grids.specs.declared.LayerPart.{LayerPart}
 use Rattle.grids.specs.declared.LayerPart.the-variants as LayerPart
 use Rattle.grids.specs.declared.Completeness.the-variants as Completeness
@@ -52,6 +52,7 @@ use Rattle.walks.specs.declared.FirstHit.the-variants as FirstHit
 use Rattle.walks.specs.Walks.{Conduct, conduct, hit-at, walk-of}
 use Rattle.walks.specs.Answers.{last-of, answer-of, first-hit, told-hit, WalkSaid, clear, hit}
 use Rattle.touching.specs.Touching.{found-in, walking, first-touching}
+use Rattle.trails.specs.Trails.{trail}
 use Rattle.touching.proofs.Answers.{Search, found, none, search-of}
 use Rattle.survey.specs.declared.Lookup.{Lookup}
 use Rattle.survey.specs.declared.Lookup.the-variants as Lookup
@@ -74,7 +75,7 @@ use Rattle.records.specs.Writing.{record-length, told-written}
 use Rattle.oatmarten.specs.Flattening.{After}
 use Rattle.structs.specs.Inputs.{as-manner}
 use Rattle.claims.specs.Refused.{box-tests, set-tests, TalliesTold}
-use Rattle.claims.specs.Refused.{list-tests, LinesTold, layer-tests, GridsTold, cell-tests, sight-tests, PointsTold, venue-tests, RecordsTold, RulesTold}
+use Rattle.claims.specs.Refused.{list-tests, rule-test, LinesTold, TrailsTold, layer-tests, GridsTold, cell-tests, sight-tests, PointsTold, venue-tests, RecordsTold, RulesTold}
 use Rattle.claims.proofs.Records.{the-part}
 use Rattle.claims.proofs.Judged.{list-judged, ends-judged, counts-judged, shape-judged, layer-judged, walk-judged, placement-judged}
 use Rattle.claims.proofs.Judged.{bricks-judged, box-judged, one-corner, set-judged, point-judged, rule-judged}
@@ -95,6 +96,9 @@ lines-told p q entry exit r =
       twenty-six = λ c. rw (length-26 p q) at (listed-told (line-26 p q) (ends-judged p q) entry exit r c);
       touching = λ c. listed-told (touching-line p q) (ends-judged p q) entry exit r c;
     }
+
+pub trails-told : (how : Manner) (n : Counts) (l : List ℕ) (p q : cell.Cell) (entry exit : List ℤ) (r : Listed) → TrailsTold how n l p q entry exit r
+trails-told how n l p q entry exit r = record { told = listed-told (trail how n l p q) (walk-judged n (length l) p q) entry exit r }
 
 -- ---- grids
 
@@ -313,20 +317,28 @@ pub after-says : {A : Type 0} (refused : Refusal → A) (x : A) {a : A} {says : 
 after-says refused x (Refused r) w first rest h = first r h
 after-says refused x Fine w first rest h = rest h
 
+-- a list
+by-rule-told : (number : ℕ) (line : List cell.Cell) {tests : Tests} {first : Verdict} → Judges tests first → (entry exit : List ℤ) (a : Listed) →
+    After (rule-check number) (λ why. (a ≡ Listed.Refused why) × (exit ≡ entry)) (Lists line first entry a exit) →
+    ByTests (rule-test number else list-tests tests (length line) (length entry)) (told-listed a)
+by-rule-told number line {first = first} judged entry exit a h =
+    let many = length line in
+    answered told-listed (by-verdict Listed.Refused (Listed.Cells many)) (λ r. refl) (rule-judged number next list-judged judged many (length entry))
+    (λ fine. (many, refl))
+    (after-says Listed.Refused (Listed.Cells many) (rule-check number) (list-check first many (length entry)) (λ r m. m .0) (λ m. m .says) h)
+
 pub rules-told : RulesTold
 unfolding first-hit
 rules-told =
     record {
       line6 = λ number p q entry exit r h.
           let o = by-rule (rule-of number) p q in
-          let many = length (six-line o p q) in (
-            h .answer,
-            h .flat,
-            rw (six-length o p q) at (answered told-listed (by-verdict Listed.Refused (Listed.Cells many)) (λ r. refl)
-                (rule-judged number next list-judged (ends-judged p q) many (length entry)) (λ fine. (many, refl))
-                (after-says Listed.Refused (Listed.Cells many) (rule-check number) (list-check (ends-check p q) many (length entry)) (λ r m. m .0) (λ m. m .says)
-                (h .meets))),
-          );
+          (h .answer, h .flat, rw (six-length o p q) at (by-rule-told number (six-line o p q) (ends-judged p q) entry exit (h .answer) (h .meets)));
+      trails = λ how n l p q entry exit r h. (
+        h .answer,
+        h .flat,
+        by-rule-told (how .rule) (trail (as-manner how) n l p q) (walk-judged n (length l) p q) entry exit (h .answer) (h .meets),
+      );
       walks = λ w how n l p q r h.
           let x = answer w (as-manner how) n l p q in (
             h .answer,

@@ -28,6 +28,7 @@ use Rattle.bricks.specs.Bricks.{mask-of, solids}
 use Rattle.bricks.specs.Builds.{bricks-check, built}
 use Rattle.refills.specs.Refills.{refilled, remasked, ones-in, box-check, differs-in, stale}
 use Rattle.walks.specs.declared.Walker.the-variants.{Plain, Adaptive}
+use Rattle.walks.specs.Walks.{walk-of}
 use Rattle.walks.specs.Answers.{first-hit}
 use Rattle.walks.proofs.Modes.{as-usual}
 use Rattle.survey.specs.Survey.{placement-check, cell-of}
@@ -94,7 +95,7 @@ of-lines =
     }
 
 pub of-grids : OfGrids
-unfolding shape marked complete completeness layer-part layer first-hit first-touching
+unfolding shape marked complete completeness layer-part layer walk-of first-hit first-touching
 of-grids =
     record {
       corner = record { by-one = λ a. elim a [ X ↦ omega arith | Y ↦ omega arith | Z ↦ omega arith ]; differing = omega arith; within = omega arith };
@@ -113,6 +114,9 @@ of-grids =
       thin-made = refl;
       thin-clear = λ w. elim w [ Plain ↦ record { says = refl } | Adaptive ↦ record { says = refl } ];
       thin-hits = λ w. elim w [ Plain ↦ record { says = refl } | Adaptive ↦ record { says = refl } ];
+      trail = record { says = refl; holds = refl };
+      trail-no-room = record { says = refl; holds = refl };
+      trail-to-hit = record { says = refl; holds = refl };
       touching-hits = record { says = refl };
       touching-clear = record { says = refl };
       back-clear = λ w. elim w [ Plain ↦ record { says = refl } | Adaptive ↦ record { says = refl } ];

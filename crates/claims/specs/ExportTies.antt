@@ -7,7 +7,7 @@ use Rattle.structs.specs.Inputs.{as-cell, as-counts, as-start, as-placement, as
 use Rattle.oatmarten.specs.LineCalls.{FlatLine6, FlatLine26, FlatLineTouching}
 use Rattle.oatmarten.specs.GridCalls.{FlatMarks, FlatCompletes, FlatGivesLayerPart}
 use Rattle.oatmarten.specs.BrickCalls.{FlatBuilds, FlatSets, FlatRefills}
-use Rattle.oatmarten.specs.WalkCalls.{FlatFinds, FlatFindsTouching}
+use Rattle.oatmarten.specs.WalkCalls.{FlatFinds, FlatAdaptiveCells, FlatFindsTouching}
 use Rattle.oatmarten.specs.SightCalls.{FlatLooksUp, FlatSees}
 use Rattle.oatmarten.specs.RecordCalls.{FlatReadsVenue, FlatReadsPair, FlatWritesVenue}
 use Rattle.oatmarten.specs.Revision.{revision}
@@ -22,6 +22,7 @@ use Rattle.oatmarten.proofs.oat_set.Reads as set
 use Rattle.oatmarten.proofs.oat_refill.Reads as refill
 use Rattle.oatmarten.proofs.oat_plain.Reads as plain
 use Rattle.oatmarten.proofs.oat_adaptive.Reads as adaptive
+use Rattle.oatmarten.proofs.oat_adaptive_cells.Reads as adaptive-cells
 use Rattle.oatmarten.proofs.oat_touching.Reads as touching
 use Rattle.oatmarten.proofs.oat_cell_of.Reads as cell-of
 use Rattle.oatmarten.proofs.oat_sight.Reads as sight
@@ -54,6 +55,9 @@ pub record ExportsPromised : Type 1 where
       FlatFinds Plain (a .1 .1 .1 .1 .0) (as-counts (a .0)) (a .1 .0 .now) (as-cell (a .1 .1 .0)) (as-cell (a .1 .1 .1 .0)) r
   pub of-adaptive : (κs : _) (a : _) (r : _) (e : _) → adaptive.Post κs a r e →
       FlatFinds Adaptive (a .1 .1 .1 .1 .0) (as-counts (a .0)) (a .1 .0 .now) (as-cell (a .1 .1 .0)) (as-cell (a .1 .1 .1 .0)) r
+  pub of-adaptive-cells : (κs : _) (a : _) (r : _) (e : _) → adaptive-cells.Post κs a r e →
+      FlatAdaptiveCells (a .1 .1 .1 .1 .0) (as-counts (a .0)) (a .1 .0 .now) (as-cell (a .1 .1 .0)) (as-cell (a .1 .1 .1 .0)) (a .1 .1 .1 .1 .1 .0 .now) r
+      (e .1 .1 .1 .1 .1 .0 .now)
   pub of-touching : (κs : _) (a : _) (r : _) (e : _) → touching.Post κs a r e →
       FlatFindsTouching (as-start (a .1 .1 .1 .1 .0)) (as-counts (a .0)) (a .1 .0 .now) (as-cell (a .1 .1 .0)) (as-cell (a .1 .1 .1 .0)) r
   pub of-cell-of : (κs : _) (a : _) (r : _) (e : _) → cell-of.Post κs a r e → FlatLooksUp (as-counts (a .0)) (as-placement (a .1 .0)) (as-point (a .1 .1 .0)) r
@@ -79,6 +83,7 @@ pub record ExportsAskNothing : Type 1 where
   pub refill-asks : (κs : _) (a : _) → refill.Pre κs a
   pub plain-asks : (κs : _) (a : _) → plain.Pre κs a
   pub adaptive-asks : (κs : _) (a : _) → adaptive.Pre κs a
+  pub adaptive-cells-asks : (κs : _) (a : _) → adaptive-cells.Pre κs a
   pub touching-asks : (κs : _) (a : _) → touching.Pre κs a
   pub cell-of-asks : (κs : _) (a : _) → cell-of.Pre κs a
   pub sight-asks : (κs : _) (a : _) → sight.Pre κs a

@@ -20,6 +20,7 @@ use Rattle.walks.specs.declared.Walker.{Walker}
 use Rattle.walks.specs.declared.FirstHit.{FirstHit}
 use Rattle.walks.specs.Answers.{Finds}
 use Rattle.touching.specs.Touching.{LineTouching, FindsTouching}
+use Rattle.trails.specs.Trails.{AdaptiveCells}
 use Rattle.survey.specs.declared.Placement.{Placement}
 use Rattle.survey.specs.declared.Point.{Point}
 use Rattle.survey.specs.declared.Lookup.{Lookup}
@@ -54,7 +55,7 @@ use Rattle.oatmarten.specs.GridCalls.{FlatMarks, FlatCompletes, FlatGivesLayerP
 use Rattle.structs.specs.BrickAnswers.{flat-tally}
 use Rattle.oatmarten.specs.BrickCalls.{FlatBuilds, FlatSets, FlatRefills}
 use Rattle.structs.specs.WalkAnswers.{flat-hit}
-use Rattle.oatmarten.specs.WalkCalls.{FlatFinds, FlatFindsTouching}
+use Rattle.oatmarten.specs.WalkCalls.{FlatFinds, FlatAdaptiveCells, FlatFindsTouching}
 use Rattle.structs.specs.SightAnswers.{flat-found, flat-sight}
 use Rattle.oatmarten.specs.SightCalls.{FlatLooksUp, FlatSees}
 use Rattle.structs.specs.RecordAnswers.{rule-number, flat-venue, flat-pair, flat-written}
@@ -89,6 +90,7 @@ pub record ExportsOnce : Type 0 where
   pub set : (n : Counts) (cell : Cell) (byte : ℕ) (l m : List ℕ) (total : ℕ) → OnePair (FlatSets n cell byte l m total)
   pub refill : (n : Counts) (low high : Cell) (byte : ℕ) (l m : List ℕ) (total : ℕ) → OnePair (FlatRefills n low high byte l m total)
   pub walks : (w : Walker) (how : OatManner) (n : Counts) (cells : List ℕ) (p q : Cell) → One (FlatFinds w how n cells p q)
+  pub adaptive-cells : (how : OatManner) (n : Counts) (cells : List ℕ) (p q : Cell) (entry : List ℤ) → OneEach (FlatAdaptiveCells how n cells p q entry)
   pub touching : (s : ℕ) (n : Counts) (cells : List ℕ) (p q : Cell) → One (FlatFindsTouching (as-start s) n cells p q)
   pub found : (n : Counts) (at : Placement) (p : Point) → One (FlatLooksUp n at p)
   pub seen : (how : OatManner) (n : Counts) (cells : List ℕ) (at : Placement) (camera ball : Point) → One (FlatSees how n cells at camera ball)
@@ -109,6 +111,8 @@ pub record RefusedUntouched : Type 0 where
   pub line6 : (rule : ℕ) (p q : Cell) (entry : List ℤ) → Untouched (λ f. f .said) (FlatLine6 rule p q entry) entry
   pub line26 : (p q : Cell) (entry : List ℤ) → Untouched (λ f. f .said) (FlatLine26 p q entry) entry
   pub line-touching : (p q : Cell) (entry : List ℤ) → Untouched (λ f. f .said) (FlatLineTouching p q entry) entry
+  pub adaptive-cells : (how : OatManner) (n : Counts) (cells : List ℕ) (p q : Cell) (entry : List ℤ) →
+      Untouched (λ f. f .said) (FlatAdaptiveCells how n cells p q entry) entry
   pub mark : (n : Counts) (entry : List ℕ) → Untouched (λ f. f .said) (FlatMarks n entry) entry
   pub build : (n : Counts) (cells entry : List ℕ) → Untouched (λ f. f .said) (FlatBuilds n cells entry) entry
   pub set : (n : Counts) (cell : Cell) (byte : ℕ) (l m : List ℕ) (total : ℕ) → BothUntouched (FlatSets n cell byte l m total) l m
@@ -155,6 +159,9 @@ pub record ExportsAre : Type 0 where
   pub walks : (w : Walker) (s : ℕ) (rule : Rule) (n : Counts) (cells : List ℕ) (p q : Cell) (r : OatHit) →
       FlatFinds w (record { start = s; rule = rule-number rule }) n cells p q r →
       (a : FirstHit) × Finds w (record { start = as-start s; rule = rule }) n cells p q a × (r ≡ flat-hit a)
+  pub adaptive-cells : (s : ℕ) (rule : Rule) (n : Counts) (cells : List ℕ) (p q : Cell) (entry exit : List ℤ) (r : OatListed) →
+      FlatAdaptiveCells (record { start = s; rule = rule-number rule }) n cells p q entry r exit →
+      (a : Listed) × AdaptiveCells (record { start = as-start s; rule = rule }) n cells p q entry a exit × (r ≡ flat-listed a)
   pub touching : (s : ℕ) (n : Counts) (cells : List ℕ) (p q : Cell) (r : OatHit) → FlatFindsTouching (as-start s) n cells p q r →
       (a : FirstHit) × FindsTouching (as-start s) n cells p q a × (r ≡ flat-hit a)
   pub found : (n : Counts) (at : Placement) (p : Point) (r : OatFound) → FlatLooksUp n at p r → (a : Lookup) × LooksUp n at p a × (r ≡ flat-found a)
@@ -170,6 +177,8 @@ pub record ExportsAre : Type 0 where
 pub record NoSuchRule (number : ℕ) : Type 0 where
   pub line6 : (number ≡ 1 → ⊥) → (number ≡ 2 → ⊥) → (p q : Cell) (entry exit : List ℤ) (r : OatListed) → FlatLine6 number p q entry r exit →
       (r ≡ record { said = three 12 0 0; count = 0 }) × (exit ≡ entry)
+  pub adaptive-cells : (number ≡ 1 → ⊥) → (number ≡ 2 → ⊥) → (s : ℕ) (n : Counts) (cells : List ℕ) (p q : Cell) (entry exit : List ℤ) (r : OatListed) →
+      FlatAdaptiveCells (record { start = s; rule = number }) n cells p q entry r exit → (r ≡ record { said = three 12 0 0; count = 0 }) × (exit ≡ entry)
   pub walks : (number ≡ 1 → ⊥) → (number ≡ 2 → ⊥) → (w : Walker) (s : ℕ) (n : Counts) (cells : List ℕ) (p q : Cell) (r : OatHit) →
       FlatFinds w (record { start = s; rule = number }) n cells p q r →
       r ≡ record { said = three 12 0 0; hit = 0; x = pos 0; y = pos 0; z = pos 0; code = 0; num = 0; den = 0; face = pos 0; reads = 0 }

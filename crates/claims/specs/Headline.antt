@@ -35,7 +35,7 @@ use Rattle.records.specs.Venues.{ReadsVenue, GivesCells}
 use Rattle.records.specs.Writing.{WritesVenue}
 use Rattle.claims.specs.Ties.{AsksNothing, Promised}
 use Rattle.claims.specs.ExportTies.{ExportsAskNothing, ExportsPromised}
-use Rattle.claims.specs.Refused.{LinesTold, GridsTold, TalliesTold, PointsTold, RecordsTold, RulesTold}
+use Rattle.claims.specs.Refused.{LinesTold, TrailsTold, GridsTold, TalliesTold, PointsTold, RecordsTold, RulesTold}
 use Rattle.claims.specs.Exports.{ExportsAre, NoSuchRule, ExportsOnce, RefusedUntouched}
 use Rattle.claims.specs.Flattenings.{Flattenings}
 use Rattle.claims.specs.Words.{OneNumber}
@@ -51,6 +51,7 @@ use Rattle.claims.specs.Story.{SameStory, NoLater, FirstOnLine, HitFace,
 use Rattle.claims.specs.Shells.{Shells, FacesAlone, AsksLess, NoDearer}
 use Rattle.claims.specs.Starts.{StartTest, TwoStarts}
 use Rattle.claims.specs.Rules.{TheRules, Mirror, BothWays}
+use Rattle.claims.specs.Trails.{TrailListed, BesideFirstHit}
 use Rattle.claims.specs.Touching.{TouchedCells, CrossingOrder, OverSixLines, TouchingListed, TouchingHits, TouchingStarts, BesidePlain, TouchingOnce}
 
 -- 1. Every public call takes any numbers and any lent memory, has one answer and one final memory for each input, and refuses by number exactly
@@ -70,6 +71,7 @@ pub record TakesAnything : Type 1 where
   pub sights : (how : Manner) (n : Counts) (l : List ℕ) (at : Placement) (camera ball : Point) → SeenOnce how n l at camera ball
   pub record-calls : records.OneAnswer
   pub list-refusals : (p q : Cell) (entry exit : List ℤ) (r : Listed) → LinesTold p q entry exit r
+  pub trail-refusals : (how : Manner) (n : Counts) (l : List ℕ) (p q : Cell) (entry exit : List ℤ) (r : Listed) → TrailsTold how n l p q entry exit r
   pub grid-refusals : (n : Counts) (l : List ℕ) → GridsTold n l
   pub count-refusals : (n : Counts) (l m : List ℕ) → TalliesTold n l m
   pub point-refusals : (n : Counts) (at : Placement) → PointsTold n at
@@ -81,8 +83,8 @@ pub record TakesAnything : Type 1 where
 -- no other place has that; its cells go from P to Q, each touched by the segment, and no cell is missing whose inside the segment enters. The list
 -- calls write just these cells; by rule 2 the line from Q to P is the mirror. Both walks start at P and go on by what comes next, to the first hit
 -- or to Q: for the plain walk that is the 6-line to its first hit, for the adaptive one long steps at clear cells of the 26-line. A hit is a solid
--- cell; P is none where the start is not tested. The calls answer from where these walks end, with their cells as the reads. A venue written and
--- read back is the same venue.
+-- cell; P is none where the start is not tested. The calls answer from where these walks end, with their cells as the reads; and the
+-- list of the adaptive walk's trail writes just these cells. A venue written and read back is the same venue.
 pub record AreThePapers : Type 0 where
   pub rules : (p q : Cell) → TheRules p q
   pub order : (rule : Rule) (p q : Cell) → OnePlace (by-rule rule p q) (differences p q)
@@ -97,6 +99,8 @@ pub record AreThePapers : Type 0 where
   pub walks : (how : Manner) (n : Counts) (l : List ℕ) (p q : Cell) → StepByStep how n l p q × WalksEnd how n l p q
   pub tests : (n : Counts) (l : List ℕ) (p : Cell) → StartTest n l p
   pub answers : (how : Manner) (n : Counts) (l : List ℕ) (p q : Cell) → AsItsWalk how n l p q
+  pub trails : (how : Manner) (n : Counts) (l : List ℕ) (p q : Cell) (entry exit : List ℤ) (k : ℕ) →
+      TrailListed how n l p q entry exit k × BesideFirstHit how n l p q entry exit k
   pub adaptive : (rule : Rule) (n : Counts) (l : List ℕ) (p q : Cell) → AdaptiveStep (by-rule rule p q) n l p q
   pub plain : (how : Manner) (n : Counts) (l : List ℕ) (p q : Cell) → FirstOnLine how n l p q
   pub read-back : (n : Counts) (cells entry exit : List ℕ) (k : ℕ) → WritesVenue n cells entry (Wrote k) exit →

@@ -44,6 +44,7 @@ use Rattle.walks.specs.declared.Walker.{Walker}
 use Rattle.walks.specs.declared.FirstHit.{FirstHit}
 use Rattle.walks.specs.Answers.{Finds, told-hit}
 use Rattle.touching.specs.Touching.{LineTouching, FindsTouching}
+use Rattle.trails.specs.Trails.{trail, AdaptiveCells}
 use Rattle.survey.specs.declared.Lookup.{Lookup}
 use Rattle.survey.specs.declared.Placement.{Placement}
 use Rattle.survey.specs.declared.Point.{Point}
@@ -59,13 +60,14 @@ use Rattle.records.specs.Venues.{ReadsVenue, GivesCells, told-venue}
 use Rattle.records.specs.Pairs.{ReadsPair, told-pair}
 use Rattle.records.specs.Writing.{WritesVenue, told-written}
 use Rattle.structs.specs.declared.inputs.OatManner.{OatManner}
+use Rattle.structs.specs.Inputs.{as-manner}
 use Rattle.structs.specs.declared.line_answers.OatListed.{OatListed}
 use Rattle.structs.specs.declared.walk_answers.OatHit.{OatHit}
 use Rattle.structs.specs.declared.sight_answers.OatSight.{OatSight}
 use Rattle.structs.specs.LineAnswers.{flat-listed}
 use Rattle.oatmarten.specs.LineCalls.{FlatLine6}
 use Rattle.structs.specs.WalkAnswers.{flat-hit}
-use Rattle.oatmarten.specs.WalkCalls.{FlatFinds}
+use Rattle.oatmarten.specs.WalkCalls.{FlatFinds, FlatAdaptiveCells}
 use Rattle.structs.specs.SightAnswers.{flat-sight}
 use Rattle.oatmarten.specs.SightCalls.{FlatSees}
 use Rattle.claims.specs.Kept.{HoldsNamed}
@@ -109,6 +111,10 @@ grid-tests e n c = each-axis λ a. ((on c a <ℤ pos 0) ⊎ (pos (count-on n a) 
 -- 2, 3, then 5 (P before Q)
 abbrev pub walk-tests : (n : Counts) (bytes : ℕ) (p q : Cell) → Tests
 walk-tests n bytes p q = shape-tests n bytes else grid-tests P n p else grid-tests Q n q
+
+-- 2, 3, 5, then 6
+abbrev pub trail-tests : (n : Counts) (bytes : ℕ) (p q : Cell) (cells room : ℕ) → Tests
+trail-tests n bytes p q = list-tests (walk-tests n bytes p q)
 
 -- ---- solid counts
 
@@ -227,6 +233,10 @@ pub record LinesTold (p q : Cell) (entry exit : List ℤ) (r : Listed) : Type 0 
   pub twenty-six : Line26 p q entry r exit → ByTests (line-tests p q (longest (differences p q) + 1) (length entry)) (told-listed r)
   pub touching : LineTouching p q entry r exit → ByTests (line-tests p q (length (touching-line p q)) (length entry)) (told-listed r)
 
+-- the list of the trail, of as many cells as it has: the tests of a walk, then that of a list
+pub record TrailsTold (how : Manner) (n : Counts) (l : List ℕ) (p q : Cell) (entry exit : List ℤ) (r : Listed) : Type 0 where
+  pub told : AdaptiveCells how n l p q entry r exit → ByTests (trail-tests n (length l) p q (length (trail how n l p q)) (length entry)) (told-listed r)
+
 -- grid calls; a layer is empty exactly where its partner refuses
 pub record GridsTold (n : Counts) (l : List ℕ) : Type 0 where
   pub shape : (bytes : ℕ) (r : Verdict) → Shapes n bytes r → ByTests (shape-tests n bytes) (told-verdict r)
@@ -264,6 +274,9 @@ pub record RecordsTold : Type 0 where
 pub record RulesTold : Type 0 where
   pub line6 : (rule : ℕ) (p q : Cell) (entry exit : List ℤ) (r : OatListed) → FlatLine6 rule p q entry r exit → (a : Listed) × (r ≡ flat-listed a) ×
       ByTests (rule-test rule else line-tests p q (total (differences p q) + 1) (length entry)) (told-listed a)
+  pub trails : (how : OatManner) (n : Counts) (l : List ℕ) (p q : Cell) (entry exit : List ℤ) (r : OatListed) → FlatAdaptiveCells how n l p q entry r exit →
+      (a : Listed) × (r ≡ flat-listed a) ×
+      ByTests (rule-test (how .rule) else trail-tests n (length l) p q (length (trail (as-manner how) n l p q)) (length entry)) (told-listed a)
   pub walks : (w : Walker) (how : OatManner) (n : Counts) (l : List ℕ) (p q : Cell) (r : OatHit) → FlatFinds w how n l p q r →
       (a : FirstHit) × (r ≡ flat-hit a) × ByTests (rule-test (how .rule) else walk-tests n (length l) p q) (told-hit a)
   pub seen : (how : OatManner) (n : Counts) (l : List ℕ) (at : Placement) (camera ball : Point) (r : OatSight) → FlatSees how n l at camera ball r →

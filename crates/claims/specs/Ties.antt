@@ -31,6 +31,8 @@ use Rattle.hits.proofs.first_adaptive.Reads as adaptive
 use Rattle.touching.specs.Touching.{LineTouching, FindsTouching}
 use Rattle.touching.proofs.line_touching.Reads as line-touching
 use Rattle.touching.proofs.first_touching.Reads as touching
+use Rattle.trails.specs.Trails.{AdaptiveCells}
+use Rattle.trails.proofs.adaptive_cells.Reads as adaptive-cells
 use Rattle.survey.specs.Survey.{LooksUp}
 use Rattle.survey.proofs.cell_of.Reads as cell-of
 use Rattle.sight.specs.Sight.{Sees}
@@ -70,6 +72,8 @@ pub record Promised : Type 1 where
       Finds Plain (a .1 .1 .1 .1 .0) (a .0) (a .1 .0 .now) (a .1 .1 .0) (a .1 .1 .1 .0) r
   pub of-adaptive : (κs : _) (a : _) (r : _) (e : _) → adaptive.Post κs a r e →
       Finds Adaptive (a .1 .1 .1 .1 .0) (a .0) (a .1 .0 .now) (a .1 .1 .0) (a .1 .1 .1 .0) r
+  pub of-adaptive-cells : (κs : _) (a : _) (r : _) (e : _) → adaptive-cells.Post κs a r e →
+      AdaptiveCells (a .1 .1 .1 .1 .0) (a .0) (a .1 .0 .now) (a .1 .1 .0) (a .1 .1 .1 .0) (a .1 .1 .1 .1 .1 .0 .now) r (e .1 .1 .1 .1 .1 .0 .now)
   pub of-touching : (κs : _) (a : _) (r : _) (e : _) → touching.Post κs a r e →
       FindsTouching (a .1 .1 .1 .1 .0) (a .0) (a .1 .0 .now) (a .1 .1 .0) (a .1 .1 .1 .0) r
   pub of-cell-of : (κs : _) (a : _) (r : _) (e : _) → cell-of.Post κs a r e → LooksUp (a .0) (a .1 .0) (a .1 .1 .0) r
@@ -105,6 +109,7 @@ pub record AsksNothing : Type 1 where
   pub refill-asks : (κs : _) (a : _) → refill.Pre κs a
   pub plain-asks : (κs : _) (a : _) → plain.Pre κs a
   pub adaptive-asks : (κs : _) (a : _) → adaptive.Pre κs a
+  pub adaptive-cells-asks : (κs : _) (a : _) → adaptive-cells.Pre κs a
   pub touching-asks : (κs : _) (a : _) → touching.Pre κs a
   pub cell-of-asks : (κs : _) (a : _) → cell-of.Pre κs a
   pub see-asks : (κs : _) (a : _) → see.Pre κs a

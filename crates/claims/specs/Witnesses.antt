@@ -43,6 +43,7 @@ use Rattle.walks.specs.declared.Hit.{Hit}
 use Rattle.walks.specs.declared.FirstHit.the-variants as FirstHit
 use Rattle.walks.specs.Answers.{Finds}
 use Rattle.touching.specs.Touching.{LineTouching, FindsTouching}
+use Rattle.trails.specs.Trails.{AdaptiveCells}
 use Rattle.survey.specs.declared.Lookup.the-variants as Lookup
 use Rattle.survey.specs.Survey.{PlacedGrid, quotients, look-up, LooksUp}
 use Rattle.sight.specs.declared.Sight.the-variants as Sight
@@ -70,6 +71,7 @@ use Rattle.claims.specs.Shells.{tie-reads}
 use Rattle.claims.specs.Starred.{halves}
 use Rattle.claims.specs.Story.{all-clear}
 use Rattle.claims.specs.Touching.{InLine, one-solid}
+use Rattle.claims.specs.Trails.{sevens}
 
 -- from (0,0,0) to (2,1,0)
 abbrev pub steps-there : Steps
@@ -156,6 +158,11 @@ pub record OfGrids : Type 0 where
   pub thin-made : marked 2 corner-counts corner-cells ≡ corner-thin
   pub thin-clear : (w : Walker) → Finds w usual corner-counts corner-thin (at 1 1 1) (at 2 0 1) (FirstHit.Clear (past-corner w))
   pub thin-hits : (w : Walker) → Finds w usual corner-counts corner-thin (at 1 1 1) (at 0 0 0) (FirstHit.Hit (onto-corner w))
+  -- the trail of a clear walk with just enough room, and one number less; and of one that hits
+  pub trail : AdaptiveCells usual (counts 3 2 1) all-clear (at 0 0 0) (at 2 1 0) (sevens 9) (Listed.Cells 3) (numbers (at 0 0 0 ∷ at 1 1 0 ∷ at 2 1 0 ∷ []))
+  pub trail-no-room : AdaptiveCells usual (counts 3 2 1) all-clear (at 0 0 0) (at 2 1 0) (sevens 8) (Listed.Refused Room) (sevens 8)
+  pub trail-to-hit : AdaptiveCells usual example-counts marked-cells (at 0 0 0) (at 3 1 0) (sevens 10) (Listed.Cells 3)
+      (numbers (at 0 0 0 ∷ at 1 0 0 ∷ at 1 1 0 ∷ []) ++ sevens 1)
   -- the touching walk: a hit, and a clear one
   pub touching-hits : FindsTouching Tested (counts 2 2 2) (one-solid 5) (at 0 0 0) (at 1 1 1)
       (FirstHit.Hit (record { cell = at 1 0 1; code = 2; place = record { num = 1; den = 2; face = Face.Plus Z }; reads = 7 }))

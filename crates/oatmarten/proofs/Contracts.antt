@@ -7,7 +7,7 @@ use Rattle.structs.specs.Inputs.{as-cell, as-counts, as-start, as-placement, as
 use Rattle.oatmarten.specs.LineCalls.{FlatLine6, FlatLine26, FlatLineTouching}
 use Rattle.oatmarten.specs.GridCalls.{FlatMarks, FlatCompletes, FlatGivesLayerPart}
 use Rattle.oatmarten.specs.BrickCalls.{FlatBuilds, FlatSets, FlatRefills}
-use Rattle.oatmarten.specs.WalkCalls.{FlatFinds, FlatFindsTouching}
+use Rattle.oatmarten.specs.WalkCalls.{FlatFinds, FlatAdaptiveCells, FlatFindsTouching}
 use Rattle.oatmarten.specs.SightCalls.{FlatLooksUp, FlatSees}
 use Rattle.oatmarten.specs.RecordCalls.{FlatReadsVenue, FlatReadsPair, FlatWritesVenue}
 use Rattle.oatmarten.specs.Revision.{revision}
@@ -22,6 +22,7 @@ use Rattle.oatmarten.proofs.brick_calls.oat_set.Reads as set
 use Rattle.oatmarten.proofs.brick_calls.oat_refill.Reads as refill
 use Rattle.oatmarten.proofs.walk_calls.oat_plain.Reads as plain
 use Rattle.oatmarten.proofs.walk_calls.oat_adaptive.Reads as adaptive
+use Rattle.oatmarten.proofs.walk_calls.oat_adaptive_cells.Reads as adaptive-cells
 use Rattle.oatmarten.proofs.walk_calls.oat_touching.Reads as touching
 use Rattle.oatmarten.proofs.sight_calls.oat_cell_of.Reads as cell-of
 use Rattle.oatmarten.proofs.sight_calls.oat_sight.Reads as sight
@@ -70,6 +71,11 @@ of-plain κs a r e h = h
 pub of-adaptive : (κs : _) (a : _) (r : _) (e : _) → adaptive.Post κs a r e →
     FlatFinds Adaptive (a .1 .1 .1 .1 .0) (as-counts (a .0)) (a .1 .0 .now) (as-cell (a .1 .1 .0)) (as-cell (a .1 .1 .1 .0)) r
 of-adaptive κs a r e h = h
+
+pub of-adaptive-cells : (κs : _) (a : _) (r : _) (e : _) → adaptive-cells.Post κs a r e →
+    FlatAdaptiveCells (a .1 .1 .1 .1 .0) (as-counts (a .0)) (a .1 .0 .now) (as-cell (a .1 .1 .0)) (as-cell (a .1 .1 .1 .0)) (a .1 .1 .1 .1 .1 .0 .now) r
+    (e .1 .1 .1 .1 .1 .0 .now)
+of-adaptive-cells κs a r e h = h
 
 pub of-touching : (κs : _) (a : _) (r : _) (e : _) → touching.Post κs a r e →
     FlatFindsTouching (as-start (a .1 .1 .1 .1 .0)) (as-counts (a .0)) (a .1 .0 .now) (as-cell (a .1 .1 .0)) (as-cell (a .1 .1 .1 .0)) r

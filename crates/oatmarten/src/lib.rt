@@ -24,5 +24,6 @@ pub use revision::oat_revision;
 pub use sight_calls::oat_cell_of;
 pub use sight_calls::oat_sight;
 pub use walk_calls::oat_adaptive;
+pub use walk_calls::oat_adaptive_cells;
 pub use walk_calls::oat_plain;
 pub use walk_calls::oat_touching;
