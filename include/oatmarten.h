@@ -12,8 +12,8 @@
 
    Lent memory is a pointer and the number of elements behind it. The pointer must not be null, also where the number is 0, must be aligned
    for its element type, and so many elements must be readable (writable where it is not const) until the call returns. The library keeps
-   no pointer. Memory that a call writes must not overlap other memory lent to the same call: this matters for oat_write_venue, and for
-   oat_build, oat_set and oat_refill, which are lent cells and masks. Memory that is only read may be shared by any number of calls.
+   no pointer. Memory that a call writes must not overlap other memory lent to the same call: this matters for oat_write_venue and
+   oat_adaptive_cells, and for oat_build, oat_set and oat_refill, which are lent cells and masks. Memory that is only read may be shared by any number of calls.
 
    Threads: the library has no state, takes no lock, allocates nothing and needs under 8 KiB of stack. Calls may run at the same time in any
    threads, as long as no memory that one of them writes is lent to another. Of the C library it calls at most memset, memcpy and memmove. */
@@ -308,7 +308,8 @@ oat_listed oat_line26(oat_cell p, oat_cell q, int32_t *out, size_t room);
    the limits to the opposite one, has 114,682 cells. */
 oat_listed oat_line_touching(oat_cell p, oat_cell q, int32_t *out, size_t room);
 
-/* ---- grids: refusals 2, 3, then 4 or 5; the 12 of oat_plain and oat_adaptive before these. `bytes` is the number of bytes at `cells` */
+/* ---- grids: refusals 2, 3, then 4 or 5; the 12 of oat_plain, oat_adaptive and oat_adaptive_cells before these, the 6 of the last behind them. `bytes` is
+   the number of bytes at `cells` */
 
 /* Marks the near cells in place: each solid byte stays; any other becomes OAT_NEAR where its cell touches a solid one, else OAT_CLEAR,
    whatever it was. */
@@ -332,6 +333,12 @@ oat_hit oat_plain(oat_counts n, const uint8_t *cells, size_t bytes, oat_cell p, 
    the answer that oat_plain gives for the same `how`, but for its reads, which are no more; elsewhere it may miss a solid cell, and never makes one
    up. */
 oat_hit oat_adaptive(oat_counts n, const uint8_t *cells, size_t bytes, oat_cell p, oat_cell q, oat_manner how);
+
+/* Writes the trail of that walk, the cells on which it stands, in order, three numbers a cell (x, y, z), at the front of `out`; the rest of `out` stays. They
+   are the cells that oat_adaptive reads on the same inputs, as many as its `reads`: the first is p, the last is the cell of the hit, or q where the way is
+   clear. Cells that a long step passes over are not among them. `room` is the number of numbers that `out` holds; refused 6 exactly when it is below three
+   times the cells, after all else. A trail has no more cells than the 6-line from p to q. */
+oat_listed oat_adaptive_cells(oat_counts n, const uint8_t *cells, size_t bytes, oat_cell p, oat_cell q, oat_manner how, int32_t *out, size_t room);
 
 /* The first solid cell along the touching line from p to q, in the order of oat_line_touching. `start` is a number of enum oat_start, and says of p
    what it says for oat_plain; there is no rule. Asks for no marks. At a tie, place and side of the hit are those of one crossing: of those that lead

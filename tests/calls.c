@@ -347,6 +347,18 @@ static void first_hit(oat_hit walk(oat_counts, const u8 *, size, oat_cell, oat_c
 static void plain(void) { first_hit(oat_plain); }
 static void adapt(void) { first_hit(oat_adaptive); }
 
+static void trail(void) {
+    grid g = lend_grid();
+    oat_cell p = take_cell(), q = take_cell();
+    oat_manner how = take_manner();
+    size room = take_length();
+    slice out = lend_numbers(room, -77777);
+    only_read(g.cells);
+    oat_listed got = oat_adaptive_cells(g.n, g.cells.at, g.cells.bytes, p, q, how, (i32 *)out.at, room);
+    take_back(g.cells);
+    say_listed(got, out);
+}
+
 static void touchhit(void) {
     grid g = lend_grid();
     oat_cell p = take_cell(), q = take_cell();
@@ -437,6 +449,7 @@ static const struct { const char *name; void (*run)(void); } calls[] = {
     {"touch", touch},
     {"plain", plain},
     {"adapt", adapt},
+    {"trail", trail},
     {"touchhit", touchhit},
     {"mark", mark},
     {"complete", complete},

@@ -41,6 +41,7 @@ int main(void) {
     SHOW(oat_listed, oat_line6((oat_cell){.x = OAT_COORDINATE_LEAST - 1, .y = 0, .z = 0}, q, OAT_RULE_2 + 1, numbers, 0));
     SHOW(oat_hit, oat_plain(n, cells, 0, p, q, zeroed));
     SHOW(oat_hit, oat_adaptive(n, cells, 0, p, q, zeroed));
+    SHOW(oat_listed, oat_adaptive_cells(n, cells, 0, p, q, zeroed, numbers, 0));
     SHOW(oat_sight_answer, oat_sight(n, cells, 0, at, camera, ball, zeroed));
     SHOW(oat_verdict, oat_mark((oat_counts){.nx = OAT_COUNT_MOST, .ny = 1, .nz = OAT_COUNT_MOST + 1}, cells, sizeof cells));
     SHOW(oat_verdict, oat_mark(n, cells, sizeof cells - 1));
@@ -54,6 +55,9 @@ int main(void) {
     SHOW(oat_part, oat_layer(n, cells, sizeof cells, 7));
     SHOW(oat_hit, oat_plain(n, cells, sizeof cells, p, q, tested));
     SHOW(oat_hit, oat_adaptive(n, cells, sizeof cells, p, q, untested));
+    SHOW(oat_listed, oat_adaptive_cells(n, cells, sizeof cells, p, q, untested, numbers, 0));
+    SHOW(oat_listed, oat_adaptive_cells(n, cells, sizeof cells, p, q, untested, numbers, OAT_TOUCHING_ROOM));
+    SHOW(oat_listed, oat_adaptive_cells(n, cells, sizeof cells, p, (oat_cell){.x = 0, .y = 8, .z = 4}, untested, numbers, 0));
     SHOW(oat_hit, oat_plain(n, cells, sizeof cells, p, (oat_cell){.x = 0, .y = 0, .z = 7}, OAT_MANNER_USUAL));
 
     /* that cell by each of its sides, then as the start, then not met; the start is tested */
