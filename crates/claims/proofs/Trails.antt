@@ -1,5 +1,5 @@
 -- The claims about the trail and its list. Assumes nothing.
-use Prim.Native.Nat.{ℕ, zero, suc, _-_, _*_, _<_}
+use Prim.Native.Nat.{ℕ, suc, _-_, _*_, _<_}
 use native.Mathlib.Omega.{arith}
 use mathlib.Core.Path.{_≡_, refl, sym, ap, _∙_}
 use mathlib.Core.List.{List, [], _∷_}
@@ -21,8 +21,10 @@ use Rattle.walks.specs.declared.Walker.the-variants.{Adaptive}
 use Rattle.walks.specs.declared.Hit.{Hit}
 use Rattle.walks.specs.declared.FirstHit.{FirstHit}
 use Rattle.walks.specs.declared.FirstHit.the-variants as FirstHit
-use Rattle.walks.specs.Walks.{walk-of}
+use Rattle.walks.specs.Walks.{conduct, walk-of}
 use Rattle.walks.specs.Answers.{last-of, Finds}
+use Rattle.walks.proofs.Numbers.{walk-length}
+use Rattle.walks.proofs.Story.{reads-most}
 use Rattle.trails.specs.Trails.{trail, AdaptiveCells}
 use Rattle.claims.specs.Lists.{three-at, CellsAt}
 use Rattle.claims.specs.Tables.{no-more, _and_}
@@ -48,6 +50,7 @@ module _ (how : Manner) (n : Counts) (l : List ℕ) (p q : Cell) (entry exit : L
   pub trail-listed : TrailListed how n l p q entry exit k
   trail-listed =
       record {
+        few = omega (arith, walk-length (conduct how p q) n l p q Adaptive, reads-most (conduct how p q) n l p q Adaptive);
         cells = listed;
         starts = λ h.
             let lt : 0 < k = omega (arith, some, listed h .all) in

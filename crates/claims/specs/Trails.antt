@@ -1,6 +1,6 @@
 -- The trail, the cells on which the adaptive walk stands, and the call that lists it. Claims for every grid, every two ends, either start and either rule, by
 -- the contracts of the call and of the adaptive first hit. How the walk goes from cell to cell: Story, 10 and 11. Assumes nothing.
-use Prim.Native.Nat.{ℕ, _-_, _*_, _<_}
+use Prim.Native.Nat.{ℕ, _+_, _-_, _*_, _≤_, _<_}
 use mathlib.Core.Path.{_≡_}
 use mathlib.Core.List.{List, [], _∷_, _++_}
 use lib.IntN.{ℤ, pos}
@@ -11,6 +11,8 @@ use Rattle.cells.specs.declared.Manner.{Manner}
 use Rattle.cells.specs.declared.Refusal.{Refusal}
 use Rattle.cells.specs.declared.Rule.the-variants.{Two}
 use Rattle.cells.specs.Manners.{usual, tested-start, tested-by}
+use Rattle.lines.specs.Steps.{total}
+use Rattle.lines.specs.Lines.{differences}
 use Rattle.lists.specs.declared.Listed.{Listed}
 use Rattle.lists.specs.declared.Listed.the-variants.{Cells, Refused}
 use Rattle.lists.specs.Lists.{numbers}
@@ -29,8 +31,9 @@ abbrev pub trail-cell : Manner → Counts → List ℕ → (p q : Cell) → ℕ 
 trail-cell how n l p q i = getD (trail how n l p q) i p
 
 module _ (how : Manner) (n : Counts) (l : List ℕ) (p q : Cell) (entry exit : List ℤ) (k : ℕ) where
-  -- 1. SCOPE W15: what an accepted list answers and writes, cell by cell. There is a first cell, and it is P.
+  -- 1. SCOPE W15: what an accepted list answers and writes, cell by cell. There is a first cell, and it is P; and there are no more cells than the 6-line has.
   pub record TrailListed : Type 0 where
+    pub few : length (trail how n l p q) ≤ total (differences p q) + 1
     pub cells : AdaptiveCells how n l p q entry (Cells k) exit → CellsAt (length (trail how n l p q)) (trail-cell how n l p q) entry exit k
     pub starts : AdaptiveCells how n l p q entry (Cells k) exit → (0 < k) × (three-at exit 0 ≡ p)
 

@@ -12,7 +12,7 @@ use Rattle.walks.specs.Walks.{walk-of}
 use Rattle.walks.specs.Numbers.{visits, stands, Rises, last-number, reads-of}
 use Rattle.walks.proofs.Numbers.{go-rises, walk-cells, walk-length}
 use Rattle.walks.proofs.Progress.{stands-next, stands-below}
-use Rattle.walks.proofs.Runs.{ended}
+use Rattle.walks.proofs.Story.{reads-most}
 use Rattle.routes.specs.declared.Route.{Route}
 use Rattle.routes.specs.Route.{preference}
 use Rattle.hits.specs.Found.{conduct-of, hits, going}
@@ -52,7 +52,7 @@ module _ (l : List ℕ) (k : Route) where
     can-list =
         record {
           some = some-visit from (N + 1) (omega arith);
-          few = let e = ended (hits from l k) N (going l k Adaptive) rises (N + 1) 0 (omega arith) (omega arith) in omega (arith, e .few, e .most);
+          few = reads-most (conduct-of from k) (k .n) l (k .p) (k .q) Adaptive;
           below = stands-below (hits from l k) N (going l k Adaptive) rises;
         }
 

@@ -1,5 +1,6 @@
--- The adaptive walk's step from a number of the 6-line: as many faces on as the code crosses. Assumes nothing.
-use mathlib.Core.Path.{_≡_, refl, sym, ap, ap₂, _∙_, subst}
+-- The adaptive walk's step from a number of the 6-line, which leads as many faces on as the code crosses; and the cell of the 26-line that comes next.
+-- Assumes nothing.
+use mathlib.Core.Path.{_≡_, refl, sym, ap, _∙_, subst}
 use mathlib.Core.Logic.{_≢_}
 use mathlib.Core.Bool.{Bool, true, false, cond, _&&_}
 use mathlib.Core.List.{List}
@@ -9,7 +10,7 @@ use native.Mathlib.Numerals.{add-one}
 use lib.Dec.{eqb}
 use lib.ListN.{length}
 use borrow.Author.Tests.{eqb-true, eqb-false}
-use Rattle.lines.specs.Steps.{X, Y, Z, Steps, at, total}
+use Rattle.lines.specs.Steps.{X, Y, Z, Steps, total}
 use Rattle.lines.specs.Crossings.{place}
 use Rattle.lines.specs.Lines.{differences, longest, six-cell, place-26, number-26}
 use Rattle.lines.specs.Decisions.{raised}
@@ -24,7 +25,7 @@ use Rattle.walks.proofs.Long.{go-long, go-face, go-between}
 use Rattle.routes.specs.declared.Route.{Route}
 use Rattle.routes.specs.declared.Spot.{Spot}
 use Rattle.routes.specs.Route.{Planned, preference, course, SpotAt, byte-of-spot}
-use Rattle.routes.proofs.Spots.{at-first, six-byte, short-at}
+use Rattle.routes.proofs.Spots.{six-byte, short-at}
 use Rattle.routes.proofs.Cells26.{figure-6-values, faces-between, first-26, last-26}
 use Rattle.hits.specs.Found.{going}
 use Rattle.trails.specs.declared.Stand.{Stand}
@@ -62,15 +63,15 @@ module _ (k : Route) where
 
   -- from a cell of the 26-line that is not Q, the faces of the long step
   module _ (s : ℕ) (lt : s < N) (b : Before26 k s 0) where
-    pub here-26 : s ≡ number (b .next)
+    here-26 : s ≡ number (b .next)
     here-26 = omega (arith, b .there)
 
-    pub below-26 : b .next < longest D
+    below-26 : b .next < longest D
     below-26 =
         let ne : b .next ≢ longest D = λ e. omega (arith, here-26, ap number e, last-26 k) in
         omega (arith, b .most)
 
-    pub spot-26 : (spot : Spot) → SpotAt k (place (course k) s) spot → SpotAt k (place (course k) (number (b .next))) spot
+    spot-26 : (spot : Spot) → SpotAt k (place (course k) s) spot → SpotAt k (place (course k) (number (b .next))) spot
     spot-26 spot = subst (λ m. SpotAt k (place (course k) m) spot) here-26
 
     pub ahead-on : (spot : Spot) (r : Moves) → SpotAt k (place (course k) s) spot → LongMoves D (raised (k .order) (spot .e)) r →
@@ -98,7 +99,7 @@ module _ (k : Route) where
       let w = within-26 D (a .from + 1) (omega (arith, a .below)) in
       omega (arith, a .there, w X, w Y, w Z)
 
-  -- with no more faces left it is beside none
+  -- at most none is none
   pub none-left : (s left : ℕ) → left ≤ 0 → Before26 k s left → Before26 k s 0
   none-left s left none = let e : left ≡ 0 = omega arith in subst (Before26 k s) e
 
@@ -134,7 +135,7 @@ module _ (l : List ℕ) (k : Route) (plan : Planned (length l) k) where
     crosses-some = few-of (eqb (t .left) 0) (clear (byte-of-spot l (t .spot))) ahead (a .some)
 
     -- the step leads so many faces on
-    pub goes : go s ≡ s + to-cross l t ahead
+    goes : go s ≡ s + to-cross l t ahead
     goes = by (eqb (t .left) 0) refl (clear (byte-of-spot l (t .spot))) refl
       where
         byte : clear (byte-of-spot l (t .spot)) ≡ clear (byte-of (k .n) l (six-cell (preference k) (k .p) (k .q) s))
@@ -153,9 +154,9 @@ module _ (l : List ℕ) (k : Route) (plan : Planned (length l) k) where
             go-between (preference k) (k .n) l (k .p) (k .q) (a .from) s (a .below) (a .off some) (omega (arith, a .there, a .some)) lt ∙ sym (add-one s)
 
   -- and there it stands
-  pub stands-next : (s : ℕ) → s < M → (t r : Stand) (ahead : ℕ) → SpotAt k (place (course k) s) (t .spot) → Ahead26 k s (t .left) ahead →
+  pub stands-there : (s : ℕ) → s < M → (t r : Stand) (ahead : ℕ) → SpotAt k (place (course k) s) (t .spot) → Ahead26 k s (t .left) ahead →
       SpotAt k (place (course k) (s + to-cross l t ahead)) (r .spot) → r .left ≡ ahead - to-cross l t ahead → StandsAt k (go s) r
-  stands-next s lt t r ahead h a spot left =
+  stands-there s lt t r ahead h a spot left =
       let (some, few) = crosses-some s lt t ahead h a in
       subst (λ m. StandsAt k m r) (sym (goes s lt t ahead h a))
       (record { spot = spot; beside = subst (Before26 k (s + to-cross l t ahead)) (sym left) (crossed-some k s (t .left) ahead (to-cross l t ahead) a some few) })

@@ -2,10 +2,9 @@
 -- nothing.
 use Prim.Native.Nat.{ℕ, _+_, _≤_, _<_}
 use mathlib.Core.Path.{_≡_}
-use mathlib.Core.Bool.{Bool, cond, _&&_}
+use mathlib.Core.Bool.{cond, _&&_}
 use mathlib.Core.List.{List}
 use lib.Dec.{eqb}
-use lib.ListN.{length}
 use Rattle.cells.specs.declared.Axis.{Axis}
 use Rattle.cells.specs.declared.Cell.{Cell}
 use Rattle.cells.specs.Tabulate.{tabulate}
@@ -40,7 +39,7 @@ module _ (l : List ℕ) (k : Route) where
 
 -- ---- a spot of the 6-line
 
--- number s of the 6-line is at a spot, and lies before so many faces
+-- it is that of some number of the 6-line, behind which so many faces lie
 pub record CanPass (k : Route) (faces : ℕ) (spot : Spot) : Type 0 where
   pub bytes : ℕ
   pub plan : Planned bytes k
@@ -48,7 +47,7 @@ pub record CanPass (k : Route) (faces : ℕ) (spot : Spot) : Type 0 where
   pub at : SpotAt k (place (course k) number) spot
   pub fits : number + faces ≤ last-number (k .p) (k .q)
 
--- whichever it is, they are crossed
+-- whichever number that is, they are crossed
 pub record Passed (k : Route) (faces : ℕ) (spot r : Spot) : Type 0 where
   pub leads : (s : ℕ) → s + faces ≤ last-number (k .p) (k .q) → SpotAt k (place (course k) s) spot → SpotAt k (place (course k) (s + faces)) r
 
@@ -68,6 +67,7 @@ pub record Before26 (k : Route) (s left : ℕ) : Type 0 where
 
 -- so many lead to the next one that is not s itself
 pub record Ahead26 (k : Route) (s left ahead : ℕ) : Type 0 where
+  -- the one that was passed last, or s itself
   pub from : ℕ
   pub below : from < longest (differences (k .p) (k .q))
   pub on : left ≡ 0 → s ≡ number-26 (k .p) (k .q) from

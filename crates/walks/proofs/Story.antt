@@ -56,6 +56,10 @@ module _ (how : Conduct) (n : Counts) (l : List ℕ) (p q : Cell) where
   pub end-below : (k : Walker) → end-of how n l p q k ≤ N
   end-below k = walk-ended k .most
 
+  -- it reads no more cells than the 6-line has
+  pub reads-most : (k : Walker) → reads-of how n l p q k ≤ six-count p q
+  reads-most k = omega (arith, walk-ended k .few, walk-ended k .most)
+
   -- a walk's answer, by its numbers
   pub answer-by-numbers : (k : Walker) → answer-of how n l p q (walk-of k how n l p q) ≡ answer-at how n l p q (end-of how n l p q k) (reads-of how n l p q k)
   answer-by-numbers k = answer-is (walk-of k how n l p q) _ _ (end-below k) (walk-last how n l p q k p) (walk-length how n l p q k)

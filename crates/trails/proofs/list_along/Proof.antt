@@ -1,6 +1,5 @@
 -- `trails::list_along` meets its contract: the walk's reads are how many cells there are; with room for them they are filled in. Assumes nothing.
 use mathlib.Core.Path.{_≡_, refl, sym, ap, _∙_, subst}
-use Prim.Native.Nat.{_*_, _≤_}
 use native.Mathlib.Omega.{arith}
 use borrow.Author.Needs.{needs}
 use lib.ListN.{length}

@@ -7,7 +7,7 @@ use Rattle.lines.specs.Crossings.{place}
 use Rattle.routes.specs.Route.{course, SpotAt}
 use Rattle.routes.proofs.Spots.{spot-byte, place-within}
 use Rattle.trails.specs.Standing.{Ahead26, to-cross}
-use Rattle.trails.proofs.Steps26.{crosses-some, ahead-within, stands-next}
+use Rattle.trails.proofs.Steps26.{crosses-some, ahead-within, stands-there}
 use Rattle.trails.proofs.next_stand.Statement.{statement}
 use Rattle.trails.proofs.next_stand.Tie as tie
 
@@ -61,7 +61,7 @@ returns c =
       leads = λ n lt at.
           let a = f .faces-ahead .ensures .leads n lt at in
           let few = crosses-some l k (s .pre .plan) n lt t _ (at .spot) a .1 in
-          stands-next l k (s .pre .plan) n lt t _ (f .faces-ahead .result) (at .spot) a
+          stands-there l k (s .pre .plan) n lt t _ (f .faces-ahead .result) (at .spot) a
           (subst (λ faces. SpotAt k (place (course k) (n + faces)) (c .over-faces .result)) many
           (c .over-faces .ensures .leads n (omega (arith, many, ahead-within k n _ _ a)) (at .spot)))
           (ap (λ faces. f .faces-ahead .result - faces) many);

@@ -1,6 +1,6 @@
 -- `trails::over_faces` meets its contract: the invariant: with j faces crossed the spot is that of the number j further on. The measure is how many are left.
 -- Assumes nothing.
-use mathlib.Core.Path.{_≡_, sym, ap, _∙_, subst}
+use mathlib.Core.Path.{_≡_, sym, subst}
 use Prim.Native.Nat.{ℕ, _+_, _-_, _≤_}
 use native.Mathlib.Omega.{arith}
 use borrow.Author.Needs.{needs}
