@@ -14,6 +14,7 @@ import subprocess
 import sys
 import tempfile
 import time
+import xml.etree.ElementTree
 
 HERE = pathlib.Path(__file__).resolve().parent
 sys.path.insert(0, str(HERE.parent / "python"))
@@ -235,7 +236,7 @@ def wrong_words():
                 fail("%s of %s says %s" % (name, file.name, said))
             tried += 1
     for words, part in [([], "say a command"), (["fly"], "invalid choice"), (["info"], "required"), (["info", good, "more"], "unrecognized"), (["info", good, "--loud"], "unrecognized"),
-                        (["hit", good, *line[:5]], "expected 3 arguments"), (["hit", good, *line[:5], "x"], "no whole number"), (["hit", good, *line[:5], "1.5"], "no whole number"),
+                        (["hit", good, *line[:5]], "required: Q"), (["hit", good, *line[:5], "x"], "no whole number"), (["hit", good, *line[:5], "1.5"], "no whole number"),
                         (["hit", good, *line[:5], "9"], "refused 5"), (["hit", good, *line[:5], 2**31], "from -2147483648 to 2147483647"), (["hit", good, *line, "--rule", 3], "invalid choice"),
                         (["hit", good, *line, "--start", "solid"], "invalid choice"), (["sight", good, *survey[4:]], "required"), (["sight", good, *survey[:-1], "nine"], "no number"),
                         (["sight", good, *survey[:-1], "1e300"], "refused 9"), (["sight", good, *survey[:-1], "-1e-3"], "refused 9: a surveyed value outside the grid, ball, z"),
@@ -331,6 +332,25 @@ def indices(data, byte):
         at = data.find(bytes([byte]), at + 1)
 
 
+def drawn():
+    """README's pictures are those that the command draws of the demo's ground; what it makes of that ground is what the demo has stored."""
+    ground, docs = HERE.parent / "demo" / "ground.txt", HERE.parent / "docs"
+    for stored, words in (("marked.records", []), ("bare.records", ["--bare"])):
+        out = WORK / stored
+        same("make " + stored, run("make", ground, "--pairs", *words, "-o", out).returncode, 0)
+        if out.read_bytes() != (HERE.parent / "demo" / stored).read_bytes():
+            fail("demo/%s is not what oatmarten make --pairs %s makes of demo/ground.txt" % (stored, " ".join(words)))
+    for stored, words in (("walks.svg", ["picture", WORK / "bare.records", *"20 12 7 36 8 0".split()]),
+                          ("coverage.svg", ["coverage", WORK / "marked.records", "--layer", 1, "--cameras", ground])):
+        same("the words of " + stored, run(*words, "-o", WORK / stored).stdout.decode(), "%s\n" % (WORK / stored))
+        if (WORK / stored).read_bytes() != (docs / stored).read_bytes():
+            fail("docs/%s is not what oatmarten %s draws" % (stored, " ".join(map(str, words))))
+        xml.etree.ElementTree.parse(WORK / stored)
+    by_hand = run("coverage", WORK / "marked.records", "--layer", 1, *"--camera 20 12 7 --camera 8 3 1".split(), "-o", "-")
+    same("cameras by hand", (by_hand.returncode, b"How many of 2 cameras" in by_hand.stdout), (0, True))
+    print("command: README's pictures and the demo's records are what the command makes")
+
+
 def memories():
     """What may be lent, and what is not taken."""
     import array
@@ -393,7 +413,7 @@ def main():
     chance = random.Random(20)
     for test in (hits, sights, lists, infos, compares):
         test(chance)
-    for test in (wrong_words, streams, in_place, memories, libraries):
+    for test in (wrong_words, streams, in_place, drawn, memories, libraries):
         test()
 
 

@@ -268,7 +268,7 @@ SHAPE = "SOURCE has the shape %s, and a venue has three numbers, (nz, ny, nx): a
 TYPE = "SOURCE has numbers of the type %s, and cells are bytes: save a.astype(numpy.uint8), where all are 0 to 255, or a != 0"
 BOTH = "SOURCE has cells of 1, which become %d, and cells of %d too: name another code, so that two materials do not become one"
 CODE = "SOURCE: the code that 1 becomes is a number from 2 to 255, and %d was given"
-COUNT = "SOURCE: refused 2: a count outside 1 to 1024 (%s)"
+COUNT = "SOURCE: refused 2: a count outside 1 to 1024, %s"
 
 
 class Npy(Made):

@@ -170,7 +170,7 @@ class Walks(Case):
         root, hit, _ = self.look(MARKED, (20, 12, 7), (36, 8, 0), title="a post <&> \"quoted\" \x01")
         self.assertEqual((hit.x, hit.y, hit.z), (34, 9, 1))
         self.assertEqual(root.find(SVG + "title").text, "a post <&> \"quoted\" \ufffd")
-        self.assertIn("hit at (34, 9, 1), code 2 (0x02), at 27/32 of the way, by face +x, 24 cells read", root.find(SVG + "desc").text)
+        self.assertIn("blocked at (34, 9, 1) by code 2 (0x02), at 27/32 of the way, by its low-x side (+x), 24 cells read", root.find(SVG + "desc").text)
         self.assertNotIn("steps over", root.find(SVG + "desc").text)
 
     def test_missed(self):

@@ -412,6 +412,7 @@ library.PROTOTYPES.update({
     "oat_layer": (oat_part, [oat_counts, ctypes.c_void_p, ctypes.c_size_t, ctypes.c_int32]),
     "oat_plain": (oat_hit, [oat_counts, ctypes.c_void_p, ctypes.c_size_t, oat_cell, oat_cell, oat_manner]),
     "oat_adaptive": (oat_hit, [oat_counts, ctypes.c_void_p, ctypes.c_size_t, oat_cell, oat_cell, oat_manner]),
+    "oat_adaptive_cells": (oat_listed, [oat_counts, ctypes.c_void_p, ctypes.c_size_t, oat_cell, oat_cell, oat_manner, ctypes.c_void_p, ctypes.c_size_t]),
     "oat_touching": (oat_hit, [oat_counts, ctypes.c_void_p, ctypes.c_size_t, oat_cell, oat_cell, ctypes.c_uint32]),
     "oat_build": (oat_tally, [oat_counts, ctypes.c_void_p, ctypes.c_size_t, ctypes.c_void_p, ctypes.c_size_t]),
     "oat_set": (oat_tally, [oat_counts, ctypes.c_void_p, ctypes.c_size_t, ctypes.c_void_p, ctypes.c_size_t, ctypes.c_uint64, oat_cell, ctypes.c_uint8]),
@@ -507,6 +508,18 @@ def oat_adaptive(n: CountsLike, cells: Buffer, p: CellLike, q: CellLike, how: Ma
         answer: oat_hit = library.load().oat_adaptive(struct(oat_counts, n, "n"), lent_cells.at, lent_cells.bytes, struct(oat_cell, p, "p"),
             struct(oat_cell, q, "q"), struct(oat_manner, how, "how"))
     return _accepted("oat_adaptive", answer)
+
+
+def oat_adaptive_cells(n: CountsLike, cells: Buffer, p: CellLike, q: CellLike, out: Buffer, how: MannerLike = OAT_MANNER_USUAL) -> oat_listed:
+    """Writes the trail of that walk, the cells on which it stands, in order, three numbers a cell (x, y, z), at the front of `out`; the rest of `out`
+    stays. They are the cells that oat_adaptive reads on the same inputs, as many as its `reads`: the first is p, the last is the cell of the hit,
+    or q where the way is clear. Cells that a long step passes over are not among them. `room` is the number of numbers that `out` holds; refused 6
+    exactly when it is below three times the cells, after all else. A trail has no more cells than the 6-line from p to q."""
+    with lent(cells, False, 1, "cells") as lent_cells, lent(out, True, 4, "out") as lent_out:
+        apart([("out", lent_out)], [("cells", lent_cells)])
+        answer: oat_listed = library.load().oat_adaptive_cells(struct(oat_counts, n, "n"), lent_cells.at, lent_cells.bytes, struct(oat_cell, p, "p"),
+            struct(oat_cell, q, "q"), struct(oat_manner, how, "how"), lent_out.at, lent_out.bytes // 4)
+    return _accepted("oat_adaptive_cells", answer)
 
 
 def oat_touching(n: CountsLike, cells: Buffer, p: CellLike, q: CellLike, start: int = OAT_START_UNTESTED) -> oat_hit:
@@ -605,9 +618,10 @@ __all__ = [
     "OAT_NEAR", "OAT_PAIR_BYTES", "OAT_PAIR_BYTES_2", "OAT_REFUSED_BYTES", "OAT_REFUSED_CORNERS", "OAT_REFUSED_COUNT", "OAT_REFUSED_LAYER",
     "OAT_REFUSED_LIMIT", "OAT_REFUSED_NOT_FINITE", "OAT_REFUSED_OFF_GRID", "OAT_REFUSED_OFF_SURVEY", "OAT_REFUSED_PLACEMENT", "OAT_REFUSED_RECORD",
     "OAT_REFUSED_ROOM", "OAT_REFUSED_RULE", "OAT_REFUSED_STALE", "OAT_REFUSED_VERSION", "OAT_REVISION", "OAT_RULE_1", "OAT_RULE_2", "OAT_SOLID_LEAST",
-    "OAT_START_TESTED", "OAT_START_UNTESTED", "OAT_TOUCHING_ROOM", "OAT_VENUE_HEAD", "oat_adaptive", "oat_axis", "oat_build", "oat_byte", "oat_cell",
-    "oat_cell_of", "oat_complete", "oat_complete_answer", "oat_counts", "oat_end", "oat_face", "oat_found", "oat_hit", "oat_layer", "oat_line26",
-    "oat_line6", "oat_line_touching", "oat_listed", "oat_manner", "oat_mark", "oat_pair", "oat_part", "oat_placement", "oat_plain", "oat_point",
-    "oat_read_pair", "oat_read_venue", "oat_refill", "oat_refusal", "oat_refusal_words", "oat_revision", "oat_rule", "oat_said", "oat_set",
-    "oat_sight", "oat_sight_answer", "oat_start", "oat_tally", "oat_touching", "oat_venue", "oat_verdict", "oat_write_venue", "oat_written"
+    "OAT_START_TESTED", "OAT_START_UNTESTED", "OAT_TOUCHING_ROOM", "OAT_VENUE_HEAD", "oat_adaptive", "oat_adaptive_cells", "oat_axis", "oat_build",
+    "oat_byte", "oat_cell", "oat_cell_of", "oat_complete", "oat_complete_answer", "oat_counts", "oat_end", "oat_face", "oat_found", "oat_hit",
+    "oat_layer", "oat_line26", "oat_line6", "oat_line_touching", "oat_listed", "oat_manner", "oat_mark", "oat_pair", "oat_part", "oat_placement",
+    "oat_plain", "oat_point", "oat_read_pair", "oat_read_venue", "oat_refill", "oat_refusal", "oat_refusal_words", "oat_revision", "oat_rule",
+    "oat_said", "oat_set", "oat_sight", "oat_sight_answer", "oat_start", "oat_tally", "oat_touching", "oat_venue", "oat_verdict", "oat_write_venue",
+    "oat_written"
 ]
