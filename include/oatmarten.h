@@ -3,7 +3,7 @@
    Link with liboatmarten.a or liboatmarten.so (x86-64 Linux). docs/C.md has a whole program, docs/SCOPE.md the exact rules, docs/TRUST.md says what is proved
    and what is not.
 
-   Every call
+   Every call, but oat_revision, which answers a number,
    - takes any numbers and any lent memory, ends, and does its job or refuses by a number; there is no other error;
    - answers by value. Every answer begins with `said`: its `refusal` is OAT_ACCEPTED, or the number of the refusal; its `end` and `axis`
      then say what it names. Fields that the answer does not speak of are 0: all values of a refused call, all of `said` of an accepted one;
@@ -188,10 +188,10 @@ typedef struct {
     uint32_t axis;    /* enum oat_axis */
 } oat_said;
 
-/* Of a line list. */
+/* Of a list of cells. */
 typedef struct {
     oat_said said;
-    uint32_t count; /* cells of the line, both ends included */
+    uint32_t count; /* cells listed: of a line all of them, both ends included; of a trail those up to the walk's last */
 } oat_listed;
 
 /* Of a call that accepts or refuses. */

@@ -12,8 +12,8 @@ import sys
 import time
 from typing import Any, Callable, Dict, Iterator, List, NoReturn, Optional, Sequence, TextIO, Tuple
 
-from .header import (OAT_COUNT_MOST, OAT_LINE6_ROOM, OAT_LINE26_ROOM, OAT_REVISION, OAT_TOUCHING_ROOM, oat_adaptive, oat_complete, oat_line6, oat_line26,
-                     oat_line_touching, oat_mark, oat_plain, oat_read_venue, oat_revision, oat_sight)
+from .header import (OAT_CLEAR, OAT_NEAR, OAT_LINE6_ROOM, OAT_LINE26_ROOM, OAT_REVISION, OAT_TOUCHING_ROOM, oat_adaptive, oat_complete, oat_line6, oat_line26,
+                     oat_line_touching, oat_mark, oat_plain, oat_revision, oat_sight)
 from . import library, looking, telling
 from .files import aside
 from .inputs import Wrong, named, shown as shortened, whole as whole_number
@@ -123,7 +123,7 @@ def info(asked: argparse.Namespace, say: Said) -> int:
         complete = bool(oat_complete(venue.n, venue.held).yes)
         marks = looking.marks(venue.counts, venue.cells, lambda share: show(0.5 + share / 2))
         show(1)
-        clear, near = kinds.pop(0, 0), kinds.pop(1, 0)
+        clear, near = kinds.pop(OAT_CLEAR, 0), kinds.pop(OAT_NEAR, 0)
         nx, ny, nz = venue.counts
         words = ["%d x %d x %d, %d cells" % (nx, ny, nz, len(venue.cells)), "clear: %d" % clear, "near: %d" % near, "solid: %d" % sum(kinds.values())]
         words += ["    %s: %d" % (telling.code_words(code), many) for code, many in kinds.items()]
@@ -167,7 +167,7 @@ def marked_in_place(file: Any, name: str) -> int:
     try:
         with Venue.of(file, True) as venue:
             oat_mark(venue.n, venue.held)
-            return looking.kinds(venue.cells).get(1, 0)
+            return looking.kinds(venue.cells).get(OAT_NEAR, 0)
     except Refused as refused:
         raise no_venue(name, refused)
 

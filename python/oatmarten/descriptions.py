@@ -22,6 +22,7 @@ from typing import Dict, List, NamedTuple, Optional, Sequence, Tuple
 
 from .header import OAT_COUNT_MOST, OAT_RULE_2, OAT_SOLID_LEAST
 from .inputs import Wrong, named, shown, taken, whole
+from .telling import side_of
 
 Cell = Tuple[int, int, int]
 AXES = "xyz"
@@ -83,9 +84,8 @@ class Description:
         return next((solid for solid in reversed(self.solids) if solid.covers(cell)), None)
 
     def side(self, face: str) -> str:
-        """What the side is called by which a line comes in, moving as `+x` or `-x` says: moving to larger numbers it meets the low side."""
-        low, high = self.sides.get(face[1], ("low-" + face[1], "high-" + face[1]))
-        return low if face[0] == "+" else high
+        """What the side is called by which a line comes in, moving as `+x` or `-x` says."""
+        return side_of(face, *self.sides.get(face[1], ("low-" + face[1], "high-" + face[1])))
 
     def pairs(self) -> List[Pair]:
         """Each camera with each ball; then there and back."""

@@ -235,7 +235,7 @@ class oat_said(Struct):
 
 
 class oat_listed(Struct):
-    """Of a line list."""
+    """Of a list of cells."""
 
     said: oat_said
     count: int
@@ -369,6 +369,10 @@ def OAT_MASKS(nx: int, ny: int, nz: int) -> int:
     return ((((nx) + 3) // 4) * (((ny) + 3) // 4) * (((nz) + 3) // 4))
 
 
+# ends and axes that a refusal names, as words
+ENDS: Dict[int, str] = {OAT_END_NONE: "", OAT_END_P: "P", OAT_END_Q: "Q"}
+AXES: Dict[int, str] = {OAT_AXIS_NONE: "", OAT_AXIS_X: "x", OAT_AXIS_Y: "y", OAT_AXIS_Z: "z", OAT_AXIS_EDGE: "edge"}
+
 # a refusal in a few words
 WORDS: Dict[int, str] = {
     OAT_ACCEPTED: "accepted",
@@ -398,7 +402,7 @@ def _accepted(call: str, answer: Answer) -> Answer:
     """The answer, or what it says of a refusal, raised."""
     said = answer.said
     if said.refusal:
-        raise Refused(call, said.refusal, said.end, said.axis, oat_refusal_words(said.refusal))
+        raise Refused(call, said.refusal, ENDS[said.end], AXES[said.axis], oat_refusal_words(said.refusal))
     return answer
 
 

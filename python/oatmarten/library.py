@@ -7,7 +7,7 @@ import pathlib
 import platform
 from typing import Any, Dict, List, Optional, Tuple
 
-# set by the header's module: the calls {name: (what it answers, [what it takes])}, the words of refusals, the revision
+# set by the header's module: the calls {name: (what it answers, [what it takes])}
 PROTOTYPES: Dict[str, Tuple[Any, List[Any]]] = {}
 
 _loaded: Optional[ctypes.CDLL] = None
@@ -21,14 +21,12 @@ class Refused(Exception):
     """A call refused. `number` is the refusal's, `end` "P", "Q" or "", `axis` "x", "y", "z", "edge" or "", `words` what it means; `call` says which
     call it was. Nothing was written."""
 
-    ENDS = ("", "P", "Q")
-    AXES = ("", "x", "y", "z", "edge")
     # for whoever tells it: what the refusal is about, and what P and Q are called
     about = ""
     called = ("P", "Q")
 
-    def __init__(self, call: str, number: int, end: int, axis: int, words: str) -> None:
-        self.call, self.number, self.end, self.axis, self.words = call, number, self.ENDS[end], self.AXES[axis], words
+    def __init__(self, call: str, number: int, end: str, axis: str, words: str) -> None:
+        self.call, self.number, self.end, self.axis, self.words = call, number, end, axis, words
         super().__init__(call, number, end, axis, words)
 
     def __str__(self) -> str:
@@ -74,7 +72,10 @@ def load() -> ctypes.CDLL:
         if answered != OAT_REVISION:
             raise LibraryError("%s is revision %d of the library, and this module is for revision %d" % (file, answered, OAT_REVISION))
         for name, (answer, takes) in PROTOTYPES.items():
-            call = getattr(library, name)
+            try:
+                call = getattr(library, name)
+            except AttributeError:
+                raise LibraryError("%s has no call %s, though it is of revision %d" % (file, name, answered)) from None
             call.restype, call.argtypes = answer, takes
         _loaded = library
     return _loaded

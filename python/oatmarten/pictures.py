@@ -22,11 +22,10 @@ from .header import (OAT_CLEAR, OAT_LINE6_ROOM, OAT_MANNER_USUAL, OAT_NEAR, OAT_
                      oat_adaptive_cells, oat_cell, oat_complete, oat_counts, oat_hit, oat_layer, oat_line6, oat_manner, oat_plain)
 from .looking import listed
 from .memory import Buffer, Lent, lent, struct
-from .telling import cell_words, code_words, face_name, hit_words
+from .telling import cell_words, code_words, face_name, hit_words, side_of
 
 Cell = Tuple[int, ...]
 
-FROM = {"+z": "below", "-z": "above"}
 PLAIN, ADAPTIVE, HIT = "#1457b8", "#e65100", "#c4002b"
 # where a line is blocked and its cells would have fewer pixels than this, those up to so far from the hit are shown
 CELL_LEAST, CLOSE = 3, 40
@@ -393,7 +392,7 @@ def _walk_samples(layer: _Layer, walks: _Walks) -> List[Tuple[str, str]]:
     if faces:
         found.append(("".join(_bar(0.7, 0.5, (1, 0), k)), "the side by which the line comes in"))
     for face in [face for face in faces if not layer.move(face)][:1]:
-        found.append(("".join(_ring(0.5, 0.5, k, 0.4)), "it comes in from %s (%s), which a layer does not show" % (FROM[face_name(face)], face_name(face))))
+        found.append(("".join(_ring(0.5, 0.5, k, 0.4)), "it comes in from %s (%s), which a layer does not show" % (side_of(face_name(face), "below", "above"), face_name(face))))
     return found
 
 

@@ -28,11 +28,16 @@ def face_name(face: int) -> str:
 
 
 def face_words(face: int) -> str:
-    """The side by which the line comes in: moving to larger x it meets the low-x side."""
+    """The side by which the line comes in."""
     if face == OAT_FACE_NONE:
         return "where the line starts"
     name = face_name(face)
-    return "by its %s-%s side (%s)" % ("low" if name[0] == "+" else "high", name[1], name)
+    return "by its %s-%s side (%s)" % (side_of(name, "low", "high"), name[1], name)
+
+
+def side_of(face: str, low: str, high: str) -> str:
+    """Which of two sides a line meets that moves so: moving to larger numbers, as +x says, the low one."""
+    return low if face[0] == "+" else high
 
 
 def cells_read(reads: int) -> str:

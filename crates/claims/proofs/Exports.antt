@@ -15,7 +15,7 @@ use Rattle.cells.specs.declared.Verdict.{Verdict}
 use Rattle.cells.specs.declared.Verdict.the-variants as Verdict
 use Rattle.cells.specs.Checks.{_then_, by-verdict}
 use Rattle.cells.specs.Manners.{rule-of, rule-check}
-use Rattle.lines.specs.Preference.{order-of, by-rule}
+use Rattle.lines.specs.Preference.{comes-before, order-of, by-rule}
 use Rattle.lines.specs.Lines.{six-line, line-26}
 use Rattle.lines.specs.Touching.{touching-line}
 use Rattle.lists.specs.declared.Listed.{Listed}
@@ -32,6 +32,7 @@ use Rattle.refills.specs.Refills.{refilled, remasked, moved, box-check, stale-c
 use Rattle.walks.specs.declared.Walker.{Walker}
 use Rattle.walks.specs.declared.FirstHit.{FirstHit}
 use Rattle.walks.specs.declared.FirstHit.the-variants as FirstHit
+use Rattle.walks.specs.Walks.{walk-of}
 use Rattle.walks.specs.Answers.{first-hit, Finds}
 use Rattle.grids.specs.Inside.{walk-check}
 use Rattle.trails.specs.Trails.{trail, AdaptiveCells}
@@ -65,7 +66,7 @@ use Rattle.structs.specs.RecordAnswers.{rule-number, flat-venue, flat-pair, fla
 use Rattle.claims.proofs.Grids.{one}
 use Rattle.claims.proofs.Flattenings.{input-rows}
 use Rattle.claims.proofs.Refused.{after-says}
-use Rattle.claims.specs.Example.{at}
+use Rattle.claims.specs.Example.{at, example-counts, marked-cells, sevens}
 use Rattle.claims.specs.Flattenings.{three}
 use Rattle.claims.specs.Exports.{One, OneEach, OnePair, Untouched, BothUntouched, ExportsOnce, RefusedUntouched, WrongExports, ExportsAre, NoSuchRule}
 use Rattle.claims.specs.Lists.{room}
@@ -215,6 +216,11 @@ unfolding six-line order-of rule-check rule-of
 idle-line Rule.One r h = let z : _≡_ {A = ℕ} 7 0 = ap (λ l. natAbs (getD l 0 (pos 0))) (h .meets .holds) in omega arith
 idle-line Rule.Two r h = let z : _≡_ {A = ℕ} 7 0 = ap (λ l. natAbs (getD l 0 (pos 0))) (h .meets .holds) in omega arith
 
+idle-trail : (r : OatListed) →
+    FlatAdaptiveCells (record { start = 0; rule = 1 }) example-counts marked-cells (at 0 0 0) (at 3 1 0) (sevens 9) r (sevens 9) → ⊥
+unfolding walk-of order-of comes-before walk-check rule-check rule-of
+idle-trail r h = let z : _≡_ {A = ℕ} 7 0 = ap (λ l. natAbs (getD l 0 (pos 0))) (h .meets .holds) in omega arith
+
 pub wrong-exports : WrongExports
 unfolding shape marked complete completeness layer-part venue-head write-check rule-check bricks-check built mask-of sum box-check stale differs-in any
     ones-in ones refilled
@@ -222,6 +228,8 @@ wrong-exports =
     record {
       idle-line = idle-line;
       zeroed-manner = λ w n cells p q r h other. other (ap (λ f. f .said .refusal) (h .flat ∙ ap flat-hit (h .meets)));
+      idle-trail = idle-trail;
+      zeroed-trail = λ n cells p q entry exit r h other. other (ap (λ f. f .said .refusal) (h .flat ∙ ap flat-listed (h .meets .0)));
       idle-marker = λ r h. let z : _≡_ {A = ℕ} 0 1 = ap (λ (l : List ℕ). getD l 0 0) (h .meets .holds) in omega arith;
       idle-writer = λ r h. let z : _≡_ {A = ℕ} 99 0 = ap (λ (l : List ℕ). getD l 0 0) (h .meets .holds) in omega arith;
       refusing-marker = λ r exit h k.

@@ -12,6 +12,7 @@ use Rattle.cells.specs.declared.Refusal.{Refusal}
 use Rattle.cells.specs.declared.Verdict.{Verdict}
 use Rattle.cells.specs.declared.Verdict.the-variants as Verdict
 use Rattle.cells.specs.Checks.{by-verdict}
+use Rattle.cells.specs.Refusals.{told}
 use Rattle.lines.specs.Preference.{order-of, comes-before}
 use Rattle.lists.specs.declared.Listed.{Listed}
 use Rattle.lists.specs.declared.Listed.the-variants.{Cells, Refused}
@@ -87,16 +88,26 @@ pub trails-worked : TrailRows
 unfolding walk-of order-of comes-before
 trails-worked = record { trails = refl and refl and refl and refl and refl and refl and refl and no-more }
 
+-- the number of a list's refusal
+unfoldable why-not : Listed → ℕ
+why-not (Cells many) = 0
+why-not (Refused r) = told r .number
+
 pub wrong-trails : WrongTrails
-unfolding walk-of order-of comes-before walk-check accepted said
+unfolding walk-of order-of comes-before walk-check accepted said why-not
 wrong-trails =
     record {
       passed-over = λ exit h. absurd (let z : _≡_ {A = ℕ} 4 3 = ap said (h .says) in omega arith);
       near-stepped = λ exit h. absurd (let z : _≡_ {A = ℕ} 3 4 = ap said (h .says) in omega arith);
+      past-the-hit = λ exit h. absurd (let z : _≡_ {A = ℕ} 5 3 = ap said (h .says) in omega arith);
+      q-for-the-hit = λ r h. absurd (let z : _≡_ {A = ℕ} 3 1 = ap (λ l. natAbs (getD l 6 (pos 0))) (h .holds) in omega arith);
+      start-left-out = λ r h. absurd (let z : _≡_ {A = ℕ} 1 0 = ap (λ l. natAbs (getD l 0 (pos 0))) (h .holds) in omega arith);
+      turned-round = λ r h. absurd (let z : _≡_ {A = ℕ} 1 0 = ap (λ l. natAbs (getD l 0 (pos 0))) (h .holds) in omega arith);
       plain-in-list = λ r h. absurd (let z : _≡_ {A = ℕ} 1 2 = ap (λ l. natAbs (getD l 6 (pos 0))) (h .holds) in omega arith);
       other-rule = λ r h. absurd (let z : _≡_ {A = ℕ} 1 0 = ap (λ l. natAbs (getD l 3 (pos 0))) (h .holds) in omega arith);
       always-tested = λ exit h. absurd (let z : _≡_ {A = ℕ} 1 3 = ap said (h .says) in omega arith);
       never-tested = λ exit h. absurd (let z : _≡_ {A = ℕ} 3 1 = ap said (h .says) in omega arith);
+      room-first = λ exit h. absurd (let z : _≡_ {A = ℕ} 6 5 = ap why-not (h .says) in omega arith);
       refuses = λ r exit h. absurd (let z : _≡_ {A = ℕ} 0 1 = ap accepted (h .says) in omega arith);
       one-less = λ many exit h. absurd (let z : _≡_ {A = ℕ} 1 0 = ap accepted (h .says) in omega arith);
       writes = λ r h. absurd (let z : _≡_ {A = ℕ} 0 7 = ap (λ l. natAbs (getD l 0 (pos 0))) (h .holds) in omega arith);

@@ -2,7 +2,7 @@
 -- faces alone. Assumes nothing.
 use Prim.Native.Nat.{ℕ}
 use mathlib.Core.List.{List, [], _∷_, _++_}
-use lib.IntN.{pos}
+use lib.IntN.{ℤ, pos}
 use lib.ListN.{replicate}
 use Rattle.cells.specs.declared.Cell.{Cell}
 use Rattle.cells.specs.declared.Counts.{Counts}
@@ -10,6 +10,10 @@ use Rattle.cells.specs.declared.Counts.{Counts}
 -- counts
 abbrev pub counts : (nx ny nz : ℕ) → Counts
 counts nx ny nz = record { nx = nx; ny = ny; nz = nz }
+
+-- so many numbers that a caller lends
+abbrev pub sevens : ℕ → List ℤ
+sevens many = replicate many (pos 7)
 
 -- the cell (x, y, z)
 abbrev pub at : (x y z : ℕ) → Cell

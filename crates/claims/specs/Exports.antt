@@ -60,7 +60,7 @@ use Rattle.structs.specs.SightAnswers.{flat-found, flat-sight}
 use Rattle.oatmarten.specs.SightCalls.{FlatLooksUp, FlatSees}
 use Rattle.structs.specs.RecordAnswers.{rule-number, flat-venue, flat-pair, flat-written}
 use Rattle.oatmarten.specs.RecordCalls.{FlatReadsVenue, FlatReadsPair, FlatWritesVenue}
-use Rattle.claims.specs.Example.{at, example-counts, example-cells, marked-cells, set-cells}
+use Rattle.claims.specs.Example.{at, example-counts, example-cells, marked-cells, set-cells, sevens}
 use Rattle.claims.specs.Lists.{room}
 use Rattle.claims.specs.Grids.{two-layers}
 use Rattle.claims.specs.Records.{example-room}
@@ -119,13 +119,17 @@ pub record RefusedUntouched : Type 0 where
   pub refill : (n : Counts) (low high : Cell) (byte : ℕ) (l m : List ℕ) (total : ℕ) → BothUntouched (FlatRefills n low high byte l m total) l m
   pub written : (n : Counts) (cells entry : List ℕ) → Untouched (λ f. f .said) (FlatWritesVenue n cells entry) entry
 
--- 3. Wrong answers that the contracts shut out, on named inputs: a 6-line by either rule, a marking, a build, a set and a venue's record that leave the
--- memory as it was, whatever the struct says; a refill without its high corner; a walk in a manner of zeros, with any answer but 12; a marking that
--- refuses the program's venue; marks of it that are complete; the first layer for the second.
+-- 3. Wrong answers that the contracts shut out, on named inputs: a 6-line by either rule, a trail, a marking, a build, a set and a venue's record that leave
+-- the memory as it was, whatever the struct says; a refill without its high corner; a walk or a trail in a manner of zeros, with any answer but 12; a marking
+-- that refuses the program's venue; marks of it that are complete; the first layer for the second.
 pub record WrongExports : Type 0 where
   pub idle-line : (rule : Rule) (r : OatListed) → FlatLine6 (rule-number rule) (at 0 0 0) (at 2 1 0) room r room → ⊥
   pub zeroed-manner : (w : Walker) (n : Counts) (cells : List ℕ) (p q : Cell) (r : OatHit) → FlatFinds w (record { start = 0; rule = 0 }) n cells p q r →
       (r .said .refusal ≡ 12 → ⊥) → ⊥
+  pub idle-trail : (r : OatListed) →
+      FlatAdaptiveCells (record { start = 0; rule = 1 }) example-counts marked-cells (at 0 0 0) (at 3 1 0) (sevens 9) r (sevens 9) → ⊥
+  pub zeroed-trail : (n : Counts) (cells : List ℕ) (p q : Cell) (entry exit : List ℤ) (r : OatListed) →
+      FlatAdaptiveCells (record { start = 0; rule = 0 }) n cells p q entry r exit → (r .said .refusal ≡ 12 → ⊥) → ⊥
   pub idle-marker : (r : OatVerdict) → FlatMarks example-counts example-cells r example-cells → ⊥
   pub idle-writer : (r : OatWritten) → FlatWritesVenue example-counts example-cells example-room r example-room → ⊥
   pub refusing-marker : (r : OatVerdict) (exit : List ℕ) → FlatMarks example-counts example-cells r exit → 1 ≤ r .said .refusal → ⊥

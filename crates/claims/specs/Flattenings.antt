@@ -122,7 +122,7 @@ pub record SaidNumbers : Type 0 where
 -- 3. What each struct holds, for all values. Of an accepted answer: 0, 0, 0 in `said`, each value in its own field, and 0 in the fields that the
 -- answer does not speak of. Of a refused one: the refusal's three numbers in `said`, and 0 in every other field.
 pub record FlatRows : Type 0 where
-  -- a line list: `count` is the number of cells
+  -- a list: `count` is the number of cells
   pub listed : (n : ℕ) → flat-listed (Listed.Cells n) ≡ record { said = three 0 0 0; count = n }
   pub listed-refused : (r : Refusal) → flat-listed (Listed.Refused r) ≡ record { said = flat-refusal r; count = 0 }
   -- a marking: `said` alone

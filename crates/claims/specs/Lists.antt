@@ -3,7 +3,7 @@ use Prim.Native.Nat.{ℕ, _+_, _*_, _≤_, _<_}
 use mathlib.Core.Path.{_≡_}
 use mathlib.Core.List.{List, [], _∷_, _++_}
 use lib.IntN.{ℤ, pos, negsuc}
-use lib.ListN.{length, getD, replicate}
+use lib.ListN.{length, getD}
 use Rattle.cells.specs.declared.Cell.{Cell}
 use Rattle.cells.specs.declared.Refusal.{Refusal}
 use Rattle.cells.specs.declared.Rule.{Rule}
@@ -14,7 +14,7 @@ use Rattle.lines.specs.Lines.{differences, longest, six-cell, six-line, cell-26
 use Rattle.lists.specs.declared.Listed.{Listed}
 use Rattle.lists.specs.declared.Listed.the-variants.{Cells, Refused}
 use Rattle.lists.specs.Lists.{Lists, Line6, Line26, numbers}
-use Rattle.claims.specs.Example.{at}
+use Rattle.claims.specs.Example.{at, sevens}
 
 -- one answer and one final memory for each input: of every list call, whatever it lists and tests first; a refusal writes nothing
 pub record ListedOnce (line : List Cell) (first : Verdict) (entry : List ℤ) : Type 0 where
@@ -65,7 +65,7 @@ pub record LongestLists : Type 0 where
 
 -- room for the four cells from (0,0,0) to (2,1,0), and one number more
 abbrev pub room : List ℤ
-room = replicate 13 (pos 7)
+room = sevens 13
 
 -- the first step, and then Q again and again
 abbrev pub then-q : List ℤ

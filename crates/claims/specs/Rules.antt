@@ -5,9 +5,9 @@ use mathlib.Core.Path.{_≡_}
 use mathlib.Core.Bool.{true}
 use mathlib.Core.Logic.{_⊎_, _↔_}
 use mathlib.Core.List.{List, [], _∷_, reverse}
-use lib.IntN.{ℤ, pos}
+use lib.IntN.{ℤ}
 use lib.Signed.{_<ℤ_}
-use lib.ListN.{length, replicate}
+use lib.ListN.{length}
 use Rattle.cells.specs.declared.Axis.the-variants.{X, Y, Z}
 use Rattle.cells.specs.declared.Cell.{Cell}
 use Rattle.cells.specs.declared.Counts.{Counts}
@@ -29,7 +29,7 @@ use Rattle.walks.specs.declared.Hit.{Hit}
 use Rattle.walks.specs.declared.FirstHit.{FirstHit}
 use Rattle.walks.specs.declared.FirstHit.the-variants as FirstHit
 use Rattle.walks.specs.Answers.{Finds}
-use Rattle.claims.specs.Example.{at, example-counts, example-cells}
+use Rattle.claims.specs.Example.{at, example-counts, example-cells, sevens}
 use Rattle.claims.specs.Lists.{three-at}
 
 -- p comes before q in the order z, then y, then x
@@ -87,7 +87,7 @@ pub record AdaptiveBothWays (k : ℕ) (n : Counts) (l : List ℕ) (p q : Cell) :
 
 -- room for four cells
 abbrev pub four-cells : List ℤ
-four-cells = replicate 12 (pos 7)
+four-cells = sevens 12
 
 -- from (1,1,1) to (0,0,0): by y, z, x; and by x, z, y, the mirror of the way there
 abbrev pub by-yzx : List ℤ

@@ -30,7 +30,7 @@ use Rattle.walks.specs.declared.Walker.the-variants.{Plain, Adaptive}
 use Rattle.walks.specs.declared.Hit.{Hit}
 use Rattle.walks.specs.declared.FirstHit.{FirstHit}
 use Rattle.walks.specs.declared.FirstHit.the-variants as FirstHit
-use Rattle.walks.specs.Walks.{conduct, hit-at, next-cell, walk-of}
+use Rattle.walks.specs.Walks.{conduct, hit-at, next-cell, cells-of}
 use Rattle.grids.specs.Inside.{InGrid}
 use Rattle.walks.specs.Answers.{entered-at, last-of, Finds}
 use Rattle.claims.specs.Example.{counts, at, example-counts, example-cells, marked-cells}
@@ -100,10 +100,6 @@ pub record OnTheLine (r : Preference) (n : Counts) (l : List ℕ) (p q : Cell) (
 
 pub record HitPlace (how : Manner) (n : Counts) (l : List ℕ) (p q : Cell) : Type 0 where
   pub there : (w : Walker) (h : Hit) → Finds w how n l p q (FirstHit.Hit h) → (s : ℕ) × OnTheLine (by-rule (how .rule) p q) n l p q h s
-
--- the cells of the walk that a caller names so
-abbrev pub cells-of : Walker → Manner → Counts → List ℕ → (p q : Cell) → List Cell
-cells-of w how n l p q = walk-of w (conduct how p q) n l p q
 
 -- 7. Each walk ends: its last cell is a hit, or Q. (The number of steps that bounds its definition is never used up.)
 pub record WalksEnd (how : Manner) (n : Counts) (l : List ℕ) (p q : Cell) : Type 0 where

@@ -34,7 +34,7 @@ use Rattle.walks.specs.declared.FirstHit.{FirstHit}
 use Rattle.walks.specs.declared.FirstHit.the-variants as FirstHit
 use Rattle.walks.specs.Answers.{Finds}
 use Rattle.touching.specs.Touching.{LineTouching, first-touching, FindsTouching}
-use Rattle.claims.specs.Example.{counts, at}
+use Rattle.claims.specs.Example.{counts, at, sevens}
 use Rattle.claims.specs.Lists.{CellsAt, Longest}
 use Rattle.claims.specs.Tables.{EachRow}
 
@@ -248,16 +248,16 @@ abbrev pub cell-twice : List ℤ
 cell-twice = numbers (at 0 0 0 ∷ at 0 1 0 ∷ at 0 1 0 ∷ at 1 1 0 ∷ [])
 
 pub record WrongTouching : Type 0 where
-  pub pairs : (r : Listed) → LineTouching (at 0 0 0) (at 1 1 1) (replicate 24 (pos 7)) r pairs-turned → ⊥
-  pub singles : (r : Listed) → LineTouching (at 0 0 0) (at 1 1 1) (replicate 24 (pos 7)) r singles-turned → ⊥
+  pub pairs : (r : Listed) → LineTouching (at 0 0 0) (at 1 1 1) (sevens 24) r pairs-turned → ⊥
+  pub singles : (r : Listed) → LineTouching (at 0 0 0) (at 1 1 1) (sevens 24) r singles-turned → ⊥
   -- a tie of three with six cells
-  pub six-cells : (exit : List ℤ) → LineTouching (at 0 0 0) (at 1 1 1) (replicate 24 (pos 7)) (Cells 7) exit → ⊥
+  pub six-cells : (exit : List ℤ) → LineTouching (at 0 0 0) (at 1 1 1) (sevens 24) (Cells 7) exit → ⊥
   -- a repeat at a tie of two
-  pub twice : (r : Listed) → LineTouching (at 0 0 0) (at 1 1 0) (replicate 12 (pos 7)) r cell-twice → ⊥
-  pub one-more : (exit : List ℤ) → LineTouching (at 0 0 0) (at 1 1 0) (replicate 15 (pos 7)) (Cells 5) exit → ⊥
+  pub twice : (r : Listed) → LineTouching (at 0 0 0) (at 1 1 0) (sevens 12) r cell-twice → ⊥
+  pub one-more : (exit : List ℤ) → LineTouching (at 0 0 0) (at 1 1 0) (sevens 15) (Cells 5) exit → ⊥
   -- accepted with the room of a 6-line, or refused with just enough
-  pub six-room : (k : ℕ) (exit : List ℤ) → LineTouching (at 0 0 0) (at 1 1 1) (replicate 12 (pos 7)) (Cells k) exit → ⊥
-  pub refuses : (r : Refusal) (exit : List ℤ) → LineTouching (at 0 0 0) (at 1 1 1) (replicate 24 (pos 7)) (Refused r) exit → ⊥
+  pub six-room : (k : ℕ) (exit : List ℤ) → LineTouching (at 0 0 0) (at 1 1 1) (sevens 12) (Cells k) exit → ⊥
+  pub refuses : (r : Refusal) (exit : List ℤ) → LineTouching (at 0 0 0) (at 1 1 1) (sevens 24) (Refused r) exit → ⊥
   -- the place of the last axis of the tie
   pub last-axis : (start : Start) → FindsTouching start (counts 4 2 1) post-at-tie (at 0 0 0) (at 3 1 0) (FirstHit.Hit (tie-hit 3 6 (Face.Plus X))) → ⊥
   pub any-other : (start : Start) (num den : ℕ) (face : Face) → (num ≡ 1 → den ≡ 2 → face ≡ Face.Plus Y → ⊥) →

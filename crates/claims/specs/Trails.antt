@@ -4,11 +4,12 @@ use Prim.Native.Nat.{ℕ, _+_, _-_, _*_, _≤_, _<_}
 use mathlib.Core.Path.{_≡_}
 use mathlib.Core.List.{List, [], _∷_, _++_}
 use lib.IntN.{ℤ, pos}
-use lib.ListN.{length, getD, replicate}
+use lib.ListN.{length, getD}
 use Rattle.cells.specs.declared.Cell.{Cell}
 use Rattle.cells.specs.declared.Counts.{Counts}
 use Rattle.cells.specs.declared.Manner.{Manner}
 use Rattle.cells.specs.declared.Refusal.{Refusal}
+use Rattle.cells.specs.declared.Refusal.the-variants.{Room}
 use Rattle.cells.specs.declared.Rule.the-variants.{Two}
 use Rattle.cells.specs.Manners.{usual, tested-start, tested-by}
 use Rattle.lines.specs.Steps.{total}
@@ -21,7 +22,7 @@ use Rattle.walks.specs.declared.Hit.{Hit}
 use Rattle.walks.specs.declared.FirstHit.the-variants as FirstHit
 use Rattle.walks.specs.Answers.{Finds}
 use Rattle.trails.specs.Trails.{trail, AdaptiveCells}
-use Rattle.claims.specs.Example.{counts, at, example-counts, example-cells, marked-cells}
+use Rattle.claims.specs.Example.{counts, at, example-counts, example-cells, marked-cells, sevens}
 use Rattle.claims.specs.Lists.{three-at, CellsAt}
 use Rattle.claims.specs.Story.{all-clear, near-bytes}
 use Rattle.claims.specs.Tables.{EachRow}
@@ -75,14 +76,18 @@ pub record TrailRows : Type 0 where
 
 -- ---- 4. wrong answers that the contract shuts out, on named inputs
 
--- so many numbers that a caller lends
-abbrev pub sevens : ℕ → List ℤ
-sevens many = replicate many (pos 7)
-
 pub record WrongTrails : Type 0 where
   -- cells that a long step passes over, listed too; a long step from a near cell
   pub passed-over : (exit : List ℤ) → AdaptiveCells usual (counts 3 2 1) all-clear (at 0 0 0) (at 2 1 0) (sevens 12) (Cells 4) exit → ⊥
   pub near-stepped : (exit : List ℤ) → AdaptiveCells usual (counts 3 2 1) near-bytes (at 0 0 0) (at 2 1 0) (sevens 12) (Cells 3) exit → ⊥
+  -- a trail that goes on behind the post that it meets; Q in the place of the post; P left out; and the cells last to first
+  pub past-the-hit : (exit : List ℤ) → AdaptiveCells usual example-counts marked-cells (at 0 0 0) (at 3 1 0) (sevens 15) (Cells 5) exit → ⊥
+  pub q-for-the-hit : (r : Listed) →
+      AdaptiveCells usual example-counts marked-cells (at 0 0 0) (at 3 1 0) (sevens 9) r (numbers (at 0 0 0 ∷ at 1 0 0 ∷ at 3 1 0 ∷ [])) → ⊥
+  pub start-left-out : (r : Listed) →
+      AdaptiveCells usual example-counts marked-cells (at 0 0 0) (at 3 1 0) (sevens 9) r (numbers (at 1 0 0 ∷ at 1 1 0 ∷ []) ++ sevens 3) → ⊥
+  pub turned-round : (r : Listed) →
+      AdaptiveCells usual example-counts marked-cells (at 0 0 0) (at 3 1 0) (sevens 9) r (numbers (at 1 1 0 ∷ at 1 0 0 ∷ at 0 0 0 ∷ [])) → ⊥
   -- a list that is the plain walk's where the adaptive one steps over the post
   pub plain-in-list : (r : Listed) →
       AdaptiveCells usual example-counts example-cells (at 0 0 0) (at 3 1 0) (sevens 12) r (numbers (at 0 0 0 ∷ at 1 0 0 ∷ at 1 1 0 ∷ []) ++ sevens 3) → ⊥
@@ -92,7 +97,8 @@ pub record WrongTrails : Type 0 where
   -- a start that is tested where it should not be, and the other way round
   pub always-tested : (exit : List ℤ) → AdaptiveCells usual example-counts marked-cells (at 1 1 0) (at 3 1 0) (sevens 9) (Cells 1) exit → ⊥
   pub never-tested : (exit : List ℤ) → AdaptiveCells tested-start example-counts marked-cells (at 1 1 0) (at 3 1 0) (sevens 9) (Cells 3) exit → ⊥
-  -- refused with just enough room, accepted with one number less, and a refusal that writes
+  -- 6 for an end outside the grid; refused with just enough room, accepted with one number less, and a refusal that writes
+  pub room-first : (exit : List ℤ) → AdaptiveCells usual (counts 3 2 1) all-clear (at 0 0 0) (at 3 1 0) [] (Refused Room) exit → ⊥
   pub refuses : (r : Refusal) (exit : List ℤ) → AdaptiveCells usual (counts 3 2 1) all-clear (at 0 0 0) (at 2 1 0) (sevens 9) (Refused r) exit → ⊥
   pub one-less : (many : ℕ) (exit : List ℤ) → AdaptiveCells usual (counts 3 2 1) all-clear (at 0 0 0) (at 2 1 0) (sevens 8) (Cells many) exit → ⊥
   pub writes : (r : Listed) → AdaptiveCells usual (counts 3 2 1) all-clear (at 0 0 0) (at 2 1 0) (sevens 8) r (pos 0 ∷ sevens 7) → ⊥

@@ -5,7 +5,7 @@ use mathlib.Core.Path.{_≡_}
 use mathlib.Core.Bool.{true, false}
 use mathlib.Core.List.{List, [], _∷_, _++_}
 use lib.IntN.{pos}
-use lib.ListN.{length, replicate}
+use lib.ListN.{length}
 use denote.Ref.{RefT}
 use Rattle.bricks.specs.Bricks.{brick-there, bit-there}
 use Rattle.claims.specs.Grids.{Inside}
@@ -58,7 +58,7 @@ use Rattle.records.specs.Writing.{WritesVenue}
 use Rattle.texts.specs.Text.{decimal, Puts}
 use Rattle.oatmarten.specs.GridCalls.{FlatMarks, FlatCompletes}
 use Rattle.claims.specs.Program.{Runs, example-input, example-output}
-use Rattle.claims.specs.Example.{counts, at, example-counts, example-cells, marked-cells, set-cells, all-solid, corner-counts, corner-cells, corner-thin}
+use Rattle.claims.specs.Example.{counts, at, example-counts, example-cells, marked-cells, set-cells, all-solid, corner-counts, corner-cells, corner-thin, sevens}
 use Rattle.claims.specs.Lists.{lowest, highest, room}
 use Rattle.claims.specs.Kept.{HoldsNamed}
 use Rattle.claims.specs.Sequences.{Sequence, Set, AllRight, Mark, Refill, Build}
@@ -71,7 +71,6 @@ use Rattle.claims.specs.Shells.{tie-reads}
 use Rattle.claims.specs.Starred.{halves}
 use Rattle.claims.specs.Story.{all-clear}
 use Rattle.claims.specs.Touching.{InLine, one-solid}
-use Rattle.claims.specs.Trails.{sevens}
 
 -- from (0,0,0) to (2,1,0)
 abbrev pub steps-there : Steps
@@ -98,9 +97,9 @@ pub record OfLines : Type 0 where
   pub no-room : Line6 One (at 0 0 0) (at 2 1 0) [] (Listed.Refused Room) []
   -- a touching line with just enough room, and one number less; a point of the segment in the closed cube of a cell that it meets at an edge, and that cell's
   -- number in the line
-  pub touching : LineTouching (at 0 0 0) (at 1 1 0) (replicate 12 (pos 7)) (Listed.Cells 4)
+  pub touching : LineTouching (at 0 0 0) (at 1 1 0) (sevens 12) (Listed.Cells 4)
       (numbers (at 0 0 0 ∷ at 0 1 0 ∷ at 1 0 0 ∷ at 1 1 0 ∷ []))
-  pub touching-no-room : LineTouching (at 0 0 0) (at 1 1 0) (replicate 11 (pos 7)) (Listed.Refused Room) (replicate 11 (pos 7))
+  pub touching-no-room : LineTouching (at 0 0 0) (at 1 1 0) (sevens 11) (Listed.Refused Room) (sevens 11)
   pub at-an-edge : InClosed (at 0 0 0) (at 1 1 0) 1 2 (at 1 0 0)
   pub in-line : InLine (at 0 0 0) (at 1 1 0) (at 1 0 0)
 

@@ -1,5 +1,5 @@
--- SCOPE A2, A3, O3: the line lists, what they write into the lent slice and what they answer. Refusals: 1 (P before Q; x, y, z), then 6.
--- Assumes nothing.
+-- SCOPE A2, A3, O3: lists of cells, what they write into the lent slice and what they answer. Refusals: of a line list 1 (P before Q; x, y, z), of every list
+-- then 6. Assumes nothing.
 use Prim.Native.Nat.{ℕ, _*_}
 use mathlib.Core.Path.{_≡_}
 use mathlib.Core.Bool.{not}

@@ -1,4 +1,4 @@
--- The contracts of the three list calls for C: the struct is the flattening of an answer that meets the call's own contract. Assumes nothing.
+-- The contracts of the calls for C that list lines: the struct is the flattening of an answer that meets the call's own contract. Assumes nothing.
 use Prim.Native.Nat.{ℕ}
 use mathlib.Core.Path.{_≡_}
 use mathlib.Core.List.{List}

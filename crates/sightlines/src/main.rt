@@ -32,7 +32,8 @@ fn read_frame(buf: &mut [u8], most: usize) -> usize
 }
 
 // Where nothing comes next because the input could not be read, says so on standard error. A failed read gives a short frame, as an end of the input
-// does. What tells them apart is errno: a program starts with 0 there, a call that succeeds leaves it, and the writes have all succeeded.
+// does. What tells them apart is errno: a program starts with 0 there, reads and writes that succeed leave it, and the writes have all
+// succeeded.
 fn say_unread(next: Next) {
     if let Next::Over = next {
         if os::errno() != 0 {

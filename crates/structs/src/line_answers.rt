@@ -1,4 +1,4 @@
-// The answer of a line list for C.
+// The answer of a list for C.
 ghost use mathlib.Core.Path.{_≡_};
 ghost use Rattle.structs.specs.LineAnswers.{flat-listed};
 use crate::refusals::ACCEPTED;
@@ -6,7 +6,7 @@ use crate::refusals::OatSaid;
 use crate::refusals::flatten;
 use lists::Listed;
 
-// The answer of a line list: the number of cells.
+// The answer of a list: the number of cells.
 #[repr(C)]
 pub struct OatListed {
     pub said: OatSaid,

@@ -35,7 +35,7 @@ module _ (l : List ℕ) (k : Route) where
   stand-most count can zero lt = omega arith
   stand-most count can (suc m) lt = rw (stands-next (going l k Adaptive) 0 m) (rises .most (stand l k m) (can .below m (omega arith)))
 
-  -- P is visited
+  -- the walk stands on P
   some-visit : (from : Start) (fuel : ℕ) → 0 < fuel → 0 < visits (hits from l k) N (going l k Adaptive) fuel 0
   unfolding visits
   some-visit from zero lt = absurd (omega arith)

@@ -11,10 +11,10 @@ use Rattle.lists.specs.declared.Listed.{Listed}
 use Rattle.lists.specs.Lists.{Lists}
 use Rattle.grids.specs.Inside.{walk-check}
 use Rattle.walks.specs.declared.Walker.the-variants.{Adaptive}
-use Rattle.walks.specs.Walks.{conduct, walk-of}
+use Rattle.walks.specs.Walks.{cells-of}
 
 abbrev pub trail : Manner → Counts → List ℕ → (p q : Cell) → List Cell
-trail how n l p q = walk-of Adaptive (conduct how p q) n l p q
+trail how n l p q = cells-of Adaptive how n l p q
 
 -- the contract of the call
 abbrev pub AdaptiveCells : Manner → Counts → List ℕ → (p q : Cell) → List ℤ → Listed → List ℤ → Type 0

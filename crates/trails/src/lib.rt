@@ -86,7 +86,7 @@ fn next_stand(cells: &[u8], k: Route, long: Axis, t: Stand) -> Stand
 }
 
 // The cell of a spot.
-fn cell_of(k: Route, s: Spot) -> Cell
+fn spot_cell(k: Route, s: Spot) -> Cell
     requires { ⌜ CanPass k 0 s ⌝ }
     ensures { λ r. ⌜ CellOf k s r ⌝ }
 {
@@ -108,12 +108,12 @@ fn fill(cells: &[u8], k: Route, count: u32, out: &mut [i32])
     let mut m: u32 = 0;
     let mut at: usize = 0;
     while m < last {
-        lists::put(out, at, cell_of(k, t.spot));
+        lists::put(out, at, spot_cell(k, t.spot));
         t = next_stand(cells, k, long, t);
         at += 3;
         m += 1;
     }
-    lists::put(out, at, cell_of(k, t.spot));
+    lists::put(out, at, spot_cell(k, t.spot));
 }
 
 // The trail along a route: counted first, then listed.

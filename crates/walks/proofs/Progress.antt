@@ -63,7 +63,7 @@ stands-next go s zero = refl
 stands-next go s (suc m) = stands-next go (go s) m
 
 module _ (hits : ℕ → Bool) (N : ℕ) (go : ℕ → ℕ) (rises : Rises N go) where
-  -- before its last visit it is on its way, as many numbers visited as steps made
+  -- up to its last number it is on its way, with as many numbers behind it as steps made
   pub stands-on : (m : ℕ) → m < visits hits N go (N + 1) 0 → OnWay hits N go (stands go 0 m) m
   unfolding stands
   stands-on zero lt = on-start hits N go

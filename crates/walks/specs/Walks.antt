@@ -85,3 +85,7 @@ next-cell Adaptive r n l p q w = next-adaptive r n l p q w
 unfoldable pub walk-of : Walker → Conduct → Counts → List ℕ → Cell → Cell → List Cell
 unfolding walk next-plain next-adaptive
 walk-of k how n l p q = walk (hit-at how n l p) (next-cell k (how .preference) n l p q) q (six-count p q) p
+
+-- SCOPE W9, L17: those of the walk that a caller names so
+abbrev pub cells-of : Walker → Manner → Counts → List ℕ → (p q : Cell) → List Cell
+cells-of k how n l p q = walk-of k (conduct how p q) n l p q

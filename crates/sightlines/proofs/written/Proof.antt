@@ -1,4 +1,4 @@
--- `sightlines::written` meets its contract: what comes next is what was handed in, or, where the text could not be written, nothing. Assumes nothing.
+-- `sightlines::written` meets its contract: what comes next is what was handed in, or nothing. Assumes nothing.
 use borrow.Author.Needs.{needs}
 use Rattle.sightlines.proofs.written.Statement.{statement}
 use Rattle.sightlines.proofs.written.Tie as tie

@@ -70,8 +70,8 @@ below i =
     let l = i .before in
     l .before .before .before .before .before .pre .1 .below (l .loop .m) (omega (arith, i .loop-test .taken))
 
-cell-of-requires : tie.Need-cell-of-requires Inv-loop μ-loop
-cell-of-requires c κs = cell-there (c .before .before)
+spot-cell-requires : tie.Need-spot-cell-requires Inv-loop μ-loop
+spot-cell-requires c κs = cell-there (c .before .before)
 
 put-requires : tie.Need-put-requires Inv-loop μ-loop
 put-requires c κs = let l = c .before .before .before in omega (arith, room l, l .loop .inv .0)
@@ -112,13 +112,13 @@ loop-again c =
     let k = s .args .k in
     let cells = s .args .cells .now in (
       filled-one (λ j. six-cell (preference k) (k .p) (k .q) (stand cells k j)) _ _ (room l) _ _ _ (l .loop .m) _ (l .loop .inv .0) (i .loop-test .taken)
-          (p .put .ensures) (p .before .cell-of .ensures .is (stand cells k (l .loop .m)) (within l) (l .loop .inv .1 .spot)),
+          (p .put .ensures) (p .before .spot-cell .ensures .is (stand cells k (l .loop .m)) (within l) (l .loop .inv .1 .spot)),
       subst (λ n. StandsAt k n (c .next-stand .result)) (stand-next cells k (l .loop .m))
           (c .next-stand .ensures .leads (stand cells k (l .loop .m)) (below i) (l .loop .inv .1)),
     )
 
-cell-of-requires-2 : tie.Need-cell-of-requires-2 Inv-loop μ-loop
-cell-of-requires-2 c κs = cell-there (c .before .before)
+spot-cell-requires-2 : tie.Need-spot-cell-requires-2 Inv-loop μ-loop
+spot-cell-requires-2 c κs = cell-there (c .before .before)
 
 put-requires-2 : tie.Need-put-requires-2 Inv-loop μ-loop
 put-requires-2 c κs = let l = c .before .before .before in omega (arith, room l, l .loop .inv .0)
@@ -137,7 +137,7 @@ returns c =
     let f : ℕ → Cell = λ j. six-cell (preference k) (k .p) (k .q) (stand cells k j) in
     let last : l .loop .m ≡ s .args .count - 1 = omega (arith, l .loop .inv .0 .most, p .before .before .before .loop-test .left) in
     filled-last f _ _ (room l) _ _ _ (l .loop .m) _ (l .loop .inv .0) (p .before .before .before .loop-test .left)
-    (ap f (sym last) ∙ sym (p .before .cell-of2 .ensures .is (stand cells k (l .loop .m)) (within l) (l .loop .inv .1 .spot))) (p .put2 .ensures)
+    (ap f (sym last) ∙ sym (p .before .spot-cell2 .ensures .is (stand cells k (l .loop .m)) (within l) (l .loop .inv .1 .spot))) (p .put2 .ensures)
     ∙ ap (λ n. filled (stand-cells cells k n) (s .args .out .now)) count
 
 pub fill-spec : {M : Type 1} → statement M
@@ -150,14 +150,14 @@ fill-spec =
     sub-last
     first-spot-requires
     loop-holds
-    cell-of-requires
+    spot-cell-requires
     put-requires
     next-stand-requires
     add-at
     add-m
     loop-less
     loop-again
-    cell-of-requires-2
+    spot-cell-requires-2
     put-requires-2
     same-length
     returns)

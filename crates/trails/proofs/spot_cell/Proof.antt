@@ -1,4 +1,4 @@
--- `trails::cell_of` meets its contract: the byte of a spot on the line tells the cell. Assumes nothing.
+-- `trails::spot_cell` meets its contract: the byte of a spot on the line tells the cell. Assumes nothing.
 use mathlib.Core.Path.{sym, ap, _∙_}
 use native.Mathlib.Omega.{arith}
 use Rattle.cells.proofs.Held.{abs-nat, cast-32}
@@ -6,8 +6,8 @@ use Rattle.grids.specs.Grid.{cell-at}
 use Rattle.lines.proofs.Cells.{six-is}
 use Rattle.routes.specs.Route.{preference, HasByte}
 use Rattle.routes.proofs.Spots.{spot-byte, spot-cell, place-within}
-use Rattle.trails.proofs.cell_of.Statement.{statement}
-use Rattle.trails.proofs.cell_of.Tie as tie
+use Rattle.trails.proofs.spot_cell.Statement.{statement}
+use Rattle.trails.proofs.spot_cell.Tie as tie
 
 has-byte : (c : tie.Start) → HasByte (c .pre .bytes) (c .args .s .at)
 has-byte c = let h = c .pre in spot-byte _ (c .args .k) (h .plan) _ _ (place-within _ (c .args .k) (h .plan) (h .number) (omega (arith, h .fits))) (h .at)
@@ -32,5 +32,5 @@ returns c =
           ∙ spot-cell _ k (s .pre .plan) _ _ (place-within _ k (s .pre .plan) m le) (at .index) ∙ sym (six-is (preference k) (k .p) (k .q) m);
     }
 
-pub cell-of-spec : {M : Type 1} → statement M
-cell-of-spec = tie.close (tie.spec cast-cell-at cell-at-requires returns)
+pub spot-cell-spec : {M : Type 1} → statement M
+spot-cell-spec = tie.close (tie.spec cast-cell-at cell-at-requires returns)
