@@ -13,13 +13,14 @@ import struct
 import subprocess
 import sys
 import tempfile
+import threading
 import time
 import xml.etree.ElementTree
 
 HERE = pathlib.Path(__file__).resolve().parent
 sys.path.insert(0, str(HERE.parent / "python"))
 import oatmarten as oat  # noqa: E402
-from oatmarten import command, looking  # noqa: E402
+from oatmarten import command, looking, memory  # noqa: E402
 
 WORK = pathlib.Path(tempfile.mkdtemp(prefix="oatmarten-"))
 ENV = {**os.environ, "PYTHONPATH": str(HERE.parent / "python")}
@@ -275,8 +276,32 @@ def streams():
     reader = subprocess.Popen([*COMMAND, "list", "6", *"0 0 0 8000 8000 8000".split()], env=ENV, stdout=subprocess.PIPE, stderr=subprocess.PIPE)
     reader.stdout.close()
     same("a closed pipe", (reader.stderr.read().count(b"\n"), reader.wait()), (1, 2))
+    closed(good)
     large(good)
     print("command: standard input and output, a full disk, a closed pipe, a limit on the size of files, an interruption: no half file, and a status that is not 0")
+
+
+def shell(words, **more):
+    return subprocess.run(["bash", "-c", words], env={**ENV, "O": " ".join(COMMAND), "V": str(WORK / "good.venue"), **more}, stdout=subprocess.PIPE, stderr=subprocess.PIPE)
+
+
+def closed(good):
+    """Streams that are closed, names that standard output cannot write, output that is not buffered."""
+    for words in ("$O hit $V 0 0 0 3 1 0 >&-", "$O info $V >&-", "$O --version >&-", "$O mark $V -o - >&-", "$O info - <&-", "$O mark - -o x <&-", "$O make - -o x <&-", "$O --help >&-"):
+        one_sentence(words, shell(words))
+    same("standard error is closed", (shell("$O info $V 2>&-").returncode, shell("$O compare $V --lines 9 2>&-").returncode), (0, 0))
+    told = shell("$O hit $V 0 0 0 99 0 0 --json 2>&-")
+    same("an error with standard error closed", (told.returncode, json.loads(told.stdout)["refused"]), (2, 5))
+    odd = WORK / "\u00fc\u2603.venue"
+    for encoding in ("ascii", "utf-8:strict"):
+        told = shell('$O mark $V -o "$OUT"', OUT=str(odd), PYTHONIOENCODING=encoding)
+        same("a name that standard output cannot write", (told.returncode, odd.read_bytes() == good.read_bytes(), told.stderr), (0, True, b""))
+    for unbuffered in ("", "1"):
+        told = shell("ulimit -f 1; trap '' XFSZ; $O list 6 0 0 0 900 900 900 --json >%s/cut" % WORK, PYTHONUNBUFFERED=unbuffered)
+        one_sentence("a limit, not buffered", told)
+    same("an error for machines", json.loads(shell("$O info /none --json").stdout), {"error": "/none cannot be read: No such file or directory"})
+    if "the library /none cannot be loaded" not in one_sentence("no library", shell("OATMARTEN_LIBRARY=/none $O --version")):
+        fail("--version without a library")
 
 
 def large(good):
@@ -290,11 +315,14 @@ def large(good):
         signal.signal(signal.SIGXFSZ, signal.SIG_IGN)
         resource.setrlimit(resource.RLIMIT_FSIZE, (2**24, 2**24))
     one_sentence("a limit on the size of files", run("mark", big, "-o", out, preexec_fn=limited))
-    for number in (signal.SIGINT, signal.SIGTERM):
-        process = subprocess.Popen([*COMMAND, "compare", str(big), "--lines", "100000000"], env=ENV, stdout=subprocess.PIPE, stderr=subprocess.PIPE)
-        time.sleep(0.5)
+    for k, number in enumerate([signal.SIGINT, signal.SIGTERM, signal.SIGQUIT] * 4):
+        words = ["compare", str(big), "--lines", "100000000"] if k < 3 else ["info", str(big)]
+        process = subprocess.Popen([*COMMAND, *words], env=ENV, stdout=subprocess.PIPE, stderr=subprocess.PIPE)
+        time.sleep(0.5 if k < 3 else 0.15 + 0.03 * k)
         process.send_signal(number)
         out_said, err_said = process.communicate(timeout=60)
+        if k >= 3 and process.returncode == 0:  # it was done before
+            continue
         same("interrupted by %d" % number, (process.returncode, b"Traceback" in err_said, out_said), (128 + number, False, b""))
     same("what is left", [name for name in os.listdir(WORK) if name.startswith((".", "big.marked"))], [])
 
@@ -355,11 +383,18 @@ def memories():
     """What may be lent, and what is not taken."""
     import array
     n, cells = (4, 2, 1), bytes([0, 0, 0, 0, 0, 2, 0, 0])
-    for what, lent, error in (("a number", 7, TypeError), ("every other byte", memoryview(bytearray(16))[::2], (BufferError, ValueError)), ("a list", [0] * 8, TypeError)):
+    for what, lent, error in (("a number", 7, TypeError), ("every other byte", memoryview(bytearray(16))[::2], BufferError), ("a list", [0] * 8, TypeError),
+                              ("numbers of two bytes", array.array("H", [0] * 4), TypeError), ("truth values", memoryview(bytearray(8)).cast("?"), TypeError)):
         try:
             oat.oat_plain(n, lent, (0, 0, 0), (3, 1, 0))
             fail("%s was lent" % what)
         except error:
+            pass
+    for what, lent in (("numbers of 64 bits", array.array("q", [0] * 30)), ("floats", array.array("f", [0.0] * 30))):
+        try:
+            oat.oat_line6((0, 0, 0), (2, 1, 0), lent)
+            fail("%s were lent for a list" % what)
+        except TypeError:
             pass
     both = bytearray(64)
     for what, call in (("overlap", lambda: oat.oat_write_venue(n, memoryview(both)[:8], memoryview(both)[4:])),
@@ -373,7 +408,8 @@ def memories():
         except ValueError:
             pass
     for what, call in (("a coordinate", lambda: oat.oat_plain(n, cells, (0, 0, 0), (2**31, 0, 0))), ("a rule", lambda: oat.oat_line6((0, 0, 0), (1, 0, 0), array.array("i", [0] * 9), 2**32)),
-                       ("a byte", lambda: oat.oat_set(n, bytearray(cells), array.array("Q", [32]), 1, (0, 0, 0), 256)), ("a total", lambda: oat.oat_set(n, bytearray(cells), array.array("Q", [32]), -1, (0, 0, 0), 2))):
+                       ("a byte", lambda: oat.oat_set(n, bytearray(cells), array.array("Q", [32]), 1, (0, 0, 0), 256)), ("a total", lambda: oat.oat_set(n, bytearray(cells), array.array("Q", [32]), -1, (0, 0, 0), 2)),
+                       ("a cell", lambda: oat.oat_cell(2**32 + 1, 2, 2)), ("counts", lambda: oat.oat_counts(-1, 4, 4)), ("a field", lambda: setattr(oat.oat_cell(0, 0, 0), "x", 2**31))):
         try:
             call()
             fail("%s was cut" % what)
@@ -387,6 +423,7 @@ def memories():
         except BufferError:
             pass
     held.append(0)
+    threads()
     try:
         import numpy
     except ImportError:
@@ -397,6 +434,29 @@ def memories():
         oat.oat_mark(n, a)
         same("a numpy array, marked where it lies", a.tobytes(), bytes([1, 1, 1, 0, 1, 2, 1, 0]))
     print("command: memory that cannot be lent, overlaps, is not aligned or was given back is not taken, and no number is cut")
+
+
+def threads():
+    """Memory is not given back while a call runs over it; calls run at the same time."""
+    path = WORK / "big.venue"
+    venue = oat.Venue.open(str(path))
+    with memory.lent(venue.held, False, 1, "cells"):  # as a call in another thread does
+        try:
+            venue.close()
+            fail("a venue was closed while a call ran over it")
+        except BufferError:
+            pass
+    said = []
+    running = [threading.Thread(target=lambda: said.append(oat.oat_build(venue.counts, venue.held, bytearray(8 * oat.OAT_MASKS(*venue.counts))).total)) for _ in range(3)]
+    for thread in running:
+        thread.start()
+    for thread in running:
+        thread.join()
+    same("three at once", len(set(said)), 1)
+    venue.close()
+    with oat.Venue.open(str(path)) as venue:
+        view = memoryview(venue.cells)[:4]
+    same("a view that outlives its venue", len(view), 4)
 
 
 def libraries():

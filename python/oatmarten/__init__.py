@@ -8,7 +8,7 @@ the header's struct. A refusal is raised as Refused, with number, end, axis and 
     import oatmarten as oat
 
     with oat.Venue.open("ground.venue") as venue:
-        hit = oat.oat_plain(venue.counts, venue.held, (0, 75, 10), (199, 75, 12))
+        hit = oat.oat_plain(venue.counts, venue.held, (20, 12, 7), (36, 8, 0))
         print((hit.x, hit.y, hit.z) if hit.hit else "clear")
 
 The bytes of a grid lie x fastest, then y, then z: as an array they are a[z, y, x] in C order, of shape (nz, ny, nx)."""

@@ -1,6 +1,9 @@
 """python3 -m oatmarten: the command."""
 import sys
 
-from .command import main
+try:
+    from .command import main
+except KeyboardInterrupt:
+    sys.exit(130)
 
 sys.exit(main())

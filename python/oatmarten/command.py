@@ -10,17 +10,19 @@ import shutil
 import signal
 import sys
 import time
-from typing import Any, Callable, Dict, Iterator, List, NoReturn, Optional, Sequence, TextIO, Tuple
+from typing import Any, Callable, Dict, Iterator, List, NoReturn, Optional, Sequence, Tuple
 
 from .header import (OAT_CLEAR, OAT_NEAR, OAT_LINE6_ROOM, OAT_LINE26_ROOM, OAT_REVISION, OAT_TOUCHING_ROOM, oat_adaptive, oat_complete, oat_line6, oat_line26,
                      oat_line_touching, oat_mark, oat_plain, oat_revision, oat_sight)
 from . import library, looking, telling
-from .files import aside
-from .inputs import Wrong, named, shown as shortened, whole as whole_number
+from .files import aside, put_out, standard_input
+from .inputs import Wrong, named, shown as shortened
 from .library import LibraryError, Refused
-from .venues import Venue
+from .venues import Venue, read_most
 
 DONE, NOT, WRONG = 0, 1, 2  # what the command ends with: yes or done; no; a refusal or an error
+# those that ask to end, and leave time to take away what was begun
+SIGNALS = ("SIGTERM", "SIGHUP", "SIGQUIT", "SIGALRM", "SIGXCPU", "SIGUSR1", "SIGUSR2")
 
 
 class Parser(argparse.ArgumentParser):
@@ -30,6 +32,13 @@ class Parser(argparse.ArgumentParser):
         super().__init__(*given, **named)
         self._negative_number_matcher = re.compile(r"-(\d+\.?\d*|\.\d+)(e[-+]?\d+)?$|-(inf|infinity|nan)$", re.I)
 
+    def _print_message(self, message: str, file: Any = None) -> None:
+        """Help goes out whole, or what is wrong is told."""
+        if file is sys.stderr:
+            complain(message)
+        else:
+            put_text(message)
+
     def error(self, message: str) -> NoReturn:
         self.exit(WRONG, "%s: %s (%s --help says more)\n" % (self.prog, message, self.prog))
 
@@ -37,10 +46,9 @@ class Parser(argparse.ArgumentParser):
 # ---- words of the command line
 
 def whole(word: str) -> int:
-    number = whole_number(word)
-    if number is None:
+    if not re.fullmatch("-?[0-9]{1,1000}", word):
         raise argparse.ArgumentTypeError("'%s' is no whole number" % shortened(word))
-    return number
+    return int(word)
 
 
 def some(word: str) -> int:
@@ -51,7 +59,7 @@ def some(word: str) -> int:
 
 def real(word: str) -> float:
     try:
-        return float(word)
+        return float(word.replace("_", "?"))
     except ValueError:
         raise argparse.ArgumentTypeError("'%s' is no number" % shortened(word)) from None
 
@@ -62,6 +70,28 @@ def manner(asked: argparse.Namespace) -> Tuple[int, int]:
 
 # ---- what is said, and where
 
+def put_text(text: str) -> None:
+    """Text to standard output; what its encoding does not have is written as an escape."""
+    encoding = getattr(sys.stdout, "encoding", None) or "utf-8"
+    put_out(text.encode(encoding, "backslashreplace"))
+
+
+def complain(text: str) -> None:
+    """A line to standard error, where there is one; over a line of progress."""
+    if sys.stderr is not None:
+        with contextlib.suppress(OSError):
+            sys.stderr.write(("\r\033[K" if sys.stderr.isatty() else "") + text)
+            sys.stderr.flush()
+
+
+def warn(what: str) -> None:
+    complain("oatmarten: %s\n" % shortened(what, 100000))
+
+
+def many(number: int, what: str) -> str:
+    return "%d %s%s" % (number, what, "" if number == 1 else "s")
+
+
 class Said:
     """What a command says: lines for people, or one JSON object for machines."""
 
@@ -70,19 +100,14 @@ class Said:
 
     def __call__(self, words: Sequence[str], numbers: Dict[str, Any]) -> None:
         text = json.dumps(numbers) if self.as_json else "\n".join(words)
-        try:
-            if text:
-                sys.stdout.write(text + "\n")
-            sys.stdout.flush()
-        except OSError as wrong:
-            # what is left in the buffer goes nowhere, so that Python does not try again at its end
-            os.dup2(os.open(os.devnull, os.O_WRONLY), sys.stdout.fileno())
-            raise Wrong("standard output cannot be written: %s" % wrong.strerror) from None
+        if text:
+            put_text(text + "\n")
 
 
-def shown(what: str, to: TextIO) -> Callable[[float], None]:
+def shown(what: str) -> Callable[[float], None]:
     """Progress, where someone looks: a line that is written over."""
-    if not to.isatty():
+    to = sys.stderr
+    if to is None or not to.isatty():
         return lambda share: None
     last = [0.0]
 
@@ -118,22 +143,22 @@ def no_venue(path: str, refused: Refused) -> Refused:
 
 def info(asked: argparse.Namespace, say: Said) -> int:
     with opened(asked.file) as venue:
-        show = shown("info", sys.stderr)
+        show = shown("info")
         kinds = looking.kinds(venue.cells, lambda share: show(share / 2))
         complete = bool(oat_complete(venue.n, venue.held).yes)
         marks = looking.marks(venue.counts, venue.cells, lambda share: show(0.5 + share / 2))
         show(1)
         clear, near = kinds.pop(OAT_CLEAR, 0), kinds.pop(OAT_NEAR, 0)
         nx, ny, nz = venue.counts
-        words = ["%d x %d x %d, %d cells" % (nx, ny, nz, len(venue.cells)), "clear: %d" % clear, "near: %d" % near, "solid: %d" % sum(kinds.values())]
-        words += ["    %s: %d" % (telling.code_words(code), many) for code, many in kinds.items()]
-        words.append("marks: complete" if complete else "marks: not complete, %d clear cell%s touch%s a solid one, the first is %s" % (
-            marks.missing, *(("", "es") if marks.missing == 1 else ("s", "")), telling.cell_words(marks.first or ())))
+        words = ["%d x %d x %d, %s" % (nx, ny, nz, many(len(venue.cells), "cell")), "clear: %d" % clear, "near: %d" % near, "solid: %d" % sum(kinds.values())]
+        words += ["    %s: %d" % (telling.code_words(code), count) for code, count in kinds.items()]
+        words.append("marks: complete" if complete else "marks: not complete, %s touch%s a solid one, the first is %s" % (
+            many(marks.missing, "clear cell"), "es" if marks.missing == 1 else "", telling.cell_words(marks.first or ())))
         if marks.needless:
             words.append("near cells that touch no solid one: %d" % marks.needless)
         if venue.rest:
             words.append("bytes behind the record: %d" % venue.rest)
-        say(words, {"counts": list(venue.counts), "clear": clear, "near": near, "solid": {str(code): many for code, many in kinds.items()}, "complete": complete,
+        say(words, {"counts": list(venue.counts), "clear": clear, "near": near, "solid": {str(code): count for code, count in kinds.items()}, "complete": complete,
                     "missing": marks.missing, "first_missing": list(marks.first) if marks.first else None, "needless": marks.needless, "rest": venue.rest})
     return DONE if complete else NOT
 
@@ -141,14 +166,14 @@ def info(asked: argparse.Namespace, say: Said) -> int:
 def mark(asked: argparse.Namespace, say: Said) -> int:
     with aside(asked.out) as out:
         if asked.file == "-":
-            shutil.copyfileobj(sys.stdin.buffer, out)
+            out.write(read_most(standard_input()))
         else:
             with reading(asked.file) as given:
                 shutil.copyfileobj(given, out, 1 << 20)
         out.flush()
         near = marked_in_place(out, asked.file)
     if asked.out != "-":
-        say(["%s: %d near cells" % (asked.out, near)], {"out": asked.out, "near": near})
+        say(["%s: %s" % (asked.out, many(near, "near cell"))], {"out": asked.out, "near": near})
     return DONE
 
 
@@ -167,7 +192,7 @@ def marked_in_place(file: Any, name: str) -> int:
     try:
         with Venue.of(file, True) as venue:
             oat_mark(venue.n, venue.held)
-            return looking.kinds(venue.cells).get(OAT_NEAR, 0)
+            return looking.near_cells(venue.cells)
     except Refused as refused:
         raise no_venue(name, refused)
 
@@ -214,11 +239,11 @@ def list_cells(asked: argparse.Namespace, say: Said) -> int:
 
 def compare(asked: argparse.Namespace, say: Said) -> int:
     with opened(asked.file) as venue:
-        show = shown("compare", sys.stderr)
+        show = shown("compare")
         said = looking.compare(venue.counts, venue.held, asked.lines, asked.seed, manner(asked), show)
         show(1)
     saved = 1 - said.adaptive_reads / said.plain_reads
-    words = ["%d lines, %d blocked: %d agreed, %d differing" % (said.lines, said.blocked, said.agreed, said.differing)]
+    words = ["%s, %d blocked: %d agreed, %d differing" % (many(said.lines, "line"), said.blocked, said.agreed, said.differing)]
     first: Optional[Dict[str, Any]] = None
     if said.first:
         (p, q), plain, adaptive = said.first
@@ -243,7 +268,7 @@ def coverage(asked: argparse.Namespace, say: Said) -> int:
     from . import pictures
     names, cameras = cameras_of(asked)
     with opened(asked.file) as venue:
-        show = shown("coverage", sys.stderr)
+        show = shown("coverage")
         drawn = pictures.coverage_picture(venue.counts, venue.held, asked.layer, cameras, manner(asked), names, asked.title, show)
         show(1)
     return written(asked.out, drawn, say)
@@ -270,7 +295,7 @@ def make(asked: argparse.Namespace, say: Said) -> int:
     for note in made.notes:
         warn(note)
     if asked.out != "-":
-        pairs = ", and %d pairs" % made.pairs if asked.pairs else ""
+        pairs = ", and %s" % many(made.pairs, "pair") if asked.pairs else ""
         say(["%s: %s cells, %s%s" % (asked.out, " x ".join(map(str, made.counts)), "bare" if asked.bare else "marked", pairs)],
             {"out": asked.out, "kind": made.kind, "counts": list(made.counts), "bare": asked.bare, "pairs": made.pairs, "notes": made.notes})
     return DONE
@@ -354,22 +379,8 @@ def picture_commands(command: Any, venue: Any, cells: Any, out: Any, both: Parse
     made.add_argument("--title", metavar="TEXT", help="what stands above it (how many cameras there are)")
 
 
-def warn(what: str) -> None:
-    with contextlib.suppress(OSError):
-        print("oatmarten: " + what, file=sys.stderr)
-
-
 def revision_words() -> str:
-    try:
-        return "oatmarten, revision %d (%s)" % (oat_revision(), library.path(OAT_REVISION))
-    except LibraryError as wrong:
-        return "oatmarten, revision %d; %s" % (OAT_REVISION, wrong)
-
-
-def refused_told(refused: Refused, asked: argparse.Namespace, say: Said) -> None:
-    warn(str(refused))
-    if asked.json:
-        say([], telling.refused_numbers(refused))
+    return "oatmarten, revision %d (%s)" % (oat_revision(), library.path(OAT_REVISION))
 
 
 def ended(number: int, frame: Any) -> None:
@@ -377,22 +388,34 @@ def ended(number: int, frame: Any) -> None:
     raise SystemExit(128 + number)
 
 
+def told(wrong: BaseException, asked: argparse.Namespace) -> str:
+    """What went wrong, in a sentence."""
+    if isinstance(wrong, (Refused, Wrong, LibraryError, OverflowError)):
+        return str(wrong)
+    if isinstance(wrong, OSError):
+        name = wrong.filename or getattr(asked, "out", None) or "a file"
+        return "%s: %s" % ("standard output" if name == "-" else os.fsdecode(name), wrong.strerror or wrong)
+    if isinstance(wrong, MemoryError):
+        return "there is not enough memory"
+    return "a fault of the command's own: %s: %s" % (type(wrong).__name__, wrong)
+
+
 def run(asked: argparse.Namespace) -> int:
-    """The command, with whatever can go wrong told in a sentence."""
+    """The command; whatever goes wrong is told."""
     say = Said(asked.json)
     try:
-        if "-" in (getattr(asked, "out", None),) and sys.stdout.isatty() and asked.command in ("mark", "make"):
+        if asked.version:
+            say([revision_words()], {"revision": oat_revision(), "library": library.path(OAT_REVISION)})
+            return DONE
+        if getattr(asked, "out", None) == "-" and asked.command in ("mark", "make") and sys.stdout is not None and sys.stdout.isatty():
             raise Wrong("a venue is bytes, not text: send it to a file")
         return int(asked.does(asked, say))
-    except Refused as refused:
-        refused_told(refused, asked, say)
-    except (Wrong, LibraryError, OverflowError) as wrong:
-        warn(str(wrong))
-    except OSError as wrong:
-        warn("%s: %s" % (wrong.filename or getattr(asked, "out", "a file"), wrong.strerror or wrong))
-    except MemoryError:
-        warn("there is not enough memory")
-    return WRONG
+    except Exception as wrong:
+        warn(told(wrong, asked))
+        if asked.json:
+            with contextlib.suppress(OSError):
+                say([], telling.refused_numbers(wrong) if isinstance(wrong, Refused) else {"error": told(wrong, asked)})
+        return WRONG
 
 
 def main(words: Optional[List[str]] = None) -> int:
@@ -400,19 +423,17 @@ def main(words: Optional[List[str]] = None) -> int:
     parser = Parser(prog="oatmarten", description="Exact sight lines through a voxel model of a venue, by the proved library.")
     parser.add_argument("--version", action="store_true", help="says the revision of the library, and where it is")
     commands(parser)
-    asked = parser.parse_args(words)
-    for number in (signal.SIGTERM, signal.SIGHUP):
-        signal.signal(number, ended)
     try:
-        if asked.version:
-            Said(False)([revision_words()], {})
-            return DONE
-        if not asked.command:
+        for name in SIGNALS:
+            signal.signal(getattr(signal, name), ended)
+        try:
+            asked = parser.parse_args(words, argparse.Namespace(json=False))
+        except OSError as wrong:  # help that cannot be written
+            warn(told(wrong, argparse.Namespace()))
+            return WRONG
+        if not asked.command and not asked.version:
             parser.error("say a command: info, mark, hit, sight, list, compare, picture, coverage or make")
         return run(asked)
-    except Wrong as wrong:
-        warn(str(wrong))
-        return WRONG
     except KeyboardInterrupt:
         warn("interrupted")
         return 130

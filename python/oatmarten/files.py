@@ -2,11 +2,38 @@
 from __future__ import annotations
 
 import contextlib
+import errno
+import io
 import os
 import stat
 import sys
 import tempfile
-from typing import BinaryIO, Iterator
+from typing import BinaryIO, Iterator, Union
+
+
+def standard_input() -> BinaryIO:
+    """Standard input's bytes; where it is closed that is an error like any other of reading."""
+    if sys.stdin is None:
+        raise OSError(errno.EBADF, os.strerror(errno.EBADF), "standard input")
+    return sys.stdin.buffer
+
+
+def put_out(data: Union[bytes, memoryview]) -> None:
+    """All of it to standard output. Python's own stream may take a part and say nothing, where it is not buffered."""
+    if sys.stdout is None:
+        raise OSError(errno.EBADF, os.strerror(errno.EBADF), "standard output")
+    try:
+        to = sys.stdout.fileno()
+    except (AttributeError, io.UnsupportedOperation):  # something that stands in for it
+        sys.stdout.write(bytes(data).decode())
+        return
+    sys.stdout.flush()
+    rest = memoryview(data)
+    while rest:
+        try:
+            rest = rest[os.write(to, rest):]
+        except OSError as wrong:
+            raise OSError(wrong.errno, wrong.strerror, "standard output") from None
 
 
 def _is_special(path: str) -> bool:
@@ -15,6 +42,23 @@ def _is_special(path: str) -> bool:
         return not stat.S_ISREG(os.stat(path).st_mode)
     except OSError:
         return False
+
+
+def _checked(path: str) -> None:
+    """A name that can become a file's: where there is one that may not be written, it is not replaced either."""
+    if not path:
+        raise OSError(errno.ENOENT, "a file to write has a name", "-o")
+    if path != "-":
+        wrong = errno.EISDIR if os.path.isdir(path) or path.endswith(os.sep) else 0
+        try:
+            os.stat(path)
+            wrong = wrong or (0 if os.access(path, os.W_OK) else errno.EACCES)
+        except FileNotFoundError:
+            pass
+        except OSError as found:
+            wrong = wrong or found.errno or errno.EIO
+        if wrong:
+            raise OSError(wrong, os.strerror(wrong), path)
 
 
 def _mode(path: str) -> int:
@@ -31,9 +75,8 @@ def _mode(path: str) -> int:
 def aside(path: str) -> Iterator[BinaryIO]:
     """A file to write and read, that becomes `path` where all goes well; else nothing is there, or what was there before. `-` is standard output,
     which gets all of it at the end; so does a device or a pipe."""
+    _checked(path)
     through = path == "-" or _is_special(path)
-    if through and path != "-" and os.path.isdir(path):
-        raise IsADirectoryError(21, os.strerror(21), path)
     # a link stays a link: what it leads to is replaced
     path = path if through else os.path.realpath(path)
     folder = None if through else os.path.dirname(path) or "."
@@ -61,10 +104,12 @@ def aside(path: str) -> Iterator[BinaryIO]:
 def _hand_on(file: BinaryIO, path: str) -> None:
     file.seek(0)
     with contextlib.ExitStack() as stack:
-        to = sys.stdout.buffer if path == "-" else stack.enter_context(open(path, "wb"))
+        to = None if path == "-" else stack.enter_context(open(path, "wb"))
         while True:
             piece = file.read(1 << 20)
             if not piece:
                 break
-            to.write(piece)
-        to.flush()
+            if to is None:
+                put_out(piece)
+            else:
+                to.write(piece)

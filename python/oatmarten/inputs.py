@@ -2,8 +2,9 @@
 from __future__ import annotations
 
 import re
-import sys
 from typing import Optional
+
+from .files import standard_input
 
 
 class Wrong(Exception):
@@ -19,7 +20,7 @@ def taken(path: str) -> bytes:
     """The bytes of a file; `-` is standard input."""
     try:
         if path == "-":
-            return sys.stdin.buffer.read()
+            return standard_input().read()
         with open(path, "rb") as file:
             return file.read()
     except (OSError, ValueError) as wrong:

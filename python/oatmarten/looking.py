@@ -27,12 +27,19 @@ def kinds(cells: memoryview, progress: Progress = _silent) -> Dict[int, int]:
     found: Dict[int, int] = {}
     for at in range(0, len(cells), _PIECE):
         progress(at / len(cells))
-        rest = bytes(cells[at:at + _PIECE])
-        while rest:
-            less = rest.translate(None, rest[:1])
-            found[rest[0]] = found.get(rest[0], 0) + len(rest) - len(less)
-            rest = less
+        piece = bytes(cells[at:at + _PIECE])
+        new = piece.translate(None, bytes(found))
+        while new:
+            found[new[0]] = 0
+            new = new.translate(None, new[:1])
+        for byte in found:
+            found[byte] += piece.count(byte)
     return dict(sorted(found.items()))
+
+
+def near_cells(cells: memoryview) -> int:
+    """How many cells are near."""
+    return sum(bytes(cells[at:at + _PIECE]).count(OAT_NEAR) for at in range(0, len(cells), _PIECE))
 
 
 def cell_at(counts: Cell, index: int) -> Cell:

@@ -2,7 +2,8 @@
 from __future__ import annotations
 
 import ctypes
-from typing import Any, ContextManager, List, Tuple, Union
+import threading
+from typing import Any, ContextManager, Dict, List, Tuple, Union
 
 # what a call can be lent: bytes, bytearray, memoryview, array.array, mmap.mmap, ctypes arrays, numpy arrays .., or a Lent that is held already
 Buffer = Any
@@ -18,6 +19,8 @@ class _View(ctypes.Structure):
 
 _get = ctypes.pythonapi.PyObject_GetBuffer
 _get.argtypes, _get.restype = [ctypes.py_object, ctypes.POINTER(_View), ctypes.c_int], ctypes.c_int
+# to be written; in one piece, in C order, with the kind of its items told
+_WRITABLE, _IN_ONE_PIECE = 0x1, 0x4 | 0x8
 _release = ctypes.pythonapi.PyBuffer_Release
 _release.argtypes, _release.restype = [ctypes.POINTER(_View)], None
 
@@ -36,15 +39,16 @@ class Lent:
                 oat_plain(n, held, p, q)
 
     `writable` asks for memory that may be written; without it read-only memory (bytes, a map of a file that was opened for reading) will do. The
-    bytes must lie in one piece, in C order. Memory that cannot be lent so raises BufferError, and what has no bytes TypeError."""
+    bytes must lie in one piece, in C order. Memory that cannot be lent so raises BufferError, and what has no bytes TypeError. While a call runs over it
+    in another thread it is not given back: BufferError too."""
 
-    __slots__ = ("_view", "at", "bytes", "writable", "_held")
+    __slots__ = ("_view", "at", "bytes", "writable", "item", "_held", "_lock", "_calls")
 
     def __init__(self, thing: Buffer, writable: bool = False) -> None:
-        self._held = False
+        self._held, self._calls, self._lock = False, 0, threading.Lock()
         self._view = _View()
         try:
-            _get(thing, self._view, 1 if writable else 0)
+            _get(thing, self._view, _IN_ONE_PIECE | (_WRITABLE if writable else 0))
         except TypeError:
             raise TypeError("memory to lend is an object with bytes, and %s was given" % type(thing).__name__) from None
         except (BufferError, ValueError) as wrong:
@@ -52,12 +56,17 @@ class Lent:
         self._held = True
         self.writable = writable
         self.bytes: int = self._view.len
+        # its items: how wide they are, and what they are by the letter of the struct module
+        self.item: Tuple[int, str] = (self._view.itemsize, (self._view.format or b"B").decode("ascii", "replace")[-1:])
         self.at: int = self._view.buf if self.bytes else _SOMEWHERE
 
     def release(self) -> None:
         """Gives the memory back; what was lent may be closed or resized again."""
-        if self._held:
-            self._held = False
+        with self._lock:
+            if self._calls:
+                raise BufferError("memory is not given back while a call runs over it")
+            held, self._held = self._held, False
+        if held:
             _release(self._view)
 
     def __enter__(self) -> "Lent":
@@ -67,38 +76,52 @@ class Lent:
         self.release()
 
     def __del__(self) -> None:
-        self.release()
+        if getattr(self, "_held", False):
+            self.release()
 
 
 class _Again:
-    """A Lent that someone else holds and releases."""
+    """A Lent that someone else holds and releases, but not while this is entered."""
 
-    __slots__ = ("held",)
+    __slots__ = ("held", "what")
 
-    def __init__(self, held: Lent) -> None:
-        self.held = held
+    def __init__(self, held: Lent, what: str) -> None:
+        self.held, self.what = held, what
 
     def __enter__(self) -> Lent:
+        with self.held._lock:
+            if not self.held._held:
+                raise ValueError("%s were lent by a Lent that was released" % self.what)
+            self.held._calls += 1
         return self.held
 
     def __exit__(self, *raised: object) -> None:
-        pass
+        with self.held._lock:
+            self.held._calls -= 1
+
+
+def _fits(held: Lent, width: int, what: str) -> None:
+    """Items of the wrong kind are a mistake: a call would take their bytes for something else."""
+    wide, letter = held.item
+    if wide not in (1, width) or letter in "?efdgPO":
+        raise TypeError("%s are %s, and memory with items of %d bytes ('%s') was lent" % (what, "bytes" if width == 1 else "whole numbers of %d bytes" % width, wide, letter))
+    if held.at % width:
+        raise ValueError("%s are numbers of %d bytes, and do not lie at a multiple of %d" % (what, width, width))
 
 
 def lent(thing: Buffer, writable: bool, width: int, what: str) -> ContextManager[Lent]:
     """Holds memory for one call; its numbers are `width` bytes wide, and have to be aligned so."""
-    held = thing if isinstance(thing, Lent) else Lent(thing, writable)
-    if held is thing:
-        if not held._held:
-            raise ValueError("%s were lent by a Lent that was released" % what)
-        if writable and not held.writable:
+    if isinstance(thing, Lent):
+        if writable and not thing.writable:
             raise BufferError("%s are to be written, and were lent for reading" % what)
-    if held.at % width:
-        if held is not thing:
-            held.release()
-        raise ValueError("%s are numbers of %d bytes, and do not lie at a multiple of %d" % (what, width, width))
-    if held is thing:
-        return _Again(held)
+        _fits(thing, width, what)
+        return _Again(thing, what)
+    held = Lent(thing, writable)
+    try:
+        _fits(held, width, what)
+    except (TypeError, ValueError):
+        held.release()
+        raise
     return held
 
 
@@ -144,7 +167,17 @@ def struct(kind: Any, value: Any, what: str) -> Any:
 
 
 class Struct(ctypes.Structure):
-    """A struct of the header; two are equal where all their fields are."""
+    """A struct of the header; two are equal where all their fields are. A number that a field does not hold is not taken."""
+
+    _kinds: Dict[str, Any] = {}
+
+    def __init_subclass__(cls, **named: Any) -> None:
+        super().__init_subclass__(**named)
+        cls._kinds = {field[0]: field[1] for field in cls._fields_ if field[1] in _WHOLE}
+
+    def __setattr__(self, name: str, value: Any) -> None:
+        kind = self._kinds.get(name)
+        super().__setattr__(name, value if kind is None else number(kind, value, name))
 
     def __repr__(self) -> str:
         return "%s(%s)" % (type(self).__name__, ", ".join("%s=%r" % (field[0], getattr(self, field[0])) for field in self._fields_))

@@ -17,7 +17,8 @@ from array import array
 from typing import Any, Callable, Dict, Iterable, Iterator, List, Optional, Sequence, Tuple
 
 from . import library
-from .drawing import MARGIN, SAMPLE, Labels, Page, Panel, Place, digits, group, path, tag, text, tick_step
+from .library import Refused
+from .drawing import INK, MARGIN, SAMPLE, Labels, Page, Panel, Place, digits, group, path, tag, text, tick_step
 from .header import (OAT_CLEAR, OAT_LINE6_ROOM, OAT_MANNER_USUAL, OAT_NEAR, OAT_SOLID_LEAST, CellLike, CountsLike, MannerLike, oat_adaptive,
                      oat_adaptive_cells, oat_cell, oat_complete, oat_counts, oat_hit, oat_layer, oat_line6, oat_manner, oat_plain)
 from .looking import listed
@@ -338,13 +339,19 @@ def _panel_of_walks(page: Page, panel: _View, walks: _Walks) -> List[int]:
     hits = [_hit_mark(panel, hit, name, stroke) for hit, name, stroke, _ in _hits_of(walks) if panel.shows(_triple(hit))]
     page.add(panel.drawn([ground, panel.lattice(), *_marks(panel, walks), *_ends(panel, walks), *hits]))
     labels = Labels(page, panel, [panel.middle(c) for c in walks.line if panel.shows(c)])
-    ends = [(walks.p, "P"), (walks.q, "Q")] if walks.p != walks.q else [(walks.p, "P = Q")]
-    for cell, name in ends:
+    for cell, names in _named_cells(walks).items():
         if panel.shows(cell):
-            labels.add(panel.middle(cell), "%s %s" % (name, cell_words(cell)))
-    if walks.plain.hit and panel.shows(_triple(walks.plain)):
-        labels.add(panel.middle(_triple(walks.plain)), "hit %s" % cell_words(_triple(walks.plain)), HIT)
+            labels.add(panel.middle(cell), "%s %s" % (names, cell_words(cell)), HIT if "hit" in names else INK)
     return found
+
+
+def _named_cells(walks: _Walks) -> Dict[Cell, str]:
+    """The cells that have a label: the ends, and the hit, which may be one of them."""
+    names = {walks.p: "P", walks.q: "Q" if walks.p != walks.q else "P = Q"}
+    if walks.plain.hit:
+        cell = _triple(walks.plain)
+        names[cell] = "%s, hit" % names[cell] if cell in names else "hit"
+    return names
 
 
 def _ends(panel: _View, walks: _Walks) -> List[str]:
@@ -405,10 +412,14 @@ def coverage(counts: CountsLike, cells: Buffer, layer: int, cameras: Iterable[Ce
     n, manner = struct(oat_counts, counts, "counts"), struct(oat_manner, how, "how")
     places = [struct(oat_cell, camera, "a camera") for camera in cameras]
     with lent(cells, False, 1, "cells") as held:
-        seen = array("h", [-1 if byte >= OAT_SOLID_LEAST else 0 for byte in _layer_bytes(n, held, layer)])
+        seen = array("i", [-1 if byte >= OAT_SOLID_LEAST else 0 for byte in _layer_bytes(n, held, layer)])
         for camera in places:
             # what this call accepts is accepted for every other cell of the layer
-            oat_adaptive(n, held, camera, (0, 0, layer), manner)
+            try:
+                oat_adaptive(n, held, camera, (0, 0, layer), manner)
+            except Refused as refused:
+                refused.about, refused.called = "the camera at %s: " % cell_words(_triple(camera)), ("the camera", "the ball")
+                raise
         for k, (camera, y) in enumerate(itertools.product(places, range(n.ny)), 1):
             _count_row(n, held, camera, oat_cell(0, y, layer), manner, seen)
             if progress:

@@ -2,13 +2,15 @@
 a[z, y, x] in C order, of shape (nz, ny, nx)."""
 from __future__ import annotations
 
+import contextlib
+import errno
 import mmap
 import os
 import stat
-import sys
-from typing import Any, BinaryIO, Tuple
+from typing import Any, BinaryIO, Iterator, Tuple
 
-from .header import OAT_VENUE_HEAD, oat_counts, oat_read_venue, oat_write_venue
+from .files import standard_input
+from .header import OAT_COUNT_MOST, OAT_VENUE_HEAD, oat_counts, oat_read_venue, oat_write_venue
 from .memory import Buffer, Lent
 
 
@@ -17,7 +19,7 @@ class Venue:
     record. `held` is the cells for calls, held until the venue is closed:
 
         with Venue.open("ground.venue") as venue:
-            hit = oat_plain(venue.counts, venue.held, (0, 75, 10), (199, 75, 12))
+            hit = oat_plain(venue.counts, venue.held, (20, 12, 7), (36, 8, 0))
 
     With numpy, numpy.frombuffer(venue.cells, numpy.uint8).reshape(nz, ny, nx) is the same bytes as a[z, y, x]."""
 
@@ -37,7 +39,7 @@ class Venue:
         """A venue file by memory map, so that it takes no memory of its own: for reading, or (writable) so that what calls write is written to the
         file. `-` is standard input; that, and whatever cannot be mapped, is read into memory."""
         if path == "-":
-            return cls(bytearray(sys.stdin.buffer.read()), True)
+            return cls(bytearray(read_most(standard_input())), True)
         with open(path, "r+b" if writable else "rb") as file:
             return cls.of(file, writable)
 
@@ -46,7 +48,7 @@ class Venue:
         """The same of a file that is open already, which may be closed afterwards."""
         here = os.fstat(file.fileno())
         if not stat.S_ISREG(here.st_mode) or not here.st_size:
-            return cls(bytearray(file.read()), True)
+            return cls(bytearray(read_most(file)), True)
         mapped = mmap.mmap(file.fileno(), 0, access=mmap.ACCESS_WRITE if writable else mmap.ACCESS_READ)
         try:
             return cls(mapped, writable, mapped)
@@ -55,12 +57,16 @@ class Venue:
             raise
 
     def close(self) -> None:
-        """Gives the memory back; a map that was written reaches its file."""
+        """Gives the memory back; a map that was written reaches its file. Where someone has a view of the cells still, such as a numpy array, the memory
+        stays for it and goes with it."""
         self.held.release()
-        self.cells.release()
-        self._record.release()
+        try:
+            self.cells.release()
+            self._record.release()
+        except BufferError:
+            pass
         if self._owner is not None:
-            self._owner.close()
+            _closed(self._owner)
             self._owner = None
 
     def __enter__(self) -> "Venue":
@@ -70,8 +76,17 @@ class Venue:
         self.close()
 
 
+def read_most(file: BinaryIO) -> bytes:
+    """All of a stream, but no more than the largest venue and some records behind it: a stream may have no end."""
+    most = OAT_VENUE_HEAD + OAT_COUNT_MOST ** 3 + (1 << 24)
+    data = file.read(most + 1)
+    if len(data) > most:
+        raise OSError(errno.EFBIG, "it has more bytes than a venue can have")
+    return data
+
+
 def _closed(mapped: mmap.mmap) -> None:
-    """Closes a map; where an error still holds a part of it, the part goes with the error."""
+    """Closes a map; where someone holds a part of it still, it goes with that."""
     try:
         mapped.close()
     except BufferError:
@@ -86,9 +101,13 @@ def record_of(counts: Any, cells: Buffer) -> bytearray:
     return out
 
 
-def copied(cells: Buffer) -> mmap.mmap:
+@contextlib.contextmanager
+def copied(cells: Buffer) -> Iterator[mmap.mmap]:
     """The same bytes in memory of their own, that may be written."""
     with Lent(cells) as held:
         copy = mmap.mmap(-1, max(1, held.bytes))
         copy[:held.bytes] = memoryview(cells).cast("B") if held.bytes else b""
-    return copy
+    try:
+        yield copy
+    finally:
+        _closed(copy)
