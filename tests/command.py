@@ -2,11 +2,13 @@
 """Holds the command `oatmarten` against the independent program and against the library: answers, words, statuses, refusals and bad input of every
 command, files that are written whole or not at all. Exits 0 only where all agreed. Run it by tests/gate/python."""
 import contextlib
+import ctypes
 import io
 import json
 import os
 import pathlib
 import random
+import re
 import resource
 import signal
 import struct
@@ -317,14 +319,24 @@ def large(good):
     one_sentence("a limit on the size of files", run("mark", big, "-o", out, preexec_fn=limited))
     for k, number in enumerate([signal.SIGINT, signal.SIGTERM, signal.SIGQUIT] * 4):
         words = ["compare", str(big), "--lines", "100000000"] if k < 3 else ["info", str(big)]
-        process = subprocess.Popen([*COMMAND, *words], env=ENV, stdout=subprocess.PIPE, stderr=subprocess.PIPE)
-        time.sleep(0.5 if k < 3 else 0.15 + 0.03 * k)
-        process.send_signal(number)
-        out_said, err_said = process.communicate(timeout=60)
-        if k >= 3 and process.returncode == 0:  # it was done before
-            continue
-        same("interrupted by %d" % number, (process.returncode, b"Traceback" in err_said, out_said), (128 + number, False, b""))
+        interrupted(words, number, 0.5 if k < 3 else 0.15 + 0.03 * k)
     same("what is left", [name for name in os.listdir(WORK) if name.startswith((".", "big.marked"))], [])
+
+
+def interrupted(words, number, wait):
+    """A signal some time after the start; a process that had not begun yet is given more time."""
+    for _ in range(8):
+        process = subprocess.Popen([*COMMAND, *words], env=ENV, stdout=subprocess.PIPE, stderr=subprocess.PIPE)
+        time.sleep(wait)
+        process.send_signal(number)
+        out_said, err_said = process.communicate(timeout=120)
+        if process.returncode == 0 and words[0] == "info":  # it was done before
+            return
+        if process.returncode != -number:
+            same("%s, interrupted by %d" % (words[0], number), (process.returncode, b"Traceback" in err_said, out_said), (128 + number, False, b""))
+            return
+        wait *= 1.6
+    fail("no signal reached the command at work")
 
 
 def in_place():
@@ -374,9 +386,34 @@ def drawn():
         if (WORK / stored).read_bytes() != (docs / stored).read_bytes():
             fail("docs/%s is not what oatmarten %s draws" % (stored, " ".join(map(str, words))))
         xml.etree.ElementTree.parse(WORK / stored)
+    pages(ground)
     by_hand = run("coverage", WORK / "marked.records", "--layer", 1, *"--camera 20 12 7 --camera 8 3 1".split(), "-o", "-")
     same("cameras by hand", (by_hand.returncode, b"How many of 2 cameras" in by_hand.stdout), (0, True))
     print("command: README's pictures and the demo's records are what the command makes")
+
+
+def pages(ground):
+    """What README and docs/PYTHON.md show, as it stands there: the shell's words and the programs run, and what a command prints is that."""
+    place = WORK / "pages"
+    place.mkdir()
+    (place / "demo").mkdir()
+    (place / "demo" / "ground.txt").write_bytes(ground.read_bytes())
+    readme, guide = [(HERE.parent / name).read_text() for name in ("README.md", "docs/PYTHON.md")]
+    commands = [line.split("#")[0].split() for line in readme.splitlines() if line.startswith("oatmarten ")]
+    for words in commands:
+        told = subprocess.run([*COMMAND, *words[1:]], env=ENV, cwd=place, stdout=subprocess.PIPE, stderr=subprocess.PIPE)
+        same(" ".join(words), (told.returncode, told.stderr), (int(words[1] == "hit"), b""))
+    programs = [text for page in (readme, guide) for text in re.findall(r"^```python\n(.*?)^```$", page, re.M | re.S)]
+    for text in programs:
+        subprocess.run([sys.executable, "-c", text], env=ENV, cwd=place, stdout=subprocess.DEVNULL, check=True)
+    shown = re.findall(r"^```text\n\$ oatmarten (.*?)\n(.*?)^```$", guide, re.M | re.S)
+    for words, printed in shown:
+        same(words, subprocess.run([*COMMAND, *words.split()], env=ENV, cwd=place, stdout=subprocess.PIPE).stdout.decode(), printed)
+    described = [text for text in re.findall(r"^```text\n(.*?)^```$", guide, re.M | re.S) if text.startswith("grid ")]
+    for text in described:
+        (place / "described.txt").write_text(text)
+        same("the description of the page", subprocess.run([*COMMAND, "make", "described.txt", "--pairs", "-o", "x"], env=ENV, cwd=place, stdout=subprocess.DEVNULL).returncode, 0)
+    same("what the pages show", (len(commands) >= 5, len(programs), len(shown), len(described)), (True, 2, 1, 1))
 
 
 def memories():
@@ -437,16 +474,19 @@ def memories():
 
 
 def threads():
-    """Memory is not given back while a call runs over it; calls run at the same time."""
+    """Memory is given back when the calls that run over it are done; calls run at the same time."""
     path = WORK / "big.venue"
     venue = oat.Venue.open(str(path))
-    with memory.lent(venue.held, False, 1, "cells"):  # as a call in another thread does
+    with memory.lent(venue.held, False, 1, "cells") as held:  # as a call in another thread does
+        venue.close()
+        same("memory under a call", ctypes.string_at(held.at, 4), bytes(path.read_bytes()[11:15]))
         try:
-            venue.close()
-            fail("a venue was closed while a call ran over it")
-        except BufferError:
+            oat.oat_complete(venue.counts, venue.held)
+            fail("a venue that was closed was lent")
+        except ValueError:
             pass
-    said = []
+    same("memory after it", held._taken, False)
+    venue, said = oat.Venue.open(str(path)), []
     running = [threading.Thread(target=lambda: said.append(oat.oat_build(venue.counts, venue.held, bytearray(8 * oat.OAT_MASKS(*venue.counts))).total)) for _ in range(3)]
     for thread in running:
         thread.start()

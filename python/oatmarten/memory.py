@@ -39,13 +39,14 @@ class Lent:
                 oat_plain(n, held, p, q)
 
     `writable` asks for memory that may be written; without it read-only memory (bytes, a map of a file that was opened for reading) will do. The
-    bytes must lie in one piece, in C order. Memory that cannot be lent so raises BufferError, and what has no bytes TypeError. While a call runs over it
-    in another thread it is not given back: BufferError too."""
+    bytes must lie in one piece, in C order. Memory that cannot be lent so raises BufferError, and what has no bytes TypeError. Where a call runs over
+    it in another thread, it is given back when that is over."""
 
-    __slots__ = ("_view", "at", "bytes", "writable", "item", "_held", "_lock", "_calls")
+    __slots__ = ("_view", "at", "bytes", "writable", "item", "_held", "_taken", "_lock", "_calls")
 
     def __init__(self, thing: Buffer, writable: bool = False) -> None:
-        self._held, self._calls, self._lock = False, 0, threading.Lock()
+        # whether calls may begin, whether the memory is still taken, and how many calls run
+        self._held, self._taken, self._calls, self._lock = False, False, 0, threading.Lock()
         self._view = _View()
         try:
             _get(thing, self._view, _IN_ONE_PIECE | (_WRITABLE if writable else 0))
@@ -53,7 +54,7 @@ class Lent:
             raise TypeError("memory to lend is an object with bytes, and %s was given" % type(thing).__name__) from None
         except (BufferError, ValueError) as wrong:
             raise BufferError("memory that cannot be lent to be %s: %s" % ("written" if writable else "read", wrong)) from None
-        self._held = True
+        self._held = self._taken = True
         self.writable = writable
         self.bytes: int = self._view.len
         # its items: how wide they are, and what they are by the letter of the struct module
@@ -63,10 +64,13 @@ class Lent:
     def release(self) -> None:
         """Gives the memory back; what was lent may be closed or resized again."""
         with self._lock:
-            if self._calls:
-                raise BufferError("memory is not given back while a call runs over it")
-            held, self._held = self._held, False
-        if held:
+            self._held = False
+            self._give_back()
+
+    def _give_back(self) -> None:
+        """Where nobody holds it and no call runs."""
+        if self._taken and not self._held and not self._calls:
+            self._taken = False
             _release(self._view)
 
     def __enter__(self) -> "Lent":
@@ -76,12 +80,14 @@ class Lent:
         self.release()
 
     def __del__(self) -> None:
-        if getattr(self, "_held", False):
-            self.release()
+        # a call that runs knows it, so none does
+        if getattr(self, "_taken", False):
+            self._taken = False
+            _release(self._view)
 
 
 class _Again:
-    """A Lent that someone else holds and releases, but not while this is entered."""
+    """A Lent that someone else holds and releases; while this is entered it stays."""
 
     __slots__ = ("held", "what")
 
@@ -98,6 +104,7 @@ class _Again:
     def __exit__(self, *raised: object) -> None:
         with self.held._lock:
             self.held._calls -= 1
+            self.held._give_back()
 
 
 def _fits(held: Lent, width: int, what: str) -> None:
