@@ -301,6 +301,24 @@ def closed(good):
     for unbuffered in ("", "1"):
         told = shell("ulimit -f 1; trap '' XFSZ; $O list 6 0 0 0 900 900 900 --json >%s/cut" % WORK, PYTHONUNBUFFERED=unbuffered)
         one_sentence("a limit, not buffered", told)
+    log = WORK / "log"
+    for name in ("/dev/stdout", "/dev/fd/1"):
+        told = shell("{ echo head; $O mark $V -o %s; echo tail; } >>%s" % (name, log))
+        same("output by another name", (told.returncode, log.read_bytes()), (0, b"head\n" + good.read_bytes() + b"tail\n"))
+        log.unlink()
+    same("a pipe by another name", shell("$O mark $V -o /dev/stdout | cat").stdout, good.read_bytes())
+    told = shell("trap '' HUP; $O compare $V --lines 60000 & p=$!; sleep 1; kill -HUP $p 2>/dev/null || true; wait $p")
+    same("a signal that is ignored", (told.returncode, told.stderr), (0, b""))
+    for words, part in (("$O hit $V x 0 0 1 1 1 --json", "no whole number"), ("$O hit $V 9 0 0 1 1 1 --json", "refused 5"), ("$O fly --json", "invalid choice")):
+        told = shell(words)
+        same(words, (told.returncode, part in json.loads(told.stdout)["error"]), (2, True))
+    same("the revision for machines", json.loads(shell("$O --version --json").stdout)["revision"], oat.OAT_REVISION)
+    for words in ("$O picture $V 0 0 0 1 0 0 -o $V", "$O make $V -o $V"):
+        one_sentence(words, shell(words))
+    same("what it was made of", oat.Venue.open(str(good)).counts, (4, 2, 1))
+    for words in ("$O info $V $'a\\nb\\e[31m'", "$O mark /proc/self/mem -o x", "$O list 6 0 0 0 0 0 %s" % ("9" * 900)):
+        if len(one_sentence(words, shell(words))) > 300:
+            fail("%s: a long sentence" % words[:40])
     same("an error for machines", json.loads(shell("$O info /none --json").stdout), {"error": "/none cannot be read: No such file or directory"})
     if "the library /none cannot be loaded" not in one_sentence("no library", shell("OATMARTEN_LIBRARY=/none $O --version")):
         fail("--version without a library")
@@ -427,7 +445,8 @@ def memories():
             fail("%s was lent" % what)
         except error:
             pass
-    for what, lent in (("numbers of 64 bits", array.array("q", [0] * 30)), ("floats", array.array("f", [0.0] * 30))):
+    swapped = (ctypes.c_int32.__ctype_be__ * 30)()
+    for what, lent in (("numbers of 64 bits", array.array("q", [0] * 30)), ("floats", array.array("f", [0.0] * 30)), ("numbers the other way round", swapped)):
         try:
             oat.oat_line6((0, 0, 0), (2, 1, 0), lent)
             fail("%s were lent for a list" % what)
@@ -452,6 +471,10 @@ def memories():
             fail("%s was cut" % what)
         except OverflowError:
             pass
+    own = memoryview(oat.record_of(n, oat.Lent(cells)))
+    with oat.Venue(own):
+        pass
+    same("a view of the caller's own", own[4], 1)
     held = bytearray(cells)
     with oat.Lent(held):
         try:

@@ -6,19 +6,19 @@ import contextlib
 import json
 import os
 import re
-import shutil
 import signal
 import sys
+import threading
 import time
 from typing import Any, Callable, Dict, Iterator, List, NoReturn, Optional, Sequence, Tuple
 
 from .header import (OAT_CLEAR, OAT_NEAR, OAT_LINE6_ROOM, OAT_LINE26_ROOM, OAT_REVISION, OAT_TOUCHING_ROOM, oat_adaptive, oat_complete, oat_line6, oat_line26,
                      oat_line_touching, oat_mark, oat_plain, oat_revision, oat_sight)
 from . import library, looking, telling
-from .files import aside, put_out, standard_input
+from .files import STANDARD_OUTPUT, aside, put_out, read_most, standard_input
 from .inputs import Wrong, named, shown as shortened
 from .library import LibraryError, Refused
-from .venues import Venue, read_most
+from .venues import Venue
 
 DONE, NOT, WRONG = 0, 1, 2  # what the command ends with: yes or done; no; a refusal or an error
 # those that ask to end, and leave time to take away what was begun
@@ -27,6 +27,8 @@ SIGNALS = ("SIGTERM", "SIGHUP", "SIGQUIT", "SIGALRM", "SIGXCPU", "SIGUSR1", "SIG
 
 class Parser(argparse.ArgumentParser):
     """A parser that says what is wrong in one sentence, and takes any number that begins with '-' for a number."""
+
+    given: Sequence[str] = ()
 
     def __init__(self, *given: Any, **named: Any) -> None:
         super().__init__(*given, **named)
@@ -40,7 +42,11 @@ class Parser(argparse.ArgumentParser):
             put_text(message)
 
     def error(self, message: str) -> NoReturn:
-        self.exit(WRONG, "%s: %s (%s --help says more)\n" % (self.prog, message, self.prog))
+        said = "%s: %s (%s --help says more)" % (self.prog, shortened(message, 1000), self.prog)
+        if "--json" in self.given:
+            with contextlib.suppress(OSError):
+                put_text(json.dumps({"error": said}) + "\n")
+        self.exit(WRONG, said + "\n")
 
 
 # ---- words of the command line
@@ -165,11 +171,8 @@ def info(asked: argparse.Namespace, say: Said) -> int:
 
 def mark(asked: argparse.Namespace, say: Said) -> int:
     with aside(asked.out) as out:
-        if asked.file == "-":
-            out.write(read_most(standard_input()))
-        else:
-            with reading(asked.file) as given:
-                shutil.copyfileobj(given, out, 1 << 20)
+        for piece in pieces(asked.file):
+            out.write(piece)
         out.flush()
         near = marked_in_place(out, asked.file)
     if asked.out != "-":
@@ -177,14 +180,21 @@ def mark(asked: argparse.Namespace, say: Said) -> int:
     return DONE
 
 
-@contextlib.contextmanager
-def reading(path: str) -> Iterator[Any]:
+def pieces(path: str) -> Iterator[bytes]:
+    """The bytes of a file, or of a stream as far as a venue can reach."""
     try:
-        file = open(path, "rb")
+        with contextlib.ExitStack() as stack:
+            given = standard_input() if path == "-" else stack.enter_context(open(path, "rb"))
+            if path == "-" or not os.path.isfile(path):
+                yield read_most(given)
+                return
+            while True:
+                piece = given.read(1 << 20)
+                if not piece:
+                    return
+                yield piece
     except OSError as wrong:
-        raise Wrong("%s cannot be read: %s" % (path, wrong.strerror)) from None
-    with file:
-        yield file
+        raise Wrong("%s cannot be read: %s" % (named(path), wrong.strerror)) from None
 
 
 def marked_in_place(file: Any, name: str) -> int:
@@ -388,6 +398,15 @@ def ended(number: int, frame: Any) -> None:
     raise SystemExit(128 + number)
 
 
+def taken_apart(asked: argparse.Namespace) -> None:
+    """Standard output by its other names; and what is drawn or made does not replace what it is made of."""
+    out, of = getattr(asked, "out", None), getattr(asked, "source", getattr(asked, "file", None))
+    if out in STANDARD_OUTPUT:
+        asked.out = "-"
+    elif out and of and asked.command != "mark" and os.path.isfile(out) and os.path.exists(of) and os.path.samefile(out, of):
+        raise Wrong("%s is what it is made of: name another file to write" % named(out))
+
+
 def told(wrong: BaseException, asked: argparse.Namespace) -> str:
     """What went wrong, in a sentence."""
     if isinstance(wrong, (Refused, Wrong, LibraryError, OverflowError)):
@@ -404,6 +423,7 @@ def run(asked: argparse.Namespace) -> int:
     """The command; whatever goes wrong is told."""
     say = Said(asked.json)
     try:
+        taken_apart(asked)
         if asked.version:
             say([revision_words()], {"revision": oat_revision(), "library": library.path(OAT_REVISION)})
             return DONE
@@ -414,7 +434,7 @@ def run(asked: argparse.Namespace) -> int:
         warn(told(wrong, asked))
         if asked.json:
             with contextlib.suppress(OSError):
-                say([], telling.refused_numbers(wrong) if isinstance(wrong, Refused) else {"error": told(wrong, asked)})
+                say([], {"error": told(wrong, asked), **(telling.refused_numbers(wrong) if isinstance(wrong, Refused) else {})})
         return WRONG
 
 
@@ -422,12 +442,16 @@ def main(words: Optional[List[str]] = None) -> int:
     """The command line; answers the status that it ends with."""
     parser = Parser(prog="oatmarten", description="Exact sight lines through a voxel model of a venue, by the proved library.")
     parser.add_argument("--version", action="store_true", help="says the revision of the library, and where it is")
+    parser.add_argument("--json", action="store_true", help="one JSON object instead of words")
     commands(parser)
     try:
-        for name in SIGNALS:
-            signal.signal(getattr(signal, name), ended)
+        if threading.current_thread() is threading.main_thread():
+            for number in (getattr(signal, name) for name in SIGNALS):
+                if signal.getsignal(number) is not signal.SIG_IGN:  # as nohup has it
+                    signal.signal(number, ended)
+        Parser.given = sys.argv[1:] if words is None else words
         try:
-            asked = parser.parse_args(words, argparse.Namespace(json=False))
+            asked = parser.parse_args(words)
         except OSError as wrong:  # help that cannot be written
             warn(told(wrong, argparse.Namespace()))
             return WRONG

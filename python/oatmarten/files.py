@@ -5,10 +5,18 @@ import contextlib
 import errno
 import io
 import os
+import re
+import signal
 import stat
 import sys
 import tempfile
 from typing import BinaryIO, Iterator, Union
+
+from .header import OAT_COUNT_MOST, OAT_VENUE_HEAD
+
+
+# the largest venue, and some records behind it
+MOST = OAT_VENUE_HEAD + OAT_COUNT_MOST ** 3 + (1 << 24)
 
 
 def standard_input() -> BinaryIO:
@@ -16,6 +24,16 @@ def standard_input() -> BinaryIO:
     if sys.stdin is None:
         raise OSError(errno.EBADF, os.strerror(errno.EBADF), "standard input")
     return sys.stdin.buffer
+
+
+def read_most(file: BinaryIO) -> bytes:
+    """All of a stream, but no more than a venue can have: a stream may have no end."""
+    data = file.read(MOST + 1)
+    if data is None:  # a stream that does not wait
+        raise OSError(errno.EAGAIN, os.strerror(errno.EAGAIN))
+    if len(data) > MOST:
+        raise OSError(errno.EFBIG, "it has more bytes than a venue can have")
+    return data
 
 
 def put_out(data: Union[bytes, memoryview]) -> None:
@@ -36,8 +54,15 @@ def put_out(data: Union[bytes, memoryview]) -> None:
             raise OSError(wrong.errno, wrong.strerror, "standard output") from None
 
 
+# names of the process's own streams: a file behind one is not replaced
+_STREAMS = re.compile(r"/dev/(std(in|out|err)|fd/\d+)|/proc/(self|\d+)/fd/\d+")
+STANDARD_OUTPUT = ("-", "/dev/stdout", "/dev/fd/1", "/proc/self/fd/1")
+
+
 def _is_special(path: str) -> bool:
-    """Whether the name stands for something that cannot be replaced: a device, a pipe."""
+    """Whether the name stands for something that cannot be replaced: a device, a pipe, a stream."""
+    if _STREAMS.fullmatch(path):
+        return True
     try:
         return not stat.S_ISREG(os.stat(path).st_mode)
     except OSError:
@@ -49,7 +74,7 @@ def _checked(path: str) -> None:
     if not path:
         raise OSError(errno.ENOENT, "a file to write has a name", "-o")
     if path != "-":
-        wrong = errno.EISDIR if os.path.isdir(path) or path.endswith(os.sep) else 0
+        wrong = errno.EISDIR if os.path.isdir(path) else errno.ENOTDIR if path.endswith(os.sep) else 0
         try:
             os.stat(path)
             wrong = wrong or (0 if os.access(path, os.W_OK) else errno.EACCES)
@@ -80,11 +105,16 @@ def aside(path: str) -> Iterator[BinaryIO]:
     # a link stays a link: what it leads to is replaced
     path = path if through else os.path.realpath(path)
     folder = None if through else os.path.dirname(path) or "."
+    # a signal waits until the file's name is known
+    waiting = signal.pthread_sigmask(signal.SIG_BLOCK, signal.valid_signals())
+    name = ""
     try:
-        handle, name = tempfile.mkstemp(prefix=".oatmarten-", dir=folder)
-    except OSError as wrong:
-        raise OSError(wrong.errno, wrong.strerror, path) from None
-    try:
+        try:
+            handle, name = tempfile.mkstemp(prefix=".oatmarten-", dir=folder)
+        except OSError as wrong:
+            raise OSError(wrong.errno, wrong.strerror, path) from None
+        finally:
+            signal.pthread_sigmask(signal.SIG_SETMASK, waiting)
         with os.fdopen(handle, "w+b") as file:
             yield file
             file.flush()
@@ -93,7 +123,10 @@ def aside(path: str) -> Iterator[BinaryIO]:
             else:
                 os.fchmod(file.fileno(), _mode(path))
         if not through:
-            os.replace(name, path)
+            try:
+                os.replace(name, path)
+            except OSError as wrong:
+                raise OSError(wrong.errno, wrong.strerror, path) from None
             name = ""
     finally:
         if name:
@@ -104,7 +137,7 @@ def aside(path: str) -> Iterator[BinaryIO]:
 def _hand_on(file: BinaryIO, path: str) -> None:
     file.seek(0)
     with contextlib.ExitStack() as stack:
-        to = None if path == "-" else stack.enter_context(open(path, "wb"))
+        to = None if path == "-" else stack.enter_context(open(path, "ab"))
         while True:
             piece = file.read(1 << 20)
             if not piece:

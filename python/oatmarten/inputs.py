@@ -4,7 +4,7 @@ from __future__ import annotations
 import re
 from typing import Optional
 
-from .files import standard_input
+from .files import read_most, standard_input
 
 
 class Wrong(Exception):
@@ -20,9 +20,9 @@ def taken(path: str) -> bytes:
     """The bytes of a file; `-` is standard input."""
     try:
         if path == "-":
-            return standard_input().read()
+            return read_most(standard_input())
         with open(path, "rb") as file:
-            return file.read()
+            return read_most(file)
     except (OSError, ValueError) as wrong:
         why = wrong.strerror if isinstance(wrong, OSError) else "it is no name of a file"
         raise Wrong("%s cannot be read: %s" % (named(path), why)) from None

@@ -51,7 +51,8 @@ def path(revision: int) -> str:
     for place in places:
         if place.exists():
             return str(place)
-    raise LibraryError("the library %s is not there: neither beside the module nor in %s; OATMARTEN_LIBRARY can name it" % (places[0].name, places[3].parent))
+    raise LibraryError("the library %s is not there: neither with the module, under %s, nor built in a repository (tests/shared); OATMARTEN_LIBRARY can name it"
+                       % (places[0].name, places[3].parent))
 
 
 def load() -> ctypes.CDLL:

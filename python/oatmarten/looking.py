@@ -105,7 +105,7 @@ def _camera_and_ball(chance: random.Random, counts: Cell) -> Line:
 
 def lines(counts: Cell, many: int, seed: int) -> Iterator[Line]:
     """Lines by turns: between random cells, and from a camera at a side to a ball in the middle. The same seed gives the same lines."""
-    chance = random.Random(seed)
+    chance = random.Random("%d" % seed)
     for k in range(many):
         yield _camera_and_ball(chance, counts) if k % 2 else (_anywhere(chance, counts), _anywhere(chance, counts))
 

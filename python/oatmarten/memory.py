@@ -2,6 +2,7 @@
 from __future__ import annotations
 
 import ctypes
+import re
 import threading
 from typing import Any, ContextManager, Dict, List, Tuple, Union
 
@@ -57,8 +58,8 @@ class Lent:
         self._held = self._taken = True
         self.writable = writable
         self.bytes: int = self._view.len
-        # its items: how wide they are, and what they are by the letter of the struct module
-        self.item: Tuple[int, str] = (self._view.itemsize, (self._view.format or b"B").decode("ascii", "replace")[-1:])
+        # its items: how wide they are, and what they are, as the struct module writes it
+        self.item: Tuple[int, str] = (self._view.itemsize, (self._view.format or b"B").decode("ascii", "replace"))
         self.at: int = self._view.buf if self.bytes else _SOMEWHERE
 
     def release(self) -> None:
@@ -109,9 +110,9 @@ class _Again:
 
 def _fits(held: Lent, width: int, what: str) -> None:
     """Items of the wrong kind are a mistake: a call would take their bytes for something else."""
-    wide, letter = held.item
-    if wide not in (1, width) or letter in "?efdgPO":
-        raise TypeError("%s are %s, and memory with items of %d bytes ('%s') was lent" % (what, "bytes" if width == 1 else "whole numbers of %d bytes" % width, wide, letter))
+    wide, kind = held.item
+    if kind == "?" if wide == 1 else wide != width or not re.fullmatch("[@=<]?[iIlLqQ]", kind):
+        raise TypeError("%s are %s, and memory with items of %d bytes ('%s') was lent" % (what, "bytes" if width == 1 else "whole numbers of %d bytes" % width, wide, kind))
     if held.at % width:
         raise ValueError("%s are numbers of %d bytes, and do not lie at a multiple of %d" % (what, width, width))
 
@@ -149,6 +150,8 @@ Number = Union[int, float]
 def number(kind: Any, value: Any, what: str) -> Number:
     """A number that the type holds: ctypes alone would cut it."""
     if kind is ctypes.c_double:
+        if isinstance(value, (str, bytes)):
+            raise TypeError("%s is a number, and %r was given" % (what, value[:40]))
         return float(value)
     least, most = _WHOLE[kind]
     try:
@@ -156,7 +159,7 @@ def number(kind: Any, value: Any, what: str) -> Number:
     except AttributeError:
         raise TypeError("%s is a whole number, and %r was given" % (what, value)) from None
     if not least <= whole <= most:
-        raise OverflowError("%s is a number from %d to %d, and %d was given" % (what, least, most, whole))
+        raise OverflowError("%s is a number from %d to %d, and %s was given" % (what, least, most, whole if abs(whole) < 10**40 else "one far beyond it"))
     return int(whole)
 
 

@@ -3,15 +3,14 @@ a[z, y, x] in C order, of shape (nz, ny, nx)."""
 from __future__ import annotations
 
 import contextlib
-import errno
 import mmap
 import os
 import stat
 from typing import Any, BinaryIO, Iterator, Tuple
 
-from .files import standard_input
-from .header import OAT_COUNT_MOST, OAT_VENUE_HEAD, oat_counts, oat_read_venue, oat_write_venue
-from .memory import Buffer, Lent
+from .files import read_most, standard_input
+from .header import OAT_VENUE_HEAD, oat_counts, oat_read_venue, oat_write_venue
+from .memory import Buffer, Lent, lent
 
 
 class Venue:
@@ -25,7 +24,7 @@ class Venue:
 
     def __init__(self, record: Buffer, writable: bool = False, owner: Any = None) -> None:
         self._owner = owner
-        self._record = memoryview(record).cast("B") if not isinstance(record, memoryview) or record.format != "B" else record
+        self._record = memoryview(record).cast("B")
         read = oat_read_venue(self._record)
         self.counts: Tuple[int, int, int] = (read.nx, read.ny, read.nz)
         self.n = oat_counts(*self.counts)
@@ -76,15 +75,6 @@ class Venue:
         self.close()
 
 
-def read_most(file: BinaryIO) -> bytes:
-    """All of a stream, but no more than the largest venue and some records behind it: a stream may have no end."""
-    most = OAT_VENUE_HEAD + OAT_COUNT_MOST ** 3 + (1 << 24)
-    data = file.read(most + 1)
-    if len(data) > most:
-        raise OSError(errno.EFBIG, "it has more bytes than a venue can have")
-    return data
-
-
 def _closed(mapped: mmap.mmap) -> None:
     """Closes a map; where someone holds a part of it still, it goes with that."""
     try:
@@ -95,7 +85,7 @@ def _closed(mapped: mmap.mmap) -> None:
 
 def record_of(counts: Any, cells: Buffer) -> bytearray:
     """A venue's record, in memory of its own: the head and the cells."""
-    with Lent(cells) as held:
+    with lent(cells, False, 1, "cells") as held:
         out = bytearray(OAT_VENUE_HEAD + held.bytes)
         oat_write_venue(counts, held, out)
     return out
