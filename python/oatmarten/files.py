@@ -28,12 +28,16 @@ def standard_input() -> BinaryIO:
 
 def read_most(file: BinaryIO) -> bytes:
     """All of a stream, but no more than a venue can have: a stream may have no end."""
-    data = file.read(MOST + 1)
-    if data is None:  # a stream that does not wait
-        raise OSError(errno.EAGAIN, os.strerror(errno.EAGAIN))
-    if len(data) > MOST:
-        raise OSError(errno.EFBIG, "it has more bytes than a venue can have")
-    return data
+    pieces, many = [], 0
+    while many <= MOST:
+        piece = file.read(1 << 20)
+        if piece is None:  # a stream that does not wait
+            raise OSError(errno.EAGAIN, os.strerror(errno.EAGAIN))
+        if not piece:
+            return b"".join(pieces)
+        pieces.append(piece)
+        many += len(piece)
+    raise OSError(errno.EFBIG, "it has more bytes than a venue can have")
 
 
 def put_out(data: Union[bytes, memoryview]) -> None:
