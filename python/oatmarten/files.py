@@ -10,7 +10,7 @@ import signal
 import stat
 import sys
 import tempfile
-from typing import BinaryIO, Iterator, Union
+from typing import BinaryIO, Iterator, List, Union
 
 from .header import OAT_COUNT_MOST, OAT_VENUE_HEAD
 
@@ -28,7 +28,8 @@ def standard_input() -> BinaryIO:
 
 def read_most(file: BinaryIO) -> bytes:
     """All of a stream, but no more than a venue can have: a stream may have no end."""
-    pieces, many = [], 0
+    pieces: List[bytes] = []
+    many = 0
     while many <= MOST:
         piece = file.read(1 << 20)
         if piece is None:  # a stream that does not wait
