@@ -344,7 +344,8 @@ def large(good):
 def interrupted(words, number, wait):
     """A signal some time after the start; a process that had not begun yet is given more time."""
     for _ in range(8):
-        process = subprocess.Popen([*COMMAND, *words], env=ENV, stdout=subprocess.PIPE, stderr=subprocess.PIPE)
+        # a job in the background is started with some signals ignored, and so would this be
+        process = subprocess.Popen([*COMMAND, *words], env=ENV, stdout=subprocess.PIPE, stderr=subprocess.PIPE, preexec_fn=lambda: signal.signal(number, signal.SIG_DFL))
         time.sleep(wait)
         process.send_signal(number)
         out_said, err_said = process.communicate(timeout=120)
