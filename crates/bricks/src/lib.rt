@@ -1,4 +1,6 @@
 // Solid counts that are kept: masks of bricks, a bit for each cell, and how many ones they have together. The build.
+#![tactic(auto)]
+
 ghost use Rattle.std.specs.Prelude.{◌+◌, ◌*◌, ◌≤◌, ◌<◌, ◌≡◌, true, length, get_or};
 ghost use Rattle.std.specs.Int.Count.{ones};
 ghost use Rattle.cells.specs.Fills.{Filled};
@@ -12,14 +14,14 @@ ghost use Rattle.bricks.specs.Builds.{bricks_check, Builds};
 use cells::{Counts, Refusal, Verdict};
 
 // The answer of the calls that keep counts: the total of solid cells, or why there is none.
-#[derive(Drop)]
+#[derive(Clone, Copy)]
 pub enum Tally {
     Total(u64),
     Refused(Refusal),
 }
 
 // A cell of the grid, or a brick, by natural numbers.
-#[derive(Drop)]
+#[derive(Clone, Copy)]
 pub struct Slot {
     pub x: usize,
     pub y: usize,

@@ -1,4 +1,6 @@
 // Lent slices of bytes: pieces stored in them, and big-endian numbers read and stored.
+#![tactic(auto)]
+
 ghost use Rattle.std.specs.Prelude.{◌≡◌, [], ◌∷◌, ◌+◌, ◌≤◌, ◌<◌, length};
 ghost use Rattle.buffers.specs.Over.{over};
 ghost use Rattle.buffers.specs.Numbers.{two_at, four_at, two, four};
@@ -16,7 +18,7 @@ pub fn put(out: &mut [u8], at: usize, piece: &[u8])
     requires { at + length piece.now ≤ length out.old }
     ensures { out.new ≡ over at piece.now out.old }
 {
-    bytes::copy(piece, &mut out[at..]);
+    out[at..at + piece.len()].copy_from_slice(piece);
 }
 
 // The number in the two bytes from a place on.

@@ -1,10 +1,12 @@
 // The shared words: axes, ends, cells, counts, entry faces, how a walk is made, the four parts of a placement, and the refusals.
+#![tactic(auto)]
+
 ghost use Rattle.std.specs.Prelude.{◌≡◌};
 ghost use Rattle.cells.specs.Manners.{is_tested, usual, rule_of, rule_check};
 ghost use Rattle.cells.specs.Refusals.{NumberOf};
 
 // The three axes.
-#[derive(Drop)]
+#[derive(Clone, Copy)]
 pub enum Axis {
     X,
     Y,
@@ -12,14 +14,14 @@ pub enum Axis {
 }
 
 // The two ends of a line: it runs from P to Q.
-#[derive(Drop)]
+#[derive(Clone, Copy)]
 pub enum End {
     P,
     Q,
 }
 
 // A cell of the integer lattice.
-#[derive(Drop)]
+#[derive(Clone, Copy)]
 pub struct Cell {
     pub x: i32,
     pub y: i32,
@@ -27,7 +29,7 @@ pub struct Cell {
 }
 
 // The face by which a line came into a cell: none where it starts there, else the axis with the sign of the move.
-#[derive(Drop)]
+#[derive(Clone, Copy)]
 pub enum Face {
     None,
     // the line moves to larger numbers on the axis
@@ -37,7 +39,7 @@ pub enum Face {
 }
 
 // How many cells a grid has along each axis.
-#[derive(Drop)]
+#[derive(Clone, Copy)]
 pub struct Counts {
     pub nx: u32,
     pub ny: u32,
@@ -45,7 +47,7 @@ pub struct Counts {
 }
 
 // Whether a walk tests the cell that it starts from.
-#[derive(Drop)]
+#[derive(Clone, Copy)]
 pub enum Start {
     // solid there is no hit, and counts as near
     Untested,
@@ -54,7 +56,7 @@ pub enum Start {
 }
 
 // Which face a line crosses first where it could cross two or three at one point.
-#[derive(Drop)]
+#[derive(Clone, Copy)]
 pub enum Rule {
     // that of y, then of z, then of x
     One,
@@ -63,7 +65,7 @@ pub enum Rule {
 }
 
 // How a walk is made, as its caller names it.
-#[derive(Drop)]
+#[derive(Clone, Copy)]
 pub struct Manner {
     pub start: Start,
     pub rule: Rule,
@@ -93,7 +95,7 @@ impl Manner {
 }
 
 // The four parts of a placement: its origin's three values and the cell edge.
-#[derive(Drop)]
+#[derive(Clone, Copy)]
 pub enum Part {
     OriginX,
     OriginY,
@@ -102,7 +104,7 @@ pub enum Part {
 }
 
 // Why a call refuses, a case for each refusal number; the number is in the definition `told`.
-#[derive(Drop)]
+#[derive(Clone, Copy)]
 pub enum Refusal {
     // 1: a line end outside the coordinate limit
     Limit(End, Axis),
@@ -135,7 +137,7 @@ pub enum Refusal {
 }
 
 // What the tests of a call's inputs come to.
-#[derive(Drop)]
+#[derive(Clone, Copy)]
 pub enum Verdict {
     Fine,
     Refused(Refusal),
@@ -164,6 +166,7 @@ pub fn number(r: Refusal) -> u32
 }
 
 // Refusal 12 unless the number names a rule.
+#[tactic(auto, unfolding(crate::specs::Manners::rule_check))]
 pub fn check_rule(number: u32) -> Verdict
     ensures { result ≡ rule_check number }
 {
@@ -177,6 +180,7 @@ pub fn check_rule(number: u32) -> Verdict
 }
 
 // The rule that a number names.
+#[tactic(auto, unfolding(crate::specs::Manners::rule_of))]
 pub fn rule_of(number: u32) -> Rule
     ensures { result ≡ rule_of number }
 {

@@ -1,5 +1,7 @@
 // The grid: its shape, its layers, which ends lie in it (refusal 5), and the way between cell and byte. Its definitions (specs/) are those of near
 // marks and their completeness too; their calls are in `marks`.
+#![tactic(auto)]
+
 ghost use Rattle.std.specs.Prelude.{◌≡◌, ◌<◌, length};
 ghost use Rattle.cells.specs.Checks.{◌then◌};
 ghost use Rattle.cells.specs.declared.End.TheVariants.{P, Q};
@@ -9,14 +11,14 @@ ghost use Rattle.grids.specs.Inside.{off_axis, grid_check, walk_check, Good, Cou
 use cells::{Axis, Cell, Counts, End, Refusal, Verdict};
 
 // The part of the slice that is a layer: where it starts and how long it is.
-#[derive(Drop)]
+#[derive(Clone, Copy)]
 pub enum LayerPart {
     Part(usize, usize),
     Refused(Refusal),
 }
 
 // Whether no clear cell touches a solid one.
-#[derive(Drop)]
+#[derive(Clone, Copy)]
 pub enum Completeness {
     Yes,
     No,

@@ -1,5 +1,6 @@
 // Writes, for each z from -1 to 2 of a grid of two layers, what the layer holds and what its partner says: start and length, or the refusal's
 // number. The bytes are letters that differ by layer, so a part in another place is seen.
+#![tactic(auto)]
 use cells::Counts;
 use grids::LayerPart;
 use libc::STDOUT_FILENO;

@@ -158,6 +158,7 @@ module _ (t e : Steps) where
 
   -- each of them is visited where it is among e
   by_some : (l : List Steps) (s : Steps) → ((a : Axis) → s a ≤ e a) → Some (λ w. w ≡ s) l → Some (λ v. v ≡ record { from = t; by = s }) (visits_by t e l)
+  by_some [] s h x'' = elim x'' [ ]
   by_some (w ∷ l) s h (this_one is) = go (among w e) (all_among w e (λ a. omega (arith, h a, on_axis is a)))
     where
       on_axis : {w s : Steps} → w ≡ s → (a : Axis) → w a ≡ s a

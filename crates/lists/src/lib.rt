@@ -1,4 +1,5 @@
 // Line lists: the cells of the 6-line and of the 26-line, three numbers a cell, at the front of a lent slice.
+#![tactic(auto)]
 ghost use Rattle.std.specs.Prelude.{◌≡◌, ◌+◌, ◌≤◌, length};
 ghost use Rattle.lists.specs.Kept.{put3};
 
@@ -12,7 +13,7 @@ pub use six::{Heading, SixSpot, SixWay, crossed, first_spot, line6, six_way_of};
 pub use twenty_six::line26;
 
 // The number of cells listed, or why none are.
-#[derive(Drop)]
+#[derive(Clone, Copy)]
 pub enum Listed {
     Cells(u32),
     Refused(Refusal),

@@ -14,7 +14,7 @@ use lines::{Doubled, Tripod};
 use tripod::Diffs;
 
 // One cell towards Q, on each axis.
-#[derive(Drop)]
+#[derive(Clone, Copy)]
 pub struct Heading {
     pub x: i32,
     pub y: i32,
@@ -22,14 +22,14 @@ pub struct Heading {
 }
 
 // What stays the same along a line.
-#[derive(Drop)]
+#[derive(Clone, Copy)]
 pub struct SixWay {
     pub towards: Heading,
     pub twice: Doubled,
 }
 
 // A place of a line: its cell and its decision values.
-#[derive(Drop)]
+#[derive(Clone, Copy)]
 pub struct SixSpot {
     pub at: Cell,
     pub e: Tripod,

@@ -11,7 +11,7 @@ use cells::{Cell, Refusal, Verdict};
 use tripod::Diffs;
 
 // What moves a coordinate along a 26-line: one cell towards Q, and what is added to what is due where it stays and where it goes.
-#[derive(Drop)]
+#[derive(Clone, Copy)]
 pub struct Pace {
     pub by: i32,
     pub stay: i32,
@@ -19,21 +19,21 @@ pub struct Pace {
 }
 
 // A coordinate on its way along a 26-line; `due` is at least 0 exactly where the next cell moves it.
-#[derive(Drop)]
+#[derive(Clone, Copy)]
 pub struct Coordinate {
     pub at: i32,
     pub due: i32,
 }
 
 // The three of each.
-#[derive(Drop)]
+#[derive(Clone, Copy)]
 pub struct Paces {
     pub x: Pace,
     pub y: Pace,
     pub z: Pace,
 }
 
-#[derive(Drop)]
+#[derive(Clone, Copy)]
 pub struct Coordinates {
     pub x: Coordinate,
     pub y: Coordinate,

@@ -1,5 +1,6 @@
 // The place of a hit with its entry face, worked out once, where a walk stopped. Which axis was crossed last cannot be foreseen: what depends on it is
 // chosen number by number, so that no branch is taken on it.
+#![tactic(auto)]
 ghost use Rattle.std.specs.Prelude.{◌≡◌, cond, ◌&&◌, ◌≤◌};
 ghost use Rattle.std.specs.Int.Signed.{le_z};
 ghost use Rattle.cells.specs.declared.Face.TheVariants as Face;
@@ -45,7 +46,7 @@ fn both(s: bool, t: bool) -> bool
 }
 
 // Which axis was crossed last: x; or else z where it comes after y; or else y.
-#[derive(Drop)]
+#[derive(Clone, Copy)]
 pub struct Last {
     pub x: bool,
     pub z: bool,

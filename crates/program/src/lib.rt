@@ -1,4 +1,5 @@
 // The program's steps: each takes the next frame of the input, and gives the text and what comes next.
+#![tactic(auto)]
 ghost use Rattle.std.specs.Prelude.{◌≡◌, ◌+◌, ◌-◌, ◌^◌, ◌≤◌, ◌<◌, length};
 ghost use Rattle.io.specs.Counts.{IsPrefixLen as Count};
 ghost use Rattle.texts.specs.Text.{line_room, Puts};
@@ -18,14 +19,14 @@ pub const PAIR_MOST: usize = 255;
 pub const TEXT_ROOM: usize = 320;
 
 // What comes next: the pair of a number, or nothing any more.
-#[derive(Drop)]
+#[derive(Clone, Copy)]
 pub enum Next {
     On(u64),
     Over,
 }
 
 // What a step gives: how many bytes of text stand in the lent bytes, and what comes next.
-#[derive(Drop)]
+#[derive(Clone, Copy)]
 pub struct Step {
     pub long: usize,
     pub next: Next,

@@ -1,4 +1,5 @@
 // Records: venues read and written, pairs read. Big-endian; four bytes, the length of what follows, stand first, then the version.
+#![tactic(auto)]
 mod heads; // what both records begin with
 mod pairs;
 mod venues;

@@ -6,14 +6,14 @@ use crate::heads::{announced, head_check, version_of};
 use cells::{Cell, Refusal, Rule, Verdict};
 
 // A pair that was read: the ends P and Q of a line, and the rule of its ties.
-#[derive(Drop)]
+#[derive(Clone, Copy)]
 pub struct Pair {
     pub p: Cell,
     pub q: Cell,
     pub rule: Rule,
 }
 
-#[derive(Drop)]
+#[derive(Clone, Copy)]
 pub enum PairRead {
     Read(Pair),
     Refused(Refusal),

@@ -7,14 +7,14 @@ use crate::heads::{announced, head_check, version_of};
 use cells::{Counts, Refusal, Verdict};
 
 // A venue that was read: its counts, and the part of the bytes that holds its cells.
-#[derive(Drop)]
+#[derive(Clone, Copy)]
 pub struct Venue {
     pub counts: Counts,
     pub start: usize,
     pub long: usize,
 }
 
-#[derive(Drop)]
+#[derive(Clone, Copy)]
 pub enum VenueRead {
     Read(Venue),
     Refused(Refusal),

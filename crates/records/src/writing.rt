@@ -12,7 +12,7 @@ use cells::{Counts, Refusal, Verdict};
 const VERSION: u8 = 1;
 
 // The number of bytes written, or why none are.
-#[derive(Drop)]
+#[derive(Clone, Copy)]
 pub enum Written {
     Wrote(usize),
     Refused(Refusal),

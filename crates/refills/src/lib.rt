@@ -1,4 +1,5 @@
 // One cell set, or a box of cells refilled, with one byte: the masks of the bricks concerned are made anew, and the total moves as their ones do.
+#![tactic(auto)]
 ghost use Rattle.std.specs.Prelude.{◌+◌, ◌*◌, ◌^◌, ◌≤◌, ◌<◌, ◌≡◌, length};
 ghost use Rattle.std.specs.Int.Count.{ones};
 ghost use Rattle.cells.specs.Fills.{Filled};
@@ -14,7 +15,7 @@ use bricks::{Slot, Tally};
 use cells::{Cell, Counts, Refusal, Verdict};
 
 // Whether masks are those of the bytes, and how many ones they have.
-#[derive(Drop)]
+#[derive(Clone, Copy)]
 pub enum Agreed {
     Ones(u64),
     Differs,

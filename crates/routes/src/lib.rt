@@ -1,5 +1,6 @@
 // The route of a walk through a grid: the place of a byte moves by strides, the decision values of the tripod by sums. No division, and no
 // product after its start.
+#![tactic(auto)]
 ghost use Rattle.std.specs.Prelude.{◌≡◌, ◌≤◌, length};
 ghost use Rattle.lines.specs.Steps.{at};
 ghost use Rattle.lines.specs.Lines.{differences};
@@ -12,7 +13,7 @@ use lines::{Doubled, Order, Tripod};
 use tripod::Diffs;
 
 // How far the place of a byte moves with a cell towards Q, on each axis.
-#[derive(Drop)]
+#[derive(Clone, Copy)]
 pub struct Strides {
     pub x: i32,
     pub y: i32,
@@ -20,7 +21,7 @@ pub struct Strides {
 }
 
 // What stays the same along a walk.
-#[derive(Drop)]
+#[derive(Clone, Copy)]
 pub struct Route {
     pub n: Counts,
     pub p: Cell,
@@ -32,7 +33,7 @@ pub struct Route {
 }
 
 // A place of a walk: where its byte is, and its decision values.
-#[derive(Drop)]
+#[derive(Clone, Copy)]
 pub struct Spot {
     pub at: i32,
     pub e: Tripod,

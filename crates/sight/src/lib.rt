@@ -1,4 +1,5 @@
 // The sight answer: is anything in the way from a camera to the ball? Two lookups, then the adaptive walk.
+#![tactic(auto)]
 ghost use Rattle.std.specs.Prelude.{◌≡◌, length};
 ghost use Rattle.cells.specs.declared.Verdict.TheVariants.{Fine};
 ghost use Rattle.cells.specs.Checks.{by_verdict};
@@ -14,7 +15,7 @@ use survey::{Lookup, Placement, Point};
 use walks::FirstHit;
 
 // What is in the way: the share of the way to it, its cell and code, how many cells were read, and the face by which the line came in.
-#[derive(Drop)]
+#[derive(Clone, Copy)]
 pub struct Block {
     pub share: f64,
     pub cell: Cell,
@@ -24,7 +25,7 @@ pub struct Block {
 }
 
 // The sight answer.
-#[derive(Drop)]
+#[derive(Clone, Copy)]
 pub enum Sight {
     Clear,
     Blocked(Block),

@@ -1,6 +1,7 @@
 // The program `sightlines`: a venue and then pairs come in on standard input, and what the walks between each pair's ends find goes out on standard
 // output. What is written is decided by the steps of `program`; here frames are read and texts are written. A read or a write that fails ends it, with
 // one line on standard error.
+#![tactic(auto)]
 ghost use Rattle.std.specs.Prelude.{◌≡◌, ℕ, ◌+◌, ◌-◌, ◌^◌, ◌≤◌, ◌<◌, length, take};
 ghost use Rattle.io.specs.Counts.{IsPrefixLen as Count};
 ghost use Rattle.records.specs.Heads.{length_field};

@@ -7,7 +7,7 @@ use bricks::Tally;
 
 // The answer of the three calls: the number of solid cells.
 #[repr(C)]
-#[derive(Drop)]
+#[derive(Clone, Copy)]
 pub struct OatTally {
     pub said: OatSaid,
     pub total: u64,

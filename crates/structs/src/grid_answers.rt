@@ -8,14 +8,14 @@ use grids::{Completeness, LayerPart};
 
 // The answer of a call that accepts or refuses.
 #[repr(C)]
-#[derive(Drop)]
+#[derive(Clone, Copy)]
 pub struct OatVerdict {
     pub said: OatSaid,
 }
 
 // The answer of the completeness call: 1 yes, 0 no.
 #[repr(C)]
-#[derive(Drop)]
+#[derive(Clone, Copy)]
 pub struct OatComplete {
     pub said: OatSaid,
     pub yes: u32,
@@ -23,7 +23,7 @@ pub struct OatComplete {
 
 // A part of the caller's bytes: where it starts and how long it is.
 #[repr(C)]
-#[derive(Drop)]
+#[derive(Clone, Copy)]
 pub struct OatPart {
     pub said: OatSaid,
     pub offset: u64,

@@ -7,7 +7,7 @@ use survey::{Placement, Point};
 
 // A cell.
 #[repr(C)]
-#[derive(Drop)]
+#[derive(Clone, Copy)]
 pub struct OatCell {
     pub x: i32,
     pub y: i32,
@@ -26,7 +26,7 @@ pub fn cell(c: OatCell) -> Cell
 
 // How many cells a grid has along each axis.
 #[repr(C)]
-#[derive(Drop)]
+#[derive(Clone, Copy)]
 pub struct OatCounts {
     pub nx: u32,
     pub ny: u32,
@@ -46,7 +46,7 @@ pub fn counts(n: OatCounts) -> Counts
 
 // How a walk is made; start: 0 not tested, any other number tested; rule: 1 or 2.
 #[repr(C)]
-#[derive(Drop)]
+#[derive(Clone, Copy)]
 pub struct OatManner {
     pub start: u32,
     pub rule: u32,
@@ -75,7 +75,7 @@ pub fn manner(how: OatManner) -> Manner
 
 // Where the grid lies: its origin and its cell edge, in metres.
 #[repr(C)]
-#[derive(Drop)]
+#[derive(Clone, Copy)]
 pub struct OatPlacement {
     pub ox: f64,
     pub oy: f64,
@@ -97,7 +97,7 @@ pub fn placement(at: OatPlacement) -> Placement
 
 // A surveyed point, in metres.
 #[repr(C)]
-#[derive(Drop)]
+#[derive(Clone, Copy)]
 pub struct OatPoint {
     pub x: f64,
     pub y: f64,

@@ -7,7 +7,7 @@ use lists::Listed;
 
 // The answer of a list: the number of cells.
 #[repr(C)]
-#[derive(Drop)]
+#[derive(Clone, Copy)]
 pub struct OatListed {
     pub said: OatSaid,
     pub count: u32,

@@ -9,7 +9,7 @@ use records::{PairRead, VenueRead, Written};
 
 // A venue's record that was read: its counts, and where its cells start in the caller's bytes and how many they are.
 #[repr(C)]
-#[derive(Drop)]
+#[derive(Clone, Copy)]
 pub struct OatVenue {
     pub said: OatSaid,
     pub nx: u32,
@@ -21,7 +21,7 @@ pub struct OatVenue {
 
 // A pair's record that was read: P and Q, and the number of the rule.
 #[repr(C)]
-#[derive(Drop)]
+#[derive(Clone, Copy)]
 pub struct OatPair {
     pub said: OatSaid,
     pub px: i32,
@@ -35,7 +35,7 @@ pub struct OatPair {
 
 // The number of bytes of a venue's record that was written.
 #[repr(C)]
-#[derive(Drop)]
+#[derive(Clone, Copy)]
 pub struct OatWritten {
     pub said: OatSaid,
     pub written: u64,

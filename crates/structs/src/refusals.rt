@@ -7,7 +7,7 @@ use cells::{Axis, End, Part, Refusal};
 // What an answer begins with: the refusal's number, 0 where the call was accepted; the end (1 P, 2 Q) and the axis (1 x, 2 y, 3 z, or 4 the edge of
 // a cell) that it names, 0 for none.
 #[repr(C)]
-#[derive(Drop)]
+#[derive(Clone, Copy)]
 pub struct OatSaid {
     pub refusal: u32,
     pub end: u32,

@@ -10,7 +10,7 @@ use survey::Lookup;
 
 // The cell of a point.
 #[repr(C)]
-#[derive(Drop)]
+#[derive(Clone, Copy)]
 pub struct OatFound {
     pub said: OatSaid,
     pub x: i32,
@@ -44,7 +44,7 @@ pub fn flat_found(l: Lookup) -> OatFound
 
 // The sight answer; blocked: 0 clear, 1 something in the way at a cell, with the share of the way to it and the entry face.
 #[repr(C)]
-#[derive(Drop)]
+#[derive(Clone, Copy)]
 pub struct OatSight {
     pub said: OatSaid,
     pub blocked: u32,

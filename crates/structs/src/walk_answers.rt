@@ -9,7 +9,7 @@ use walks::{FirstHit, Hit};
 
 // The answer of a first-hit call; hit: 0 clear, 1 a hit at a cell, with its code, its place num over den and its entry face.
 #[repr(C)]
-#[derive(Drop)]
+#[derive(Clone, Copy)]
 pub struct OatHit {
     pub said: OatSaid,
     pub hit: u32,

@@ -1,4 +1,6 @@
 // From metres to cells: a surveyed point turned into its cell.
+#![tactic(auto)]
+
 ghost use Rattle.std.specs.Prelude.{◌≡◌, true, ◌+◌, ◌<◌};
 ghost use Rattle.std.specs.Float.Ieee.{le};
 ghost use Rattle.std.specs.Float.Ieee.Scale.{finite};
@@ -10,7 +12,7 @@ ghost use Rattle.survey.specs.Survey.{bad_edge, placement_check, PlacedGrid, quo
 use cells::{Axis, Cell, Counts, End, Part, Refusal, Verdict};
 
 // Where the grid stands in the venue: its origin and the edge of a cell, in metres.
-#[derive(Drop)]
+#[derive(Clone, Copy)]
 pub struct Placement {
     pub ox: f64,
     pub oy: f64,
@@ -19,7 +21,7 @@ pub struct Placement {
 }
 
 // A surveyed point, in metres; or where it lies in cells from the origin.
-#[derive(Drop)]
+#[derive(Clone, Copy)]
 pub struct Point {
     pub x: f64,
     pub y: f64,
@@ -27,14 +29,14 @@ pub struct Point {
 }
 
 // The answer of a lookup.
-#[derive(Drop)]
+#[derive(Clone, Copy)]
 pub enum Lookup {
     Cell(Cell),
     Refused(Refusal),
 }
 
 // The whole numbers from lo up to hi, hi left out.
-#[derive(Drop)]
+#[derive(Clone, Copy)]
 struct Span {
     lo: u32,
     hi: u32,

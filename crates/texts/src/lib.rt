@@ -1,4 +1,5 @@
 // The program's lines as bytes, from a place of a lent slice on.
+#![tactic(auto)]
 ghost use Rattle.std.specs.Prelude.{◌≡◌, [], ◌∷◌, ◌++◌, ◌+◌, ◌≤◌, ◌<◌, nat_abs, length};
 ghost use Rattle.texts.specs.Text.{decimal, signed_decimal, axis_letter, face_word, parted, ended, cell_fields};
 ghost use Rattle.texts.specs.Text.{line_room, hit_line, clear_line, pair_refused_line, venue_refused_line, Puts};

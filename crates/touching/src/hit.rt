@@ -17,7 +17,7 @@ use routes::{Route, Spot};
 use walks::FirstHit;
 
 // A turn of the walk, over the cells of a tie, with how many faces the tie has.
-#[derive(Drop)]
+#[derive(Clone, Copy)]
 pub struct TieTurn {
     pub turn: Turn,
     pub faces: u32,

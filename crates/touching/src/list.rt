@@ -15,7 +15,7 @@ use lists::{Listed, SixSpot, SixWay};
 use tripod::Diffs;
 
 // Past a tie: the spot behind it, and how many cells and how many faces it has.
-#[derive(Drop)]
+#[derive(Clone, Copy)]
 pub struct PastCells {
     pub spot: SixSpot,
     pub cells: u32,
@@ -23,7 +23,7 @@ pub struct PastCells {
 }
 
 // Past a tie, by its values alone.
-#[derive(Drop)]
+#[derive(Clone, Copy)]
 pub struct PastValues {
     pub e: Tripod,
     pub cells: u32,

@@ -1,5 +1,6 @@
 // The trail: the cells on which the adaptive walk stands, listed. They are cells of the 6-line, so one face after another is crossed; which of the cells on
 // the way are listed is seen from the bytes and from how far the next cell of the 26-line is.
+#![tactic(auto)]
 ghost use Rattle.std.specs.Prelude.{◌≡◌, ◌*◌, ◌≤◌, length};
 ghost use Rattle.cells.specs.declared.Verdict.TheVariants.{Fine};
 ghost use Rattle.walks.specs.declared.Walker.TheVariants.{Adaptive};
@@ -15,7 +16,7 @@ use lists::Listed;
 use routes::{Route, Spot};
 
 // Where the walk stands, and how many faces lead to the next cell of the 26-line; none where it stands on one.
-#[derive(Drop)]
+#[derive(Clone, Copy)]
 pub struct Stand {
     pub spot: Spot,
     pub left: u32,

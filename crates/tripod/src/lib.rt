@@ -1,6 +1,8 @@
 // The tripod: three decision values, moved by sums and tested by sign. One leaf picks the next face, one the next tie, one the long step; lists and walks
 // use these.
 // The order of the axes in a tie is in the values themselves: no test in a loop knows it.
+#![tactic(auto)]
+
 ghost use Rattle.std.specs.Prelude.{◌≡◌, ◌≤◌, true};
 ghost use Rattle.cells.specs.Touching.{apart};
 ghost use Rattle.lines.specs.Steps.{at, total};
@@ -13,7 +15,7 @@ use cells::{Axis, Cell, Rule};
 use lines::{Doubled, Order, Tie, Tripod};
 
 // The differences of a line's ends.
-#[derive(Drop)]
+#[derive(Clone, Copy)]
 pub struct Diffs {
     pub a: u32,
     pub b: u32,
@@ -21,7 +23,7 @@ pub struct Diffs {
 }
 
 // The axes that a long step moves along.
-#[derive(Drop)]
+#[derive(Clone, Copy)]
 pub struct Moves {
     pub x: bool,
     pub y: bool,

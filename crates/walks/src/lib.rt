@@ -1,15 +1,17 @@
 // Theory only: the plain and the adaptive walk stand in specs/, the laws about them in proofs/. The types are the answer of a first-hit call.
+#![tactic(auto)]
+
 use cells::{Cell, Face, Refusal};
 
 // Which of the two walks.
-#[derive(Drop)]
+#[derive(Clone, Copy)]
 pub enum Walker {
     Plain,
     Adaptive,
 }
 
 // By which crossing the line enters the cell of a hit: its place, the fraction num over den of the way, not reduced; and its face.
-#[derive(Drop)]
+#[derive(Clone, Copy)]
 pub struct Place {
     pub num: u32,
     pub den: u32,
@@ -17,7 +19,7 @@ pub struct Place {
 }
 
 // The solid cell where a walk ended.
-#[derive(Drop)]
+#[derive(Clone, Copy)]
 pub struct Hit {
     pub cell: Cell,
     pub code: u8,
@@ -26,7 +28,7 @@ pub struct Hit {
 }
 
 // The answer of a first-hit call: clear with the number of reads, a hit, or a refusal.
-#[derive(Drop)]
+#[derive(Clone, Copy)]
 pub enum FirstHit {
     Clear(u32),
     Hit(Hit),
