@@ -21,14 +21,11 @@ unfolding over
 set_over s at b h = set_split s at b h ∙ ap (λ k. take at s ++ b ∷ drop k s) (sym (add-one at))
 
 -- a part lent from at on and filled from its front
-pub lent_over : (s p : List ℕ) (at : ℕ) (m : List ℕ) → at + length p ≤ length s
-    → m ≡ take (length p) p ++ drop (length p) (take (length s - at) (drop at s)) → put_mid at (length s - at) s m ≡ over at p s
+pub lent_over : (s p : List ℕ) (at : ℕ) (m : List ℕ) → m ≡ p → put_mid at (at + length p - at) s m ≡ over at p s
 unfolding over
-lent_over s p at m h e =
-    let all : take (length s - at) (drop at s) ≡ drop at s = take_all (length s - at) (drop at s) (simp length-drop (omega arith)) in
-    let none : drop (length s - at) (drop at s) ≡ [] = drop_of_length-le (drop at s) {i = length s - at} (simp length-drop (omega arith)) in
-    let filled : m ≡ p ++ drop (at + length p) s = e ∙ ap₂ (λ x y. x ++ drop (length p) y) (take-length p) all ∙ ap (λ x. p ++ x) (drop-drop (length p) at s) in
-    ap₂ (λ x y. take at s ++ (x ++ y)) filled none ∙ ap (λ x. take at s ++ x) (append-nil (p ++ drop (at + length p) s))
+lent_over s p at m e =
+    let long : at + length p - at ≡ length p = omega arith in
+    ap₂ (λ x n. take at s ++ (x ++ drop n (drop at s))) e long ∙ ap (λ x. take at s ++ (p ++ x)) (drop-drop (length p) at s)
 
 module _ (at : ℕ) (p s : List ℕ) (fits : at + length p ≤ length s) where
   front_length : length (take at s ++ p) ≡ at + length p

@@ -1,5 +1,6 @@
 // Line lists: the cells of the 6-line and of the 26-line, three numbers a cell, at the front of a lent slice.
 #![tactic(auto)]
+
 ghost use Rattle.std.specs.Prelude.{◌≡◌, ◌+◌, ◌≤◌, length};
 ghost use Rattle.lists.specs.Kept.{put3};
 
