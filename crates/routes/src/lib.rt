@@ -1,6 +1,7 @@
 // The route of a walk through a grid: the place of a byte moves by strides, the decision values of the tripod by sums. No division, and no
 // product after its start.
 #![tactic(auto)]
+
 ghost use Rattle.std.specs.Prelude.{◌≡◌, ◌≤◌, length};
 ghost use Rattle.lines.specs.Steps.{at};
 ghost use Rattle.lines.specs.Lines.{differences};

@@ -1,0 +1,50 @@
+-- `lists::six::line6` meets its contract: each way out has the verdict that led there, and an accepted call is filled in. Assumes nothing.
+use mathlib.Core.Path.{◌≡◌, sym, ap, ◌∙◌, subst}
+use Prim.Native.Nat.{◌+◌}
+use native.Mathlib.Omega.{arith}
+use Rattle.cells.specs.declared.Verdict.TheVariants.{Fine}
+use Rattle.lines.specs.Steps.{total}
+use Rattle.lines.specs.Preference.{by_rule}
+use Rattle.lines.specs.Lines.{differences, six_line}
+use Rattle.lines.proofs.Cells.{six_length}
+use Rattle.lists.specs.declared.Listed.TheVariants.{Cells}
+use Rattle.lists.specs.Lists.{ends_check, Line6}
+use Rattle.lists.proofs.Front.{refused_first, refused_room, listed_all, ends_fine}
+use Rattle.lists.proofs.six.line6.Goals as goal
+use Rattle.lists.proofs.six.line6.Goals.{After-total-cells, In-Fine}
+
+-- where both ends have passed
+fine : (c : In-Fine) → ends_check c.args.p c.args.q ≡ Fine
+fine c = sym c.check_ends.ensures ∙ c.in-Fine.is
+
+-- how many cells there are
+count : (c : After-total-cells) →
+    total (differences c.args.p c.args.q) ≡ c.total-cells.result
+count c = sym (c.total-cells.ensures ∙ ap total c.measured-d.ensures.0)
+
+pub measured-d-requires : goal.measured-d-requires
+measured-d-requires c = ends_fine _ _ (fine c)
+
+pub fill6-requires : goal.fill6-requires
+fill6-requires c =
+    let (hp, hq) = ends_fine _ _ (fine ((goal.at.fill6-requires c).In-Fine)) in
+    (record { p_in = hp; q_in = hq; is = c.measured-d.ensures.0; short = c.measured-d.ensures.1 }, omega arith)
+
+pub returns-in-Refused : goal.returns-in-Refused
+returns-in-Refused c =
+    refused_first (six_line (by_rule c.args.rule c.args.p c.args.q) c.args.p c.args.q) (ends_check c.args.p c.args.q) c.args.out.now _
+    (sym c.check_ends.ensures ∙ c.in-Refused.is)
+
+pub returns-then-out-cells : goal.returns-then-out-cells
+returns-then-out-cells c =
+    refused_room (six_line (by_rule c.args.rule c.args.p c.args.q) c.args.p c.args.q) (ends_check c.args.p c.args.q)
+    c.args.out.now (fine ((goal.at.returns-then-out-cells c).In-Fine))
+    (omega (arith, six_length (by_rule c.args.rule c.args.p c.args.q) c.args.p c.args.q, count ((goal.at.returns-then-out-cells c).After-total-cells)))
+
+pub returns-else-out-cells : goal.returns-else-out-cells
+returns-else-out-cells c =
+    let p = c.args.p in
+    let q = c.args.q in
+    let r = by_rule c.args.rule p q in
+    subst (λ n. Line6 c.args.rule p q c.args.out.now (Cells n) c.fill6.new.0) (six_length r p q ∙ ap (λ k. k + 1) (count ((goal.at.returns-else-out-cells c).After-total-cells)))
+    (listed_all (six_line r p q) (ends_check p q) c.args.out.now _ (fine ((goal.at.returns-else-out-cells c).In-Fine)) (omega (arith, six_length r p q, count ((goal.at.returns-else-out-cells c).After-total-cells))) c.fill6.ensures)
