@@ -1,6 +1,7 @@
 // The place of a hit with its entry face, worked out once, where a walk stopped. Which axis was crossed last cannot be foreseen: what depends on it is
 // chosen number by number, so that no branch is taken on it.
 #![tactic(auto)]
+
 ghost use Rattle.std.specs.Prelude.{◌≡◌, cond, ◌&&◌, ◌≤◌};
 ghost use Rattle.std.specs.Int.Signed.{le_z};
 ghost use Rattle.cells.specs.declared.Face.TheVariants as Face;
