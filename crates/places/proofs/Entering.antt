@@ -55,6 +55,8 @@ module _ (o : Order) (D t : Steps) where
 
       by : (i j d f h x : ℕ) → 0 < i → 0 < j → (1 + 2 * (i - 1)) * (2 * d) < (1 + 2 * (j - 1)) * (2 * f) + x → x + h ≡ 1 →
           behind (numerator j) d (numerator i) f h ≡ true
+      by zero j d f h x si sj lt sum = elim si [ ]
+      by (suc i) zero d f h x si sj lt sum = elim sj [ ]
       by (suc i) (suc j) d f h x si sj lt sum =
           let k = simp less_one at lt in
           let le : numerator (suc i) * d + h ≤ numerator (suc j) * f = rw (numerator_suc i, numerator_suc j) (omega arith) in
@@ -80,6 +82,8 @@ module _ (o : Order) (D t : Steps) where
 
       by : (i j d f h x : ℕ) → 0 < i → 0 < j → (1 + 2 * (i - 1)) * (2 * d) < (1 + 2 * (j - 1)) * (2 * f) + x → x ≡ h → h ≤ 1 →
           behind (numerator i) f (numerator j) d h ≡ false
+      by zero j d f h x si sj lt is most = elim si [ ]
+      by (suc i) zero d f h x si sj lt is most = elim sj [ ]
       by (suc i) (suc j) d f h x si sj lt is most =
           let k = simp less_one at lt in
           let gt : numerator (suc i) * d < numerator (suc j) * f + h = rw (numerator_suc i, numerator_suc j) (omega arith) in

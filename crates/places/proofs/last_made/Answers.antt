@@ -11,8 +11,8 @@ returns c =
     let i = c.numerator_of-i.ensures in
     let j = c.numerator_of-j.ensures in
     let k = c.numerator_of-k.ensures in
-    let y-before = c.is_behind-y_before.ensures ∙ (λ n. behind (i ((goal.at.returns c).After-numerator_of-k)) a.d.a (j ((goal.at.returns c).After-numerator_of-k)) a.d.b (h ((goal.at.returns c).After-numerator_of-k))) in
-    let z-before = c.is_behind-z_before.ensures ∙ (λ n. behind (i ((goal.at.returns c).After-numerator_of-k)) a.d.a (k ((goal.at.returns c).After-numerator_of-k)) a.d.c (h ((goal.at.returns c).After-numerator_of-k))) in
+    let y-before = c.is_behind-y_before.ensures ∙ (λ n. behind (i n) a.d.a (j n) a.d.b (h n)) in
+    let z-before = c.is_behind-z_before.ensures ∙ (λ n. behind (i n) a.d.a (k n) a.d.c (h n)) in
     let x = c.both-x.ensures ∙ ap₂ ◌&&◌ y-before z-before in
-    let z = c.is_behind-z.ensures ∙ (λ n. behind (k ((goal.at.returns c).After-numerator_of-k)) a.d.c (j ((goal.at.returns c).After-numerator_of-k)) a.d.b (h ((goal.at.returns c).After-numerator_of-k))) in
+    let z = c.is_behind-z.ensures ∙ (λ n. behind (k n) a.d.c (j n) a.d.b (h n)) in
     λ i. record { x = x i; z = z i }
