@@ -2,22 +2,21 @@
 use lib.IntN.{pos}
 use Rattle.cells.proofs.Machine.{small_held, sum_fits, sum_held, diff_fits, diff_held}
 use Rattle.runs.proofs.Sums.{zero_less_fits, zero_less_held}
-use Rattle.runs.proofs.sides_of.Statement.{statement}
-use Rattle.runs.proofs.sides_of.Tie as tie
+use Rattle.runs.proofs.sides_of.Goals as goal
 
-add-t10 : tie.Need-overflow-add-t10
-add-t10 c = let k = c.requires in search (sum_fits, k)
+pub overflow_add-v : goal.overflow_add-v
+overflow_add-v c = let k = c.requires in search (sum_fits, k)
 
-sub-t11 : tie.Need-overflow-sub-t11
-sub-t11 c = let k = c.requires in search (diff_fits, k)
+pub overflow_sub-v : goal.overflow_sub-v
+overflow_sub-v c = let k = c.requires in search (diff_fits, k)
 
-sub-t12 : tie.Need-overflow-sub-t12
-sub-t12 c = let k = c.requires in search (zero_less_fits, k)
+pub overflow_sub-v-2 : goal.overflow_sub-v-2
+overflow_sub-v-2 c = let k = c.requires in search (zero_less_fits, k)
 
-sub-t10 : tie.Need-overflow-sub-t10
-sub-t10 c = let k = c.requires in search (diff_fits, k)
+pub overflow_sub-w : goal.overflow_sub-w
+overflow_sub-w c = let k = c.requires in search (diff_fits, k)
 
-returns : tie.Need-returns
+pub returns : goal.returns
 returns c =
     let (su, sv, sw, u2, v2, w2) = c.requires in
     λ i. record {
@@ -30,6 +29,3 @@ returns c =
         go = record { at = small_held _ sw i; due = diff_held _ _ w2 u2 i; wv = small_held _ v2 i };
       };
     }
-
-pub sides-of-spec : {M : Type 1} → statement M
-sides-of-spec = tie.close (tie.spec add-t10 sub-t11 sub-t12 sub-t10 returns)

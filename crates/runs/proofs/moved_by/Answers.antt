@@ -1,0 +1,27 @@
+-- `runs::moved_by` meets its contract: of small numbers every sum fits. Assumes nothing.
+use Rattle.runs.proofs.Sums.{move_fits, move_held}
+use Rattle.runs.proofs.moved_by.Goals as goal
+
+pub overflow_add-at : goal.overflow_add-at
+overflow_add-at c =
+    let m = c.requires in
+    move_fits _ _ _ _ m.from.at m.from.due m.go.at m.stay.at _ c.by_sign.ensures
+
+pub overflow_add-next : goal.overflow_add-next
+overflow_add-next c =
+    let m = c.requires in
+    move_fits _ _ _ _ m.from.due m.from.due m.go.due m.stay.due _ c.by_sign-2.ensures
+
+pub overflow_add-wv : goal.overflow_add-wv
+overflow_add-wv c =
+    let m = c.requires in
+    move_fits _ _ _ _ m.from.wv m.from.due m.go.wv m.stay.wv _ c.by_sign-3.ensures
+
+pub returns : goal.returns
+returns c =
+    let m = c.requires in
+    λ i. record {
+      at = move_held _ _ _ _ m.from.at m.from.due m.go.at m.stay.at _ c.by_sign.ensures i;
+      due = move_held _ _ _ _ m.from.due m.from.due m.go.due m.stay.due _ c.by_sign-2.ensures i;
+      wv = move_held _ _ _ _ m.from.wv m.from.due m.go.wv m.stay.wv _ c.by_sign-3.ensures i;
+    }
