@@ -1,0 +1,31 @@
+-- `hits::first_adaptive` meets its contract: a refusal is the verdict's, and an accepted walk answers along its route. Assumes nothing.
+use mathlib.Core.Path.{◌≡◌, sym, ◌∙◌}
+use lib.ListN.{length}
+use Rattle.cells.specs.declared.Verdict.TheVariants.{Fine}
+use Rattle.walks.specs.declared.Walker.TheVariants.{Adaptive}
+use Rattle.grids.specs.Inside.{walk_check}
+use Rattle.routes.proofs.Accepting.{ends_enclosed, route_planned}
+use Rattle.hits.proofs.Answering.{refused_finds, found_finds}
+use Rattle.hits.proofs.first_adaptive.Goals as goal
+use Rattle.hits.proofs.first_adaptive.Goals.{In-Fine}
+
+-- where the call has passed its tests
+fine : (c : In-Fine) → let a = c.args in walk_check a.n (length a.cells.now) a.p a.q ≡ Fine
+fine c = sym c.check_walk.ensures ∙ c.in-Fine.is
+
+pub route_of-requires : goal.route_of-requires
+route_of-requires c = ends_enclosed _ _ _ _ (fine c)
+
+pub adaptive_answer-requires : goal.adaptive_answer-requires
+adaptive_answer-requires c = route_planned _ _ _ _ (fine ((goal.at.adaptive_answer-requires c).In-Fine)) _ _ c.route_of.ensures
+
+pub returns-in-Refused : goal.returns-in-Refused
+returns-in-Refused c =
+    let a = c.args in
+    refused_finds Adaptive a.how a.n a.cells.now a.p a.q (sym c.check_walk.ensures ∙ c.in-Refused.is)
+
+pub returns-in-Fine : goal.returns-in-Fine
+returns-in-Fine c =
+    let a = c.args in
+    found_finds Adaptive a.how a.n a.cells.now a.p a.q c.route_of.result (fine ((goal.at.returns-in-Fine c).In-Fine)) c.route_of.ensures
+    c.adaptive_answer.ensures

@@ -1,0 +1,21 @@
+-- `hits::past_start` meets its contract: a cell that is tested, or from which no face is left, stays; else its first face is crossed. Assumes nothing.
+use mathlib.Core.Path.{sym, subst}
+use mathlib.Core.Logic.{inl, inr}
+use mathlib.Core.Bool.{false}
+use native.Mathlib.Omega.{arith}
+use Rattle.hits.specs.Found.{PastStart}
+use Rattle.hits.proofs.Starting.{stays, passes}
+use Rattle.hits.proofs.past_start.Goals as goal
+
+pub returns-then-tested : goal.returns-then-tested
+returns-then-tested c = stays _ _ _ _ (inl c.if-tested.true)
+
+pub returns-then-faces-eq0 : goal.returns-then-faces-eq0
+returns-then-faces-eq0 c = stays _ _ _ _ (inr c.if-faces-eq0.true)
+
+pub returns : goal.returns
+returns c =
+    let a = c.args in
+    subst (λ t. PastStart a.k a.s a.faces t (record { spot = c.crossed-spot.result; past = 1 })) (sym c.if-tested.false)
+    (subst (λ p. PastStart a.k a.s a.faces false (record { spot = p; past = 1 })) (sym c.crossed-spot.ensures)
+    (passes a.k a.s a.faces _ (omega (arith, c.if-faces-eq0.false)) c.next_face.ensures))

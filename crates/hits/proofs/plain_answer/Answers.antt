@@ -1,0 +1,10 @@
+-- `hits::plain_answer` meets its contract: the walk stops where the definition's ends, and the answer is worked out from there. Assumes nothing.
+use Rattle.walks.specs.declared.Walker.TheVariants.{Plain}
+use Rattle.hits.proofs.Answering.{stop_byte, stop_found}
+use Rattle.hits.proofs.plain_answer.Goals as goal
+
+pub answer_of-requires : goal.answer_of-requires
+answer_of-requires c = (c.requires, stop_byte Plain c.args.how.start c.args.cells.now c.args.k c.requires _ c.walk_plain-stop.ensures)
+
+pub returns : goal.returns
+returns c = stop_found Plain c.args.how.start c.args.cells.now c.args.k c.requires _ c.walk_plain-stop.ensures c.answer_of.ensures

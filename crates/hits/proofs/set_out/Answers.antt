@@ -1,0 +1,46 @@
+-- `hits::set_out` meets its contract: where it passes a solid P, this is left over its faces; else the walk begins at P. Assumes nothing.
+use mathlib.Core.Path.{◌≡◌, sym, ap, ◌∙◌}
+use mathlib.Core.Bool.{false}
+use native.Mathlib.Omega.{arith}
+use Rattle.lines.specs.Lines.{differences, longest}
+use Rattle.hits.specs.Found.{At26}
+use Rattle.hits.proofs.Starting.{p_byte, not_clear, from_p, passed_26, turn_came}
+use Rattle.hits.proofs.set_out.Goals as goal
+use Rattle.hits.proofs.set_out.Goals.{Start, Then-passes_solid}
+
+-- all long steps of the ends are left
+all : (c : Start) → c.args.left ≡ longest (differences c.args.k.p c.args.k.q)
+all c = c.requires.2 ∙ ap longest c.requires.0.is
+
+pub passes_solid-requires : goal.passes_solid-requires
+passes_solid-requires c = p_byte c.args.how.start c.args.cells.now c.args.k c.requires.0 c.args.start c.requires.1
+
+-- where it passes a solid P
+here : (c : Then-passes_solid) → let a = c.args in At26 a.how.start a.cells.now a.k false a.start 0 a.left
+here c =
+    let a = c.args in
+    passed_26 a.how.start a.cells.now a.k c.requires.0 a.start c.requires.1 a.left ((let it : c.args.left ≡ longest (differences c.args.k.p c.args.k.q) = c.requires.2 ∙ ap longest c.requires.0.is in it)) c.if-left-gt0.true
+    (sym c.passes_solid.ensures ∙ c.if-passes_solid.true)
+
+pub near_turn-requires : goal.near_turn-requires
+near_turn-requires c =
+    let a = c.args in (
+      record { plan = c.requires.0; long = c.requires.3 ∙ c.requires.2; from = a.how.start; at = here c },
+      not_clear a.how.start a.cells.now a.k c.requires.0 a.start c.requires.1 (sym c.passes_solid.ensures ∙ c.if-passes_solid.true),
+    )
+
+pub returns-then-passes_solid : goal.returns-then-passes_solid
+returns-then-passes_solid c =
+    let a = c.args in
+    turn_came a.how.start a.cells.now a.k c.requires.0 false a.start 0 a.left _ c.near_turn.ensures (here ((goal.at.returns-then-passes_solid c).Then-passes_solid))
+
+pub returns-else-passes_solid : goal.returns-else-passes_solid
+returns-else-passes_solid c =
+    let a = c.args in
+    from_p a.how.start a.cells.now a.k c.requires.0 a.start c.requires.1 a.left (all ((goal.at.returns-else-passes_solid c).Start))
+    (λ some. sym c.passes_solid.ensures ∙ c.if-passes_solid.false)
+
+pub returns-else-left-gt0 : goal.returns-else-left-gt0
+returns-else-left-gt0 c =
+    let a = c.args in
+    from_p a.how.start a.cells.now a.k c.requires.0 a.start c.requires.1 a.left (all ((goal.at.returns-else-left-gt0 c).Start)) (λ some. absurd (omega (arith, c.if-left-gt0.false)))

@@ -1,0 +1,111 @@
+-- `hits::walk_adaptive` meets its contract: the invariant: whichever walk set out so, it is at the cell of the 26-line from which t.left long steps are
+-- left; a turn leads it to a later one, or stops it. The measure is how many are left. Assumes nothing.
+use mathlib.Core.Path.{◌≡◌, sym, ap, ◌∙◌}
+use mathlib.Core.Bool.{true, false}
+use native.Mathlib.Omega.{arith}
+use Rattle.cells.specs.declared.Start.{Start}
+use Rattle.lines.specs.Steps.{X, Y, Z}
+use Rattle.lines.specs.Lines.{differences, longest, number_26}
+use Rattle.walks.specs.declared.Walker.TheVariants.{Adaptive}
+use Rattle.runs.specs.Run.{cell_left}
+use Rattle.runs.proofs.Along.{route_small}
+use Rattle.hits.specs.Found.{going, Walking, At26, Came}
+use Rattle.routes.proofs.Spots.{short_at}
+use Rattle.hits.proofs.Walking.{at_end}
+use Rattle.routes.proofs.Cells26.{last_26}
+use Rattle.hits.proofs.Turns.{turn_stopped, turn_walking}
+use Rattle.hits.proofs.Starting.{turn_begins, turn_came}
+use Rattle.hits.proofs.walk_adaptive.Goals as goal
+use Rattle.hits.proofs.walk_adaptive.Goals.{At-loop-t, In-loop-t}
+
+pub run_route_of-h-requires : goal.run_route_of-h-requires
+run_route_of-h-requires c = route_small _ c.args.k c.requires.0
+
+pub set_out-t-requires : goal.set_out-t-requires
+set_out-t-requires c =
+    let longest-is = c.longest_axis-long.ensures in
+    (c.requires.0, c.requires.1, c.along.ensures ∙ longest-is, sym c.along.ensures)
+
+pub returns-then-t : goal.returns-then-t
+returns-then-t c = turn_stopped c.args.how.start c.args.cells.now c.args.k c.set_out-t.result c.set_out-t.ensures.outcome c.if-t.true
+
+pub loop-t-init : goal.loop-t-init
+loop-t-init c = (c.if-t.false, λ from came. came)
+
+-- where the call's own walk is
+came : (c : At-loop-t) →
+    let a = c.args in
+    Came a.how.start a.cells.now a.k c.loop-t.t
+came c =
+    let a = c.args in
+    c.loop-t.invariant.1 a.how.start c.set_out-t.ensures
+
+-- at a cell of the 26-line that is not the last, whichever walk came there
+here : (c : In-loop-t) →
+    let g = c.args in
+    (from : Start) → Came from g.cells.now g.k c.loop-t.t →
+    At26 from g.cells.now g.k true c.loop-t.t.spot c.loop-t.t.reads c.loop-t.t.left
+here c from came =
+    let g = c.args in
+    turn_begins from g.cells.now g.k c.loop-t.t came c.loop-t.invariant.0 (omega (arith, c.loop-t-test.true))
+
+pub next_26-t-requires : goal.next_26-t-requires
+next_26-t-requires c =
+    (
+      record {
+        plan = c.requires.0;
+        long = c.longest_axis-long.ensures;
+        from = c.args.how.start;
+        at = here ((goal.at.next_26-t-requires c).In-loop-t) c.args.how.start (came ((goal.at.next_26-t-requires c).At-loop-t));
+      },
+      c.run_route_of-h.ensures,
+    )
+
+pub returns-then-t-2 : goal.returns-then-t-2
+returns-then-t-2 c =
+    let g = c.args in
+    turn_stopped g.how.start g.cells.now g.k c.next_26-t.result
+    (c.next_26-t.ensures.outcome g.how.start (here ((goal.at.returns-then-t-2 c).In-loop-t) g.how.start (came ((goal.at.returns-then-t-2 c).At-loop-t))))
+    c.if-t-2.true
+
+pub loop-t-smaller : goal.loop-t-smaller
+loop-t-smaller c = omega (arith, c.next_26-t.ensures.fewer)
+
+pub loop-t-preserved : goal.loop-t-preserved
+loop-t-preserved c =
+    (
+      c.if-t-2.false,
+      λ from set_out.
+          turn_came from c.args.cells.now c.args.k c.requires.0 true _ _ _ c.next_26-t.result c.next_26-t.ensures
+          (here ((goal.at.loop-t-preserved c).In-loop-t) from (c.loop-t.invariant.1 from set_out)),
+    )
+
+-- it goes on to the loop's end
+walking : (c : At-loop-t) →
+    let a = c.args in
+    Walking a.how.start a.cells.now a.k (going a.cells.now a.k Adaptive) (number_26 a.k.p a.k.q (cell_left a.k c.loop-t.t.left))
+    c.loop-t.t.reads c.loop-t.t.spot
+walking c =
+    let a = c.args in
+    turn_walking a.how.start a.cells.now a.k c.loop-t.t (came c).outcome c.loop-t.invariant.0
+
+pub overflow_add-result : goal.overflow_add-result
+overflow_add-result c =
+    let w = walking ((goal.at.overflow_add-result c).At-loop-t) in
+    record {
+      fits = omega (
+        arith,
+        w.on.few,
+        w.on.most,
+        short_at _ c.args.k c.requires.0 X,
+        short_at _ c.args.k c.requires.0 Y,
+        short_at _ c.args.k c.requires.0 Z,
+      );
+    }
+
+pub returns : goal.returns
+returns c =
+    let k = c.args.k in
+    let all_made : cell_left k c.loop-t.t.left ≡ longest (differences k.p k.q) = omega (arith, c.loop-t-test.false) in
+    at_end c.args.how.start _ k c.requires.0 c.args.cells.now _ _ _ _ (walking ((goal.at.returns c).At-loop-t))
+    (ap (number_26 k.p k.q) all_made ∙ last_26 k)

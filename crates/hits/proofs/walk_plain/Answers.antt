@@ -1,0 +1,68 @@
+-- `hits::walk_plain` meets its contract: every face of the route is crossed, or the walk stopped before. Assumes nothing.
+use mathlib.Core.Path.{◌≡◌, sym, ap, ◌∙◌, subst}
+use Prim.Native.Nat.{suc, ◌+◌}
+use native.Mathlib.Omega.{arith}
+use Rattle.lines.specs.Steps.{X, Y, Z, total}
+use Rattle.walks.specs.Numbers.{last_number}
+use Rattle.hits.specs.Found.{Outcome, Walking, Crossing}
+use Rattle.routes.proofs.Spots.{short_at}
+use Rattle.hits.proofs.Walking.{at_end}
+use Rattle.hits.proofs.Turns.{outcome_stopped, outcome_walking, all_faces}
+use Rattle.hits.proofs.walk_plain.Goals as goal
+use Rattle.hits.proofs.walk_plain.Goals.{After-tests_start, After-total, After-walk_from-t, Else-t}
+
+-- how many faces there are
+faces : (c : After-total) → let k = c.args.k in c.total.result ≡ last_number k.p k.q
+faces c = c.total.ensures ∙ ap total c.requires.0.is
+
+-- the faces are the plain walk's, the first of them from a cell that is tested or not
+crossing : (c : After-tests_start) →
+    let a = c.args in
+    Crossing a.how.start a.cells.now a.k c.tests_start.result a.start 0 c.total.result suc 0
+crossing c =
+    let a = c.args in
+    subst (λ t. Crossing a.how.start a.cells.now a.k t a.start 0 c.total.result suc 0) (sym c.tests_start.ensures)
+    (all_faces a.how.start _ a.k c.requires.0 a.cells.now a.start _ c.requires.1 ((let it : let k = c.args.k in c.total.result ≡ last_number k.p k.q = c.total.ensures ∙ ap total c.requires.0.is in it)))
+
+pub walk_from-t-requires : goal.walk_from-t-requires
+walk_from-t-requires c = (c.requires.0, record { from = c.args.how.start; next = suc; number = 0; crossing = crossing c })
+
+-- what the faces came to
+came : (c : After-walk_from-t) →
+    let a = c.args in
+    let r = c.walk_from-t.result in
+    Outcome a.how.start a.cells.now a.k suc (0 + c.total.result) r.hit r.spot r.reads
+came c = c.walk_from-t.ensures.leads c.args.how.start suc 0 ((let it : let a = c.args in Crossing a.how.start a.cells.now a.k c.tests_start.result a.start 0 c.total.result suc 0 = let a = c.args in subst (λ t. Crossing a.how.start a.cells.now a.k t a.start 0 c.total.result suc 0) (sym c.tests_start.ensures) (all_faces a.how.start _ a.k c.requires.0 a.cells.now a.start _ c.requires.1 ((let it : let k = c.args.k in c.total.result ≡ last_number k.p k.q = c.total.ensures ∙ ap total c.requires.0.is in it))) in it))
+
+pub returns-then-t : goal.returns-then-t
+returns-then-t c =
+    let a = c.args in
+    outcome_stopped a.how.start a.cells.now a.k suc _ _ _ _ (came ((goal.at.returns-then-t c).After-walk_from-t)) c.if-t.true
+
+-- not stopped, it is at the last place
+walking : (c : Else-t) →
+    let a = c.args in
+    let r = c.walk_from-t.result in
+    Walking a.how.start a.cells.now a.k suc (0 + c.total.result) r.reads r.spot
+walking c =
+    let a = c.args in
+    outcome_walking a.how.start a.cells.now a.k suc _ _ _ _ ((let it : let a = c.args in let r = c.walk_from-t.result in Outcome a.how.start a.cells.now a.k suc (0 + c.total.result) r.hit r.spot r.reads = c.walk_from-t.ensures.leads c.args.how.start suc 0 ((let it : let a = c.args in Crossing a.how.start a.cells.now a.k c.tests_start.result a.start 0 c.total.result suc 0 = let a = c.args in subst (λ t. Crossing a.how.start a.cells.now a.k t a.start 0 c.total.result suc 0) (sym c.tests_start.ensures) (all_faces a.how.start _ a.k c.requires.0 a.cells.now a.start _ c.requires.1 ((let it : let k = c.args.k in c.total.result ≡ last_number k.p k.q = c.total.ensures ∙ ap total c.requires.0.is in it))) in it)) in it)) c.if-t.false
+
+pub overflow_add-result : goal.overflow_add-result
+overflow_add-result c =
+    let w = walking ((goal.at.overflow_add-result c).Else-t) in
+    record {
+      fits = omega (
+        arith,
+        w.on.few,
+        w.on.most,
+        short_at _ c.args.k c.requires.0 X,
+        short_at _ c.args.k c.requires.0 Y,
+        short_at _ c.args.k c.requires.0 Z,
+      );
+    }
+
+pub returns : goal.returns
+returns c =
+    at_end c.args.how.start _ c.args.k c.requires.0 c.args.cells.now suc _ _ _ (walking ((goal.at.returns c).Else-t))
+    (omega (arith, faces ((goal.at.returns c).After-total)))
