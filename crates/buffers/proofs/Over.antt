@@ -1,12 +1,12 @@
 -- Laws of pieces in a lent slice: one after another, they are one piece. Assumes nothing.
 use mathlib.Core.Path.{◌≡◌, sym, ap, ap₂, ◌∙◌}
-use mathlib.Core.List.{List, [], ◌∷◌, ◌++◌, append-nil, append_assoc}
+use mathlib.Core.List.{List, [], ◌∷◌, ◌++◌, append_assoc}
 use Prim.Native.Nat.{ℕ, ◌+◌, ◌-◌, ◌≤◌, ◌<◌}
 use native.Mathlib.Numerals.{add-one}
 use native.Mathlib.Nat.{zero-add}
 use native.Mathlib.Omega.{arith}
-use lib.ListN.{length, set, take, drop, length-append, length-take, length-drop, drop_of_length-le}
-use lib.Seq.{set_split, take_all, take_at, drop-drop, drop-append-add, take-length}
+use lib.ListN.{length, set, take, drop, length-append, length-take}
+use lib.Seq.{set_split, take_at, drop-drop, drop-append-add}
 use borrow.Rule.Slice.PartMut.{put_mid}
 use Rattle.buffers.specs.Over.{over}
 

@@ -17,7 +17,6 @@ use Rattle.cells.specs.declared.Refusal.{Refusal}
 use Rattle.cells.specs.declared.Refusal.TheVariants.{Layer}
 use Rattle.cells.specs.declared.Verdict.TheVariants.{Fine}
 use Rattle.grids.specs.declared.LayerPart.{LayerPart}
-use Rattle.grids.specs.declared.LayerPart.TheVariants as LayerPart
 use Rattle.grids.specs.Grid.{shape, bad_layer, layer_check, layer_start, layer_length, layer_part, layer}
 use Rattle.grids.specs.Inside.{Shaped}
 use Rattle.grids.proofs.Shapes.{shaped}

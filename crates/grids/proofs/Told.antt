@@ -7,9 +7,7 @@ use mathlib.Core.Option.{Option, some, map}
 use Rattle.cells.specs.Refusals.{Told}
 use Rattle.cells.proofs.Refusals.{told_back, tells_apart, untold_by}
 use Rattle.grids.specs.declared.LayerPart.{LayerPart}
-use Rattle.grids.specs.declared.LayerPart.TheVariants as LayerPart
 use Rattle.grids.specs.declared.Completeness.{Completeness}
-use Rattle.grids.specs.declared.Completeness.TheVariants as Completeness
 use Rattle.grids.specs.Grid.{told_part}
 use Rattle.grids.specs.Marks.{yes_or_no, told_completeness}
 

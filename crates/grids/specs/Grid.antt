@@ -12,7 +12,6 @@ use Rattle.std.specs.Borrow.{Bor}
 use Rattle.cells.specs.Parts.{StartsAt}
 use Rattle.cells.specs.Refusals.{Told, told}
 use Rattle.grids.specs.declared.LayerPart.{LayerPart}
-use Rattle.grids.specs.declared.LayerPart.TheVariants as LayerPart
 
 -- SCOPE G1, R2: a count that no grid has
 abbrev pub bad_count : ℕ → Bool

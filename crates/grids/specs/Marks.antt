@@ -10,7 +10,6 @@ use Rattle.cells.specs.Refusals.{Told, told}
 use Rattle.cells.specs.Tabulate.{tabulate}
 use Rattle.cells.specs.Touching.{touching}
 use Rattle.grids.specs.declared.Completeness.{Completeness}
-use Rattle.grids.specs.declared.Completeness.TheVariants as Completeness
 use Rattle.grids.specs.Grid.{shape, cell_at, clear, solid}
 
 -- some number below n passes

@@ -15,7 +15,7 @@ use Rattle.cells.specs.Tabulate.{tabulate}
 use Rattle.cells.specs.Touching.{on, apart}
 use Rattle.cells.proofs.Tabulate.{tabulate_same, tabulate_reverse}
 use Rattle.cells.proofs.Signed.{same_number, one_sided, diff_is, abs_is, lt_z_true, lt_z_false}
-use Rattle.lines.specs.Steps.{Axis, X, Y, Z, Steps, total, same, after_steps}
+use Rattle.lines.specs.Steps.{Axis, X, Y, Z, Steps, total, after_steps}
 use Rattle.lines.specs.Crossings.{next, place, TieFree}
 use Rattle.lines.specs.declared.Order.TheVariants.{Yzx, Xzy}
 use Rattle.lines.specs.Preference.{Preference, y_z_x, y_z_x_rank, x_z_y, x_z_y_rank, prefers, comes_before, order_of, by_rule}

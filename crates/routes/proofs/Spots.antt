@@ -19,7 +19,7 @@ use Rattle.lines.specs.Steps.{Axis, X, Y, Z, Steps, at, total}
 use Rattle.lines.specs.Towards.{towards}
 use Rattle.lines.specs.Crossings.{next, place}
 use Rattle.lines.specs.Lines.{differences, cell_of, six_cell, InLimit, in_limit}
-use Rattle.lines.specs.Decisions.{values, moved_values}
+use Rattle.lines.specs.Decisions.{moved_values}
 use Rattle.lines.proofs.Steps.{bump}
 use Rattle.lines.proofs.Fractions.{place_start, place_suc, place_on, place_total}
 use Rattle.lines.proofs.Centres.{centres_good}

@@ -12,7 +12,7 @@ use Rattle.lines.specs.Crossings.{Course}
 use Rattle.lines.specs.Lines.{differences, centres, cell_of}
 use Rattle.lines.specs.Decisions.{values, doubled, moved_values, lowered, raised}
 use Rattle.tripod.specs.Tripod.{steps, Short, SmallTripod, SmallDoubled}
-use Rattle.grids.specs.Grid.{index, byte_index}
+use Rattle.grids.specs.Grid.{byte_index}
 use Rattle.grids.specs.Inside.{Shaped, InGrid}
 use Rattle.routes.specs.declared.Strides.{Strides}
 use Rattle.routes.specs.declared.Route.{Route}

@@ -1,5 +1,6 @@
 // The sight answer: is anything in the way from a camera to the ball? Two lookups, then the adaptive walk.
 #![tactic(auto)]
+
 ghost use Rattle.std.specs.Prelude.{◌≡◌, length};
 ghost use Rattle.cells.specs.declared.Verdict.TheVariants.{Fine};
 ghost use Rattle.cells.specs.Checks.{by_verdict};

@@ -24,7 +24,6 @@ use Rattle.grids.specs.Inside.{walk_check}
 use Rattle.walks.specs.declared.Walker.{Walker}
 use Rattle.walks.specs.declared.Hit.{Hit}
 use Rattle.walks.specs.declared.FirstHit.{FirstHit}
-use Rattle.walks.specs.declared.FirstHit.TheVariants as FirstHit
 use Rattle.walks.specs.Walks.{Conduct, conduct, six_count, hit_at, walk_of}
 use Rattle.walks.specs.Answers.{entered_at, answer_of, first_hit}
 use Rattle.walks.specs.Numbers.{stop, ends, visits, last_number, hits_at, step, end_of, reads_of, answer_at}

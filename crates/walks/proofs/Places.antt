@@ -8,7 +8,6 @@ use native.Mathlib.Nat.{eq-or-lt_of_le}
 use lib.Signed.{le_z}
 use Rattle.cells.specs.declared.Cell.{Cell}
 use Rattle.cells.specs.declared.Face.{Face}
-use Rattle.cells.specs.declared.Face.TheVariants as Face
 use Rattle.cells.specs.Faces.{back_across}
 use Rattle.cells.specs.Touching.{on}
 use Rattle.lines.specs.Steps.{Axis, Steps, total}

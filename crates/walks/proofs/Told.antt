@@ -4,9 +4,7 @@ use mathlib.Core.Logic.{◌⊎◌}
 use mathlib.Core.Option.{Option, some, map}
 use Rattle.cells.specs.Refusals.{Told}
 use Rattle.cells.proofs.Refusals.{told_back, tells_apart, untold_by}
-use Rattle.walks.specs.declared.Hit.{Hit}
 use Rattle.walks.specs.declared.FirstHit.{FirstHit}
-use Rattle.walks.specs.declared.FirstHit.TheVariants as FirstHit
 use Rattle.walks.specs.Answers.{WalkSaid, clear, hit, told_hit}
 
 abbrev hit_as : WalkSaid → FirstHit

@@ -11,7 +11,6 @@ use Rattle.grids.specs.Grid.{byte_of, clear}
 use Rattle.walks.specs.declared.Walker.{Walker}
 use Rattle.walks.specs.declared.Walker.TheVariants.{Plain, Adaptive}
 use Rattle.walks.specs.declared.FirstHit.{FirstHit}
-use Rattle.walks.specs.declared.FirstHit.TheVariants as FirstHit
 use Rattle.walks.specs.Walks.{Conduct, number_of, six_count, count_26, hit_at}
 use Rattle.walks.specs.Answers.{entered_at}
 

@@ -8,7 +8,6 @@ use native.Mathlib.Omega.{arith}
 use lib.Dec.{eqb}
 use lib.IntN.{nat_abs}
 use lib.ListN.{length}
-use borrow.Author.Tests.{not-true, not-false}
 use Rattle.cells.specs.Manners.{is_tested}
 use Rattle.cells.proofs.Machine.{held}
 use Rattle.lines.specs.Steps.{total}

@@ -1,7 +1,7 @@
 -- `hits::walk_adaptive` meets its contract: the invariant: whichever walk set out so, it is at the cell of the 26-line from which t.left long steps are
 -- left; a turn leads it to a later one, or stops it. The measure is how many are left. Assumes nothing.
 use mathlib.Core.Path.{◌≡◌, sym, ap, ◌∙◌}
-use mathlib.Core.Bool.{true, false}
+use mathlib.Core.Bool.{true}
 use native.Mathlib.Omega.{arith}
 use Rattle.cells.specs.declared.Start.{Start}
 use Rattle.lines.specs.Steps.{X, Y, Z}
@@ -50,16 +50,15 @@ here c from came =
     turn_begins from g.cells.now g.k c.loop-t.t came c.loop-t.invariant.0 (omega (arith, c.loop-t-test.true))
 
 pub next_26-t-requires : goal.next_26-t-requires
-next_26-t-requires c =
-    (
-      record {
-        plan = c.requires.0;
-        long = c.longest_axis-long.ensures;
-        from = c.args.how.start;
-        at = here ((goal.at.next_26-t-requires c).In-loop-t) c.args.how.start (came ((goal.at.next_26-t-requires c).At-loop-t));
-      },
-      c.run_route_of-h.ensures,
-    )
+next_26-t-requires c = (
+  record {
+    plan = c.requires.0;
+    long = c.longest_axis-long.ensures;
+    from = c.args.how.start;
+    at = here ((goal.at.next_26-t-requires c).In-loop-t) c.args.how.start (came ((goal.at.next_26-t-requires c).At-loop-t));
+  },
+  c.run_route_of-h.ensures,
+)
 
 pub returns-then-t-2 : goal.returns-then-t-2
 returns-then-t-2 c =
@@ -72,13 +71,12 @@ pub loop-t-smaller : goal.loop-t-smaller
 loop-t-smaller c = omega (arith, c.next_26-t.ensures.fewer)
 
 pub loop-t-preserved : goal.loop-t-preserved
-loop-t-preserved c =
-    (
-      c.if-t-2.false,
-      λ from set_out.
-          turn_came from c.args.cells.now c.args.k c.requires.0 true _ _ _ c.next_26-t.result c.next_26-t.ensures
-          (here ((goal.at.loop-t-preserved c).In-loop-t) from (c.loop-t.invariant.1 from set_out)),
-    )
+loop-t-preserved c = (
+  c.if-t-2.false,
+  λ from set_out.
+      turn_came from c.args.cells.now c.args.k c.requires.0 true _ _ _ c.next_26-t.result c.next_26-t.ensures
+      (here ((goal.at.loop-t-preserved c).In-loop-t) from (c.loop-t.invariant.1 from set_out)),
+)
 
 -- it goes on to the loop's end
 walking : (c : At-loop-t) →

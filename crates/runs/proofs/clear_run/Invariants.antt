@@ -1,4 +1,3 @@
-use Prim.Native.Nat.{◌-◌}
 use Rattle.runs.proofs.Along.{Follows}
 use Rattle.runs.proofs.clear_run.Given as goal
 

@@ -1,7 +1,7 @@
 -- `survey::cell_number` meets its contract: the span is never empty, starts at or below q, and ends
 -- above q unless it ends at the count; each turn shortens it. The start of a span of one is the last number that is not above q.
 -- Assumes nothing.
-use Prim.Native.Nat.{ℕ, ◌+◌, ◌-◌, ◌≤◌, ◌<◌}
+use Prim.Native.Nat.{ℕ, ◌+◌, ◌≤◌, ◌<◌}
 use mathlib.Core.Path.{◌≡◌, sym, subst}
 use mathlib.Core.Bool.{true}
 use mathlib.Core.Logic.{inl, inr}

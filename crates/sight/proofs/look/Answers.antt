@@ -1,0 +1,39 @@
+-- `sight::look` meets its contract: the lookups decide as the definition has it; where both give a cell, the walk between them passes its tests and
+-- tells the rest. Assumes nothing.
+use mathlib.Core.Path.{sym, ◌∙◌}
+use Rattle.sight.proofs.Seen.{camera_refused, ball_refused, both_found}
+use Rattle.sight.proofs.Walkable.{walkable}
+use Rattle.sight.proofs.look.Goals as goal
+
+pub returns-in-Refused : goal.returns-in-Refused
+returns-in-Refused c =
+    let a = c.args in
+    sym (camera_refused a.how a.n a.cells.now a.at a.camera a.ball c.look_up-from.ensures
+    (c.in_default.is ∙ c.in-Refused.is))
+
+pub returns-in-Refused-to : goal.returns-in-Refused-to
+returns-in-Refused-to c =
+    let a = c.args in
+    sym
+    (ball_refused a.how a.n a.cells.now a.at a.camera a.ball
+    c.look_up-from.ensures
+    c.in-Cell.is
+    c.look_up-to.ensures (c.in_default-to.is ∙ c.in-Refused-to.is))
+
+pub walked-requires : goal.walked-requires
+walked-requires c =
+    let a = c.args in
+    walkable a.n _ a.at a.camera a.ball _ _ c.requires.0 c.requires.1
+    (sym c.look_up-from.ensures ∙ c.in-Cell.is)
+    (sym c.look_up-to.ensures ∙ c.in-Cell-to.is)
+
+pub returns : goal.returns
+returns c =
+    let a = c.args in
+    c.sight_of.ensures ∙
+    sym
+    (both_found a.how a.n a.cells.now a.at a.camera a.ball
+    c.look_up-from.ensures
+    c.in-Cell.is
+    c.look_up-to.ensures c.in-Cell-to.is
+    c.walked.ensures.says)
