@@ -6,7 +6,6 @@ use mathlib.Core.Option.{Option, some, map}
 use Rattle.cells.specs.Refusals.{Told}
 use Rattle.cells.proofs.Refusals.{told_back, tells_apart, untold_by}
 use Rattle.bricks.specs.declared.Tally.{Tally}
-use Rattle.bricks.specs.declared.Tally.TheVariants as Tally
 use Rattle.bricks.specs.Builds.{told_tally}
 
 abbrev untold_tally : Told ⊎ ℕ → Option Tally

@@ -9,7 +9,6 @@ use Rattle.cells.specs.Refusals.{Told, told}
 use Rattle.cells.specs.Tabulate.{tabulate}
 use Rattle.grids.specs.Grid.{shape, size}
 use Rattle.bricks.specs.declared.Tally.{Tally}
-use Rattle.bricks.specs.declared.Tally.TheVariants as Tally
 use Rattle.bricks.specs.Bricks.{bricks, mask_at, solids}
 
 -- refusals 2, 3, then 6: fewer masks are lent than there are bricks

@@ -17,7 +17,7 @@ fine : (c : In-Fine) → let a = c.args in bricks_check a.n (length a.cells.now)
 fine c = sym c.check_bricks.ensures ∙ c.in-Fine.is
 
 pub fill_all-requires : goal.fill_all-requires
-fill_all-requires c = let e = fine ((goal.at.fill_all-requires c).In-Fine) in (shape_fine _ _ _ e, masks_lent _ _ _ e)
+fill_all-requires c = let e = fine ((goal.at.fill_all-requires c).In-Fine) in record { cells_value = shape_fine _ _ _ e; n_in_bounds = masks_lent _ _ _ e }
 
 pub returns-in-Refused : goal.returns-in-Refused
 returns-in-Refused c =
@@ -30,6 +30,6 @@ returns-in-Fine c =
     let e = fine ((goal.at.returns-in-Fine c).In-Fine) in
     let f = c.fill_all.ensures in
     record {
-      says = rw e (ap Tally.Total (f.0 ∙ ones_are_solids a.n a.cells.now (shaped _ _ (shape_fine _ _ _ e))));
-      holds = rw e (filled_built a.n a.cells.now a.masks.now _ f.1);
+      says = rw e (ap Tally.Total (f.value ∙ ones_are_solids a.n a.cells.now (shaped _ _ (shape_fine _ _ _ e))));
+      holds = rw e (filled_built a.n a.cells.now a.masks.now _ f.filled);
     }

@@ -1,6 +1,6 @@
 -- `bricks::fill_all` meets its contract: after r turns the first r rows of bricks have their masks, and what is found is the sum of their ones. Assumes
 -- nothing.
-use Prim.Native.Nat.{ℕ, ◌-◌, ◌*◌, ◌/◌, ◌%◌, ◌≤◌, ◌<◌}
+use Prim.Native.Nat.{ℕ, ◌*◌, ◌/◌, ◌%◌, ◌≤◌, ◌<◌}
 use native.Mathlib.Nat.{mul_assoc}
 use native.Mathlib.Omega.{arith}
 use mathlib.Core.Path.{◌≡◌, sym, ap, ◌∙◌}
@@ -36,11 +36,7 @@ overflow_cast-all c = omega arith
 
 pub overflow_mul-all : goal.overflow_mul-all
 overflow_mul-all c =
-    let s = few ((goal.at.overflow_mul-all c).Start) in rw c.bricks_of-b.ensures (omega (
-  arith,
-  s.rows_most,
-
-))
+    let s = few ((goal.at.overflow_mul-all c).Start) in rw c.bricks_of-b.ensures (omega (arith, s.rows_most))
 
 pub loop-r-init : goal.loop-r-init
 loop-r-init c =
@@ -67,11 +63,10 @@ within c =
 
 -- few are
 counted : (c : In-loop-r) → c.loop-r.r < 1048576
-counted c = let s = (let it : Shaped (bricks c.args.n) (size (bricks c.args.n)) = bricks_shaped c.args.n _ (shaped _ _ c.requires.cells_value) in it) in let lt = within c in omega (arith, s.rows_most)
+counted c = let s = bricks_shaped c.args.n _ (shaped _ _ c.requires.cells_value) in let lt = within c in omega (arith, s.rows_most)
 
 narrow : (c : In-loop-r) → c.bricks_of-b.result.nx ≤ 1024
-narrow c = rw c.bricks_of-b.ensures (few
-    «c.before.before.before.before.before.before.before.before@Start»).x.most
+narrow c = rw c.bricks_of-b.ensures (bricks_shaped c.args.n _ (shaped _ _ c.requires.cells_value)).x.most
 
 -- the number of its first brick
 starts : (c : In-loop-r) → let k = c.bricks_of-b.result in
@@ -86,7 +81,10 @@ fill_masks-found-requires c =
     let a = c.args in
     let e = c.bricks_of-b.ensures in
     let there = row_there a.n _ (shaped _ _ c.requires.cells_value) c.loop-r.r (within ((goal.at.fill_masks-found-requires c).In-loop-r)) in
-    (c.requires.cells_value, (rw e there, omega (arith, c.loop-r.invariant.1.long, c.requires.n_in_bounds)))
+    record {
+      cells_value = c.requires.cells_value;
+      row_of_bricks = (rw e there, omega (arith, c.loop-r.invariant.1.long, c.requires.n_in_bounds));
+    }
 
 pub overflow_add-found : goal.overflow_add-found
 overflow_add-found c =
@@ -113,9 +111,9 @@ loop-r-preserved c =
     let f = c.fill_masks-found.ensures in
     let wide = narrow ((goal.at.loop-r-preserved c).In-loop-r) in (
       omega arith,
-      row_filled (mask_at a.n a.cells.now) _ c.loop-r.r _ _ _ _ at c.loop-r.invariant.1 f.1,
-      row_summed (λ k. ones (mask_at a.n a.cells.now k)) _ c.loop-r.r _ _ _ at c.loop-r.invariant.2 f.0.0,
-      omega (arith, c.loop-r.invariant.3, f.0.1),
+      row_filled (mask_at a.n a.cells.now) _ c.loop-r.r _ _ _ _ at c.loop-r.invariant.1 f.filled,
+      row_summed (λ k. ones (mask_at a.n a.cells.now k)) _ c.loop-r.r _ _ _ at c.loop-r.invariant.2 f.value.0,
+      omega (arith, c.loop-r.invariant.3, f.value.1),
     )
 
 pub shape_of-masks : goal.shape_of-masks
@@ -127,4 +125,4 @@ returns c =
     let rows : c.loop-r.r ≡ k.result.ny * k.result.nz = omega arith in
     let all : k.result.nx * c.loop-r.r ≡ size (bricks c.args.n) =
     ap (λ (r : ℕ). k.result.nx * r) rows ∙ sym (mul_assoc k.result.nx k.result.ny k.result.nz) ∙ ap size k.ensures in
-    (rw all at c.loop-r.invariant.2, rw all at c.loop-r.invariant.1)
+    record { value = rw all at c.loop-r.invariant.2; filled = rw all at c.loop-r.invariant.1 }

@@ -1,5 +1,5 @@
 -- `bricks::fill_masks` meets its contract: after d turns the first d masks are filled and what is found is the sum of their ones. Assumes nothing.
-use Prim.Native.Nat.{◌+◌, ◌-◌, ◌<◌}
+use Prim.Native.Nat.{◌+◌, ◌<◌}
 use native.Mathlib.Omega.{arith}
 use mathlib.Core.Path.{◌≡◌, sym, ap, ◌∙◌}
 use lib.Count.{ones}
@@ -12,7 +12,6 @@ use Rattle.bricks.proofs.Sums.{sum_none, sum_grows}
 use Rattle.bricks.proofs.Bricked.{bricks_shaped}
 use Rattle.bricks.proofs.BrickRows.{row_starts, row_number_below, row_mask}
 use Rattle.bricks.proofs.fill_masks.Goals as goal
-use Rattle.bricks.proofs.fill_masks.Invariants.{)}
 use Rattle.bricks.proofs.fill_masks.Goals.{After-index_in-from, After-mask_of-mask}
 
 -- the number of the first brick
@@ -27,8 +26,7 @@ numbered :
     (k < size (bricks a.n)) × (k < 1073741824)
 numbered c =
     let a = c.args in
-    let k = row_number_below a.n a.at a.long c.requires.row_of_bricks.0 _ ((let it : let a = c.args in c.index_in-from.result ≡ brick_number a.n a.at = c.index_in-from.ensures ∙ rw c.bricks_of.ensures in it))
-    c.loop-d.d (omega arith) in
+    let k = row_number_below a.n a.at a.long c.requires.row_of_bricks.0 _ (c.index_in-from.ensures ∙ rw c.bricks_of.ensures) c.loop-d.d (omega arith) in
     (k, omega (arith, (bricks_shaped a.n _ (shaped _ _ c.requires.cells_value)).size_most))
 
 pub bricks_of-requires : goal.bricks_of-requires
@@ -50,11 +48,11 @@ overflow_add-at c =
 
 pub mask_of-mask-requires : goal.mask_of-mask-requires
 mask_of-mask-requires c =
-    let a = c.args in (
-      c.requires.cells_value,
-      row_starts a.n a.at a.long c.requires.row_of_bricks.0 _ (first ((goal.at.mask_of-mask-requires c).After-index_in-from)) c.loop-d.d
-          (omega arith),
-    )
+    let a = c.args in record {
+      cells_value = c.requires.cells_value;
+      bx_bound = row_starts a.n a.at a.long c.requires.row_of_bricks.0 _ (first ((goal.at.mask_of-mask-requires c).After-index_in-from)) c.loop-d.d
+          (omega arith);
+    }
 
 pub overflow_add-masks : goal.overflow_add-masks
 overflow_add-masks c = let k = numbered c in omega arith
@@ -64,10 +62,7 @@ offset_bounds-masks-from c = let k = numbered c in omega arith
 
 pub bounds-masks-from : goal.bounds-masks-from
 bounds-masks-from c =
-    let k = numbered c in omega (
-  arith,
-  c.loop-d.invariant.1.long,
-  c.requires.row_of_bricks.1,
+    let k = numbered c in omega (arith, c.loop-d.invariant.1.long, c.requires.row_of_bricks.1)
 
 pub overflow_add-found : goal.overflow_add-found
 overflow_add-found c =
@@ -101,4 +96,7 @@ pub returns : goal.returns
 returns c =
     let all : c.loop-d.d ≡ c.args.long = omega arith in
     let from = first ((goal.at.returns c).After-index_in-from) in
-    ((rw (from, all) at c.loop-d.invariant.2, rw all at c.loop-d.invariant.3), rw (from, all) at c.loop-d.invariant.1)
+    record {
+      value = (rw (from, all) at c.loop-d.invariant.2, rw all at c.loop-d.invariant.3);
+      filled = rw (from, all) at c.loop-d.invariant.1;
+    }

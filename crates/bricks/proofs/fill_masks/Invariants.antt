@@ -6,8 +6,6 @@ use Rattle.bricks.specs.Sums.{sum}
 use Rattle.bricks.specs.Bricks.{mask_at}
 use Rattle.bricks.proofs.fill_masks.Given as goal
 
-)
-
 abbrev pub invariant-loop-d : goal.invariant-loop-d
 invariant-loop-d l = (l.d ≤ l.long) × Filled (mask_at l.n l.cells) l.from (l.from + l.d) l.initial.masks l.masks × (l.found ≡ sum (λ i. ones (mask_at l.n l.cells (l.from + i))) l.d) × (l.found ≤ 64 * l.d)
 

@@ -19,15 +19,14 @@ whole c = c.is_whole.ensures c.if-is_whole.true
 pub is_whole-requires : goal.is_whole-requires
 is_whole-requires c =
     let s = shaped _ _ c.requires.cells_value in
-    (c.requires.bx_bound, record { x = s.x; y = s.y; z = s.z })
+    record { bx_bound = c.requires.bx_bound; counted = record { x = s.x; y = s.y; z = s.z } }
 
 pub index_in-requires : goal.index_in-requires
 index_in-requires c =
-    let s = shaped _ _ c.requires.cells_value in (
-  omega (arith, s.x.most, s.y.most, s.z.most),
-  c.requires.bx_bound,
-
-)
+    let s = shaped _ _ c.requires.cells_value in record {
+      nx_bound = omega (arith, s.x.most, s.y.most, s.z.most);
+      x_lt_nx = c.requires.bx_bound;
+    }
 
 pub overflow_mul-row : goal.overflow_mul-row
 overflow_mul-row c = let s = shaped _ _ c.requires.cells_value in omega (arith, s.layer_most)

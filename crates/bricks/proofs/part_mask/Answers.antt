@@ -1,5 +1,5 @@
 -- After r turns the mask has the bits of the first r rows of the brick, four a row; the measure is what is left of 16. Assumes nothing.
-use Prim.Native.Nat.{◌+◌, ◌*◌, ◌-◌}
+use Prim.Native.Nat.{◌+◌, ◌*◌}
 use native.Mathlib.Omega.{arith}
 use mathlib.Core.Path.{◌≡◌, sym, ap, ◌∙◌}
 use Rattle.bricks.specs.Sums.{number_of}
@@ -28,7 +28,7 @@ pub overflow_add-bz : goal.overflow_add-bz
 overflow_add-bz c = omega arith
 
 pub row_bits-requires : goal.row_bits-requires
-row_bits-requires c = (c.requires.cells_value, c.requires.bx_bound.0)
+row_bits-requires c = record { cells_value = c.requires.cells_value; x_lt_nx = c.requires.bx_bound.0 }
 
 pub overflow_mul-mask : goal.overflow_mul-mask
 overflow_mul-mask c = omega arith
