@@ -1,6 +1,7 @@
 // Near marks and their completeness, row by row: into a window goes the largest byte, at each x, of the up to nine rows beside a row; a cell
 // of the row is beside a solid one where the window has a byte of 2 or more at x or next to it.
 #![tactic(auto)]
+
 ghost use Rattle.std.specs.Prelude.{◌+◌, ◌*◌, ◌^◌, ◌≤◌, ◌<◌, max, ◌≡◌, ◌&&◌, ◌||◌, length, get_or};
 ghost use Rattle.grids.specs.Grid.{shape, clear, solid};
 ghost use Rattle.grids.specs.Marks.{any, marked_byte, marked, Marks, Completes};
