@@ -22,7 +22,6 @@ use Rattle.grids.proofs.Any.{or_neither}
 use Rattle.grids.proofs.Inside.{inside_parts, inside_nat, inside_below, check_inside}
 use Rattle.grids.proofs.Shapes.{shaped}
 use Rattle.bricks.specs.declared.Tally.{Tally}
-use Rattle.bricks.specs.declared.Tally.TheVariants as Tally
 use Rattle.bricks.specs.Builds.{bricks_check}
 use Rattle.bricks.proofs.Building.{shape_fine}
 use Rattle.refills.specs.Boxes.{corner}

@@ -13,7 +13,6 @@ use Rattle.grids.specs.Grid.{size}
 use Rattle.grids.specs.Inside.{grid_check}
 use Rattle.grids.specs.Marks.{any}
 use Rattle.bricks.specs.declared.Tally.{Tally}
-use Rattle.bricks.specs.declared.Tally.TheVariants as Tally
 use Rattle.bricks.specs.Sums.{sum, digit}
 use Rattle.bricks.specs.Bricks.{bricks, mask_at}
 use Rattle.bricks.specs.Builds.{bricks_check}

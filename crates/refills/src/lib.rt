@@ -1,5 +1,6 @@
 // One cell set, or a box of cells refilled, with one byte: the masks of the bricks concerned are made anew, and the total moves as their ones do.
 #![tactic(auto)]
+
 ghost use Rattle.std.specs.Prelude.{◌+◌, ◌*◌, ◌^◌, ◌≤◌, ◌<◌, ◌≡◌, length};
 ghost use Rattle.std.specs.Int.Count.{ones};
 ghost use Rattle.cells.specs.Fills.{Filled};

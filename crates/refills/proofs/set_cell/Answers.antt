@@ -1,0 +1,123 @@
+-- `refills::set_cell` meets its contract: the mask of the cell's brick is tested, its bit turned, and the total moves with its ones; each way out is
+-- a law. Assumes nothing.
+use Prim.Native.Nat.{ℕ, ◌/◌, ◌≤◌, ◌<◌}
+use native.Mathlib.Omega.{arith}
+use mathlib.Core.Path.{◌≡◌, sym, ap, ◌∙◌}
+use lib.ListN.{length}
+use Rattle.grids.specs.Grid.{size}
+use Rattle.grids.proofs.Shapes.{shaped}
+use Rattle.bricks.specs.Bricks.{mask_of, brick_there}
+use Rattle.bricks.proofs.Bricked.{bricks_shaped}
+use Rattle.refills.specs.Refills.{bad_total}
+use Rattle.refills.proofs.Boxes.{boxed_bricks}
+use Rattle.refills.proofs.Single.{cell_below, there_below}
+use Rattle.refills.proofs.Keeping.{total_fits}
+use Rattle.refills.proofs.Changing.{refused_mask, refused_total, cell_differs, cell_ones, cell_set}
+use Rattle.refills.proofs.set_cell.Goals as goal
+use Rattle.refills.proofs.set_cell.Goals.{After-bad_total, After-mask_of-mask, Else-bad_total}
+
+-- the number of the cell's brick
+numbered : (c : After-mask_of-mask) →
+    let a = c.args in c.index_in-k.result ≡ brick_there a.n a.at.x
+    a.at.y a.at.z
+numbered c = c.index_in-k.ensures ∙ rw (c.bricks_of.ensures, c.brick_of-b.ensures)
+
+-- its mask by the bytes
+masked : (c : After-mask_of-mask) → let a = c.args in c.mask_of-mask.result ≡ mask_of a.n a.cells.now (a.at.x / 4) (a.at.y / 4) (a.at.z / 4)
+masked c = c.mask_of-mask.ensures ∙ rw c.brick_of-b.ensures
+
+-- it is lent, and its bytes' number fits
+lent : (c : After-mask_of-mask) → let a = c.args in
+    (c.index_in-k.result < length a.masks.now) × (c.index_in-k.result < 1073741824)
+lent c =
+    let a = c.args in
+    let below = there_below a.n a.at c.requires.boxed.0 in
+    let few = (bricks_shaped a.n _ (shaped _ _ c.requires.cells_value)).size_most in
+    let number = numbered c in
+    (omega (arith, c.requires.boxed.1), omega arith)
+
+pub bricks_of-requires : goal.bricks_of-requires
+bricks_of-requires c = let s = shaped _ _ c.requires.cells_value in record { x = s.x; y = s.y; z = s.z }
+
+pub index_in-k-requires : goal.index_in-k-requires
+index_in-k-requires c =
+    let box = boxed_bricks c.args.n c.args.at c.args.at c.requires.boxed.0 in
+    rw (c.bricks_of.ensures, c.brick_of-b.ensures) (omega (arith, box.x, box.y, box.z))
+
+pub mask_of-mask-requires : goal.mask_of-mask-requires
+mask_of-mask-requires c =
+    let box = c.requires.boxed.0 in
+    record { cells_value = c.requires.cells_value; bx_bound = rw c.brick_of-b.ensures (omega (arith, box.x, box.y, box.z)) }
+
+pub offset_bounds-masks-k : goal.offset_bounds-masks-k
+offset_bounds-masks-k c = omega (arith, (lent c).1)
+
+pub bounds-masks-k : goal.bounds-masks-k
+bounds-masks-k c = (lent ((goal.at.bounds-masks-k c).After-mask_of-mask)).0
+
+pub returns-then-masks-k : goal.returns-then-masks-k
+returns-then-masks-k c =
+    let a = c.args in
+    refused_mask a.n a.at a.at a.byte a.cells.now a.masks.now a.total
+    (cell_differs a.n a.at c.requires.boxed.0 a.cells.now a.masks.now (shaped _ _ c.requires.cells_value) _ _ (numbered ((goal.at.returns-then-masks-k c).After-mask_of-mask)) (masked ((goal.at.returns-then-masks-k c).After-mask_of-mask))
+    c.if-masks-k.true)
+
+-- what the test of the total answered, by the number of cells
+judged : (c : After-bad_total) →
+    let a = c.args in c.bad_total.result ≡ bad_total
+    a.total c.ones-old.result (size a.n)
+judged c =
+    c.bad_total.ensures ∙ ap (λ (k : ℕ). bad_total c.args.total c.ones-old.result k) (shaped _ _ c.requires.cells_value).bytes_are
+
+pub returns-then-bad_total : goal.returns-then-bad_total
+returns-then-bad_total c =
+    let a = c.args in
+    refused_total a.n a.at a.at a.byte a.cells.now a.masks.now a.total _
+    (cell_ones a.n a.at c.requires.boxed.0 a.cells.now a.masks.now (shaped _ _ c.requires.cells_value) _ _ (numbered ((goal.at.returns-then-bad_total c).After-mask_of-mask)) (masked ((goal.at.returns-then-bad_total c).After-mask_of-mask))
+    c.if-masks-k.false _
+    c.ones-old.ensures.0) (sym (judged ((goal.at.returns-then-bad_total c).After-bad_total)) ∙ c.if-bad_total.true)
+
+-- past both tests the total lies between those ones and the number of cells
+fits : (c : Else-bad_total) → let a = c.args in
+    (c.ones-old.result ≤ a.total) × (a.total ≤ size a.n)
+fits c =
+    let is : c.bad_total.result ≡ bad_total c.args.total c.ones-old.result (size c.args.n) =
+    c.bad_total.ensures ∙ ap (λ (k : ℕ). bad_total c.args.total c.ones-old.result k) (shaped _ _ c.requires.cells_value).bytes_are in
+    total_fits _ _ _ (sym is ∙ c.if-bad_total.false)
+
+pub index_in-i-requires : goal.index_in-i-requires
+index_in-i-requires c =
+    let box = c.requires.boxed.0 in
+    let s = shaped _ _ c.requires.cells_value in record {
+      nx_bound = omega (arith, s.x.most, s.y.most, s.z.most);
+      x_lt_nx = omega (arith, box.x, box.y, box.z);
+    }
+
+pub bounds-cells-i : goal.bounds-cells-i
+bounds-cells-i c =
+    let a = c.args in
+    omega (arith, c.index_in-i.ensures, cell_below a.n a.at c.requires.boxed.0 a.cells.now (shaped _ _ c.requires.cells_value))
+
+pub offset_bounds-masks-k-2 : goal.offset_bounds-masks-k-2
+offset_bounds-masks-k-2 c = omega (arith, (lent ((goal.at.offset_bounds-masks-k-2 c).After-mask_of-mask)).1)
+
+pub bounds-masks-k-2 : goal.bounds-masks-k-2
+bounds-masks-k-2 c = (lent ((goal.at.bounds-masks-k-2 c).After-mask_of-mask)).0
+
+pub overflow_sub-result : goal.overflow_sub-result
+overflow_sub-result c = (fits ((goal.at.overflow_sub-result c).Else-bad_total)).0
+
+pub overflow_add-result : goal.overflow_add-result
+overflow_add-result c =
+    let s = shaped _ _ c.requires.cells_value in
+    omega (arith, (fits ((goal.at.overflow_add-result c).Else-bad_total)).1, s.size_most, c.ones.ensures.1)
+
+pub returns : goal.returns
+returns c =
+    let a = c.args in
+    cell_set a.n a.at c.requires.boxed.0 a.cells.now a.masks.now (shaped _ _ c.requires.cells_value) _ _ (numbered ((goal.at.returns c).After-mask_of-mask)) (masked ((goal.at.returns c).After-mask_of-mask))
+    c.if-masks-k.false
+    a.byte a.total _ _ _ _ _ c.requires.boxed.1 c.index_in-i.ensures c.bit_in_brick.ensures.0
+    c.with_bit-turned.ensures
+    c.ones-old.ensures.0 (sym (judged ((goal.at.returns c).After-bad_total))
+    ∙ c.if-bad_total.false) c.ones.ensures.0
