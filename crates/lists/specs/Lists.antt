@@ -14,7 +14,6 @@ use Rattle.cells.specs.Refusals.{Told, told}
 use Rattle.lines.specs.Preference.{by_rule}
 use Rattle.lines.specs.Lines.{six_line, line_26, in_limit}
 use Rattle.lists.specs.declared.Listed.{Listed}
-use Rattle.lists.specs.declared.Listed.TheVariants as Listed
 
 -- SCOPE R1: an end beyond the coordinate limit (x, y, z)
 abbrev pub end_check : End → Cell → Verdict

@@ -2,7 +2,7 @@
 -- comes next. It holds for every order in which the loop may have started, since the loop itself knows none. The measure is how many crossings are left.
 -- Assumes nothing.
 use mathlib.Core.Path.{sym, ap, ◌∙◌, subst}
-use Prim.Native.Nat.{◌+◌, ◌-◌, ◌*◌, ◌≤◌, ◌<◌}
+use Prim.Native.Nat.{◌+◌, ◌*◌, ◌≤◌, ◌<◌}
 use native.Mathlib.Omega.{arith}
 use borrow.Author.Rules.{rules}
 use lib.ListN.{length}
@@ -46,7 +46,7 @@ put-requires c = omega (arith, (c.loop-m.invariant _ _ (start ((goal.at.put-requ
 pub crossed-s-requires : goal.crossed-s-requires
 crossed-s-requires c =
     let k = c.requires.0 in
-    let b = start ((goal.at.crossed-s-requires c).In-loop-m) in
+    let b = start ((goal.at.crossed-s-requires c).After-total-crossings) in
     let o = order_of c.args.rule _ _ in
     can_cross o _ _ _ b.way k.p_in k.q_in _ _
     (place_on (C o _ _) (centres_good (prefers o) _) c.loop-m.m (omega (arith, b.count))).1 (c.loop-m.invariant o _ b).1

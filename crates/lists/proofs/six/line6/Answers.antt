@@ -46,5 +46,5 @@ returns-else-out-cells c =
     let p = c.args.p in
     let q = c.args.q in
     let r = by_rule c.args.rule p q in
-    subst (λ n. Line6 c.args.rule p q c.args.out.now (Cells n) c.fill6.new.0) (six_length r p q ∙ ap (λ k. k + 1) (count ((goal.at.returns-else-out-cells c).After-total-cells)))
+    subst (λ n. Line6 c.args.rule p q c.args.out.now (Cells n) c.fill6.new.out) (six_length r p q ∙ ap (λ k. k + 1) (count ((goal.at.returns-else-out-cells c).After-total-cells)))
     (listed_all (six_line r p q) (ends_check p q) c.args.out.now _ (fine ((goal.at.returns-else-out-cells c).In-Fine)) (omega (arith, six_length r p q, count ((goal.at.returns-else-out-cells c).After-total-cells))) c.fill6.ensures)

@@ -1,7 +1,7 @@
 -- `lists::twenty_six::fill26` meets its contract: the invariant: m cells are stored, and c are the coordinates of cell m; a turn stores one more and moves each
 -- coordinate where that is due. The measure is how many cells are left. Assumes nothing.
 use mathlib.Core.Path.{◌≡◌, sym, ap, ◌∙◌, subst}
-use Prim.Native.Nat.{◌+◌, ◌-◌}
+use Prim.Native.Nat.{◌+◌}
 use native.Mathlib.Omega.{arith}
 use Rattle.lines.specs.Lines.{differences, longest, cell_26}
 use Rattle.cells.specs.Tabulate.{tabulate}

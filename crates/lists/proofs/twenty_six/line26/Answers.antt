@@ -42,5 +42,5 @@ pub returns-else-out-count : goal.returns-else-out-count
 returns-else-out-count c =
     let p = c.args.p in
     let q = c.args.q in
-    subst (λ n. Line26 p q c.args.out.now (Cells n) c.fill26.new.0) (length_26 p q ∙ ap (λ k. k + 1) (count ((goal.at.returns-else-out-count c).After-longest-last)))
+    subst (λ n. Line26 p q c.args.out.now (Cells n) c.fill26.new.out) (length_26 p q ∙ ap (λ k. k + 1) (count ((goal.at.returns-else-out-count c).After-longest-last)))
     (listed_all (line_26 p q) (ends_check p q) c.args.out.now _ (fine ((goal.at.returns-else-out-count c).In-Fine)) (omega (arith, length_26 p q, count ((goal.at.returns-else-out-count c).After-longest-last))) c.fill26.ensures)
