@@ -16,7 +16,6 @@ use Rattle.cells.specs.Checks.{refuse_when, by_verdict}
 use Rattle.cells.specs.Manners.{rule_check}
 use Rattle.cells.proofs.Checks.{passed, then_same}
 use Rattle.records.specs.declared.venues.VenueRead.{VenueRead}
-use Rattle.records.specs.declared.venues.VenueRead.TheVariants as VenueRead
 use Rattle.records.specs.declared.pairs.PairRead.TheVariants as PairRead
 use Rattle.records.specs.Heads.{length_field, announced, version_of, whole_check}
 use Rattle.records.specs.Venues.{venue_version, venue_head, counts_from, counts_at, venue_in, venue_check, venue_read, part_of, venue_cells}

@@ -22,7 +22,6 @@ use Rattle.records.specs.Heads.{length_field, announced, version_of, whole_check
 use Rattle.records.specs.Venues.{venue_version, venue_head, cells_from, counts_from, counts_at, venue_in, venue_check, venue_read, venue_cells}
 use Rattle.records.proofs.HeadTests.{VenueWhole, venue_accepted, part_within, head_least}
 use Rattle.records.specs.declared.writing.Written.{Written}
-use Rattle.records.specs.declared.writing.Written.TheVariants as Written
 use Rattle.records.specs.Writing.{written_version, count_bytes, head_bytes, record_length, write_check, after_writing, WritesVenue}
 use Rattle.records.proofs.WriteTests.{head_length, writable}
 

@@ -9,12 +9,9 @@ use Rattle.cells.specs.declared.Rule.{Rule}
 use Rattle.cells.specs.Refusals.{Told}
 use Rattle.cells.proofs.Refusals.{told_back, tells_apart, untold_by}
 use Rattle.records.specs.declared.writing.Written.{Written}
-use Rattle.records.specs.declared.writing.Written.TheVariants as Written
 use Rattle.records.specs.Writing.{told_written}
 use Rattle.records.specs.declared.venues.VenueRead.{VenueRead}
-use Rattle.records.specs.declared.venues.VenueRead.TheVariants as VenueRead
 use Rattle.records.specs.declared.pairs.PairRead.{PairRead}
-use Rattle.records.specs.declared.pairs.PairRead.TheVariants as PairRead
 use Rattle.records.specs.Venues.{told_venue}
 use Rattle.records.specs.Pairs.{told_pair}
 

@@ -11,7 +11,6 @@ use Rattle.cells.specs.Manners.{rule_of, rule_check}
 use Rattle.cells.specs.Refusals.{Told, told}
 use Rattle.records.specs.declared.pairs.Pair.{Pair}
 use Rattle.records.specs.declared.pairs.PairRead.{PairRead}
-use Rattle.records.specs.declared.pairs.PairRead.TheVariants as PairRead
 use Rattle.records.specs.Heads.{length_field, announced, version_of, whole_check}
 
 -- SCOPE V5: the versions of a pair's record

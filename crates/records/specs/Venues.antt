@@ -12,7 +12,6 @@ use Rattle.cells.specs.Refusals.{Told, told}
 use Rattle.grids.specs.Grid.{shape}
 use Rattle.records.specs.declared.venues.Venue.{Venue}
 use Rattle.records.specs.declared.venues.VenueRead.{VenueRead}
-use Rattle.records.specs.declared.venues.VenueRead.TheVariants as VenueRead
 use Rattle.records.specs.Heads.{length_field, announced, version_of, whole_check}
 
 -- the versions of a venue's record

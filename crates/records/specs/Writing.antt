@@ -9,7 +9,6 @@ use Rattle.cells.specs.Checks.{refuse_when, ◌then◌, by_verdict}
 use Rattle.cells.specs.Refusals.{Told, told}
 use Rattle.grids.specs.Grid.{size, shape}
 use Rattle.records.specs.declared.writing.Written.{Written}
-use Rattle.records.specs.declared.writing.Written.TheVariants as Written
 use Rattle.records.specs.Venues.{venue_head, cells_from}
 
 -- the version that is written

@@ -1,5 +1,6 @@
 // Records: venues read and written, pairs read. Big-endian; four bytes, the length of what follows, stand first, then the version.
 #![tactic(auto)]
+
 mod heads; // what both records begin with
 mod pairs;
 mod venues;
