@@ -10,7 +10,6 @@ use Rattle.cells.specs.declared.Counts.{Counts}
 use Rattle.lines.specs.Touching.{Visit, visit_cell}
 use Rattle.grids.specs.Grid.{byte_of}
 use Rattle.walks.specs.declared.FirstHit.{FirstHit}
-use Rattle.walks.specs.declared.FirstHit.TheVariants as FirstHit
 use Rattle.touching.specs.Touching.{visit_place, found_in}
 
 module _ (test : Cell → Bool) (n : Counts) (l : List ℕ) (p q : Cell) (d : Visit) where

@@ -31,7 +31,6 @@ use Rattle.lines.proofs.Visits.{Visiting, at_tie}
 use Rattle.tripod.specs.Tripod.{NextTie}
 use Rattle.grids.specs.Grid.{byte_of, solid}
 use Rattle.walks.specs.declared.FirstHit.{FirstHit}
-use Rattle.walks.specs.declared.FirstHit.TheVariants as FirstHit
 use Rattle.walks.specs.Walks.{hit_at}
 use Rattle.walks.proofs.Find.{is_cell_self}
 use Rattle.walks.proofs.Testing.{other_test}
@@ -219,6 +218,8 @@ module _ (l : List ℕ) (k : Route) (plan : Planned (length l) k) where
   scan : (start : Start) (u : Steps) (reads : ℕ) (d : Spot) (vs : List Visit) (ss : List Spot) → Together (λ v s. At (visited v) s) vs ss → Each (Tied u) vs →
       Looked start u reads vs (looked l reads d ss) (looked l reads d ss).hit
   scan start u reads d [] [] neither no_more = record { many = omega arith; goes_on = λ more. refl }
+  scan start u reads d [] (s ∷ ss) x4 _ = elim x4 [ ]
+  scan start u reads d (v ∷ vs) [] x5 _ = elim x5 [ ]
   scan start u reads d (v ∷ vs) (s ∷ ss) (both r t) (also h e) = go (solid (byte_of_spot l s)) refl (scan start u (reads + 1) s vs ss t e)
     where
       byte : solid (byte_of_spot l s) ≡ solid (byte_of k.n l (visit_cell k.p k.q v))

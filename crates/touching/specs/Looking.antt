@@ -7,7 +7,6 @@ use Rattle.lines.specs.Touching.{visits, crossings}
 use Rattle.tripod.specs.Tripod.{NextTie}
 use Rattle.grids.specs.Grid.{solid}
 use Rattle.walks.specs.declared.FirstHit.{FirstHit}
-use Rattle.walks.specs.declared.FirstHit.TheVariants as FirstHit
 use Rattle.walks.specs.Walks.{hit_at}
 use Rattle.routes.specs.declared.Route.{Route}
 use Rattle.routes.specs.declared.Spot.{Spot}

@@ -15,7 +15,6 @@ use Rattle.grids.specs.Grid.{byte_of}
 use Rattle.grids.specs.Inside.{walk_check}
 use Rattle.walks.specs.declared.Place.{Place}
 use Rattle.walks.specs.declared.FirstHit.{FirstHit}
-use Rattle.walks.specs.declared.FirstHit.TheVariants as FirstHit
 use Rattle.walks.specs.Walks.{Conduct, hit_at}
 
 -- SCOPE M8: the contract of the list

@@ -1,6 +1,7 @@
 // Every cell that a line touches: the list of the touching line, and the first hit along it. Both go from tie to tie, which is of one axis, of two or of
 // three, by the decision values of the tripod, which sums move.
 #![tactic(auto)]
+
 mod hit;
 mod list;
 

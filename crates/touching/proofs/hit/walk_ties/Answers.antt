@@ -1,0 +1,127 @@
+-- `touching::hit::walk_ties` meets its contract: the invariant: the spot is that of a place between two ties, and what is found from there is what the walk
+-- finds. The measure is how many crossings are left. Assumes nothing.
+use mathlib.Core.Path.{◌≡◌, refl, sym, ap, ◌∙◌, subst}
+use mathlib.Core.Bool.{Bool, true, false}
+use Prim.Native.Nat.{◌+◌, ◌-◌, ◌≤◌, ◌<◌}
+use native.Mathlib.Omega.{arith}
+use lib.ListN.{length}
+use Rattle.lines.specs.Steps.{X, Y, Z, total}
+use Rattle.lines.specs.Lines.{differences}
+use Rattle.lines.specs.declared.Tie.TheVariants.{One}
+use Rattle.tripod.specs.Tripod.{NextTie}
+use Rattle.grids.specs.Grid.{solid}
+use Rattle.routes.specs.Route.{Planned, HasByte}
+use Rattle.routes.proofs.Spots.{short_at}
+use Rattle.touching.specs.Looking.{CanLookTie, Turned, WalksTies}
+use Rattle.touching.proofs.Group.{tie_few}
+use Rattle.touching.proofs.Finding.{one_turned, Walking, walking_start, faces_most, reads_most, walking_can, turn_stops, turn_goes, walk_stops}
+use Rattle.touching.proofs.hit.walk_ties.Goals as goal
+use Rattle.touching.proofs.hit.walk_ties.Goals.{After-is_solid, After-total-faces, At-loop-m, Else-turn, In-One, In-loop-m}
+
+-- how many crossings there are
+all : (c : After-total-faces) → let k = c.args.k in c.total-faces.result ≡ total (differences k.p k.q)
+all c = c.total-faces.ensures ∙ ap total c.requires.0.is
+
+pub loop-m-init : goal.loop-m-init
+loop-m-init c = λ plan. walking_start c.args.cells.now c.args.k plan c.args.start c.requires.2
+
+-- a turn begins before the last crossing
+below : (c : In-loop-m) →
+    let k = c.args.k in
+    c.loop-m.m < total (differences k.p k.q)
+below c = subst (λ n. c.loop-m.m < n) ((let it : let k = c.args.k in c.total-faces.result ≡ total (differences k.p k.q) = c.total-faces.ensures ∙ ap total c.requires.0.is in it)) c.loop-m-test.true
+
+-- the walk is here
+here : (c : At-loop-m) →
+    Walking c.args.cells.now c.args.k c.requires.0 c.loop-m.s c.loop-m.m (c.loop-m.m + c.loop-m.more)
+here c = c.loop-m.invariant c.requires.0
+
+-- ---- a tie of one axis
+one : (c : In-One) → NextTie c.loop-m.s.e (One c.in-One.n)
+one c = subst (NextTie _) c.in-One.is c.next_tie.ensures
+
+can : (c : In-One) →
+    CanLookTie (length c.args.cells.now) c.args.k c.loop-m.s (c.loop-m.m + c.loop-m.more) (One c.in-One.n)
+can c =
+    (walking_can c.args.cells.now c.args.k c.requires.0 c.requires.1 _ _ _ ((let it : Walking c.args.cells.now c.args.k c.requires.0 c.loop-m.s c.loop-m.m (c.loop-m.m + c.loop-m.more) = c.loop-m.invariant c.requires.0 in it)) ((let it : let k = c.args.k in c.loop-m.m < total (differences k.p k.q) = subst (λ n. c.loop-m.m < n) ((let it : let k = c.args.k in c.total-faces.result ≡ total (differences k.p k.q) = c.total-faces.ensures ∙ ap total c.requires.0.is in it)) c.loop-m-test.true in it))).fits _ (one c)
+
+pub crossed-s-requires : goal.crossed-s-requires
+crossed-s-requires c = (can ((goal.at.crossed-s-requires c).In-One)).steps
+
+pub byte_at-requires : goal.byte_at-requires
+byte_at-requires c = subst (λ u. HasByte (length c.args.cells.now) u.at) (sym c.crossed-s.ensures) (can ((goal.at.byte_at-requires c).In-One)).look.there.0
+
+-- what the turn says
+turned : (c : After-is_solid) (hit : Bool) → c.is_solid.result ≡ hit →
+    Turned c.args.cells.now c.args.k c.loop-m.s (c.loop-m.m + c.loop-m.more)
+    (record { turn = record { spot = c.crossed-s.result; reads = c.loop-m.m + c.loop-m.more + 1; hit = hit }; faces = 1 })
+turned c hit is =
+    one_turned c.args.cells.now c.args.k c.loop-m.s c.crossed-s.result (c.loop-m.m + c.loop-m.more) _ hit ((let it : NextTie c.loop-m.s.e (One c.in-One.n) = subst (NextTie _) c.in-One.is c.next_tie.ensures in it)) c.crossed-s.ensures
+    (sym (c.is_solid.ensures ∙ ap solid c.byte_at.ensures) ∙ is)
+
+pub overflow_add-result : goal.overflow_add-result
+overflow_add-result c = record { fits = omega (arith, reads_most c.args.cells.now c.args.k c.requires.0 c.requires.1 _ _ _ (here ((goal.at.overflow_add-result c).At-loop-m))) }
+
+pub returns-then-is_solid : goal.returns-then-is_solid
+returns-then-is_solid c =
+    let one_more : c.loop-m.m + c.loop-m.more + 1 ≡ c.loop-m.m + 1 + c.loop-m.more = omega arith in
+    subst (λ r. WalksTies c.args.cells.now c.args.k (record { spot = c.crossed-s.result; reads = r; hit = true })) one_more
+    (turn_stops c.args.cells.now c.args.k c.requires.0 c.requires.1 _ _ _ (here ((goal.at.returns-then-is_solid c).At-loop-m)) (below ((goal.at.returns-then-is_solid c).In-loop-m)) _ (turned ((goal.at.returns-then-is_solid c).After-is_solid) true c.if-is_solid.true) refl)
+
+pub loop-m-smaller-else-is_solid : goal.loop-m-smaller-else-is_solid
+loop-m-smaller-else-is_solid c = omega (arith, c.loop-m-test.true)
+
+pub loop-m-preserved-else-is_solid : goal.loop-m-preserved-else-is_solid
+loop-m-preserved-else-is_solid c =
+    let one_more : c.loop-m.m + c.loop-m.more + 1 ≡ c.loop-m.m + 1 + c.loop-m.more = omega arith in
+    λ plan. subst (Walking c.args.cells.now c.args.k plan c.crossed-s.result (c.loop-m.m + 1)) one_more
+    (turn_goes c.args.cells.now c.args.k plan c.requires.1 _ _ _ (c.loop-m.invariant plan) (below ((goal.at.loop-m-preserved-else-is_solid c).In-loop-m)) _ (turned ((goal.at.loop-m-preserved-else-is_solid c).After-is_solid) false c.if-is_solid.false) refl)
+
+-- ---- a tie of more
+pub overflow_add-m-in_default : goal.overflow_add-m-in_default
+overflow_add-m-in_default c = record { fits = omega (arith, reads_most c.args.cells.now c.args.k c.requires.0 c.requires.1 _ _ _ (here ((goal.at.overflow_add-m-in_default c).At-loop-m))) }
+
+pub tie_turn-t-requires : goal.tie_turn-t-requires
+tie_turn-t-requires c = walking_can c.args.cells.now c.args.k c.requires.0 c.requires.1 _ _ _ (here ((goal.at.tie_turn-t-requires c).At-loop-m)) (below ((goal.at.tie_turn-t-requires c).In-loop-m))
+
+pub overflow_add-m-in_default-2 : goal.overflow_add-m-in_default-2
+overflow_add-m-in_default-2 c =
+    let short = short_at _ c.args.k c.requires.0 in
+    let most = faces_most c.args.cells.now c.args.k c.requires.0 c.requires.1 _ _ _ (here ((goal.at.overflow_add-m-in_default-2 c).At-loop-m)) in
+    record { fits = omega (arith, most, short X, short Y, short Z, tie_few c.tie_turn-t.ensures.tie, c.tie_turn-t.ensures.faces) }
+
+pub returns-then-turn : goal.returns-then-turn
+returns-then-turn c = turn_stops c.args.cells.now c.args.k c.requires.0 c.requires.1 _ _ _ (here ((goal.at.returns-then-turn c).At-loop-m)) (below ((goal.at.returns-then-turn c).In-loop-m)) c.tie_turn-t.result c.tie_turn-t.ensures c.if-turn.true
+
+-- a turn that missed
+on : (c : Else-turn) →
+    (plan : Planned (length c.args.cells.now) c.args.k) →
+    Walking c.args.cells.now c.args.k plan c.tie_turn-t.result.turn.spot (c.loop-m.m + c.tie_turn-t.result.faces)
+    c.tie_turn-t.result.turn.reads
+on c plan =
+    turn_goes c.args.cells.now c.args.k plan c.requires.1 _ _ _ (c.loop-m.invariant plan) ((let it : let k = c.args.k in c.loop-m.m < total (differences k.p k.q) = subst (λ n. c.loop-m.m < n) ((let it : let k = c.args.k in c.total-faces.result ≡ total (differences k.p k.q) = c.total-faces.ensures ∙ ap total c.requires.0.is in it)) c.loop-m-test.true in it)) c.tie_turn-t.result c.tie_turn-t.ensures c.if-turn.false
+
+-- its reads are more than its faces
+more_reads : (c : Else-turn) →
+    c.loop-m.m + c.tie_turn-t.result.faces < c.tie_turn-t.result.turn.reads
+more_reads c = (on c c.requires.0).least
+
+pub overflow_sub-more : goal.overflow_sub-more
+overflow_sub-more c = omega (arith, more_reads ((goal.at.overflow_sub-more c).Else-turn))
+
+pub loop-m-smaller : goal.loop-m-smaller
+loop-m-smaller c = omega (arith, c.loop-m-test.true, tie_few c.tie_turn-t.ensures.tie, c.tie_turn-t.ensures.faces)
+
+pub loop-m-preserved : goal.loop-m-preserved
+loop-m-preserved c =
+    let m = c.loop-m.m + c.tie_turn-t.result.faces in
+    let same : c.tie_turn-t.result.turn.reads ≡ m + (c.tie_turn-t.result.turn.reads - m) = omega (arith, more_reads ((goal.at.loop-m-preserved c).Else-turn)) in
+    λ plan. subst (Walking c.args.cells.now c.args.k plan c.tie_turn-t.result.turn.spot m) same (on ((goal.at.loop-m-preserved c).Else-turn) plan)
+
+pub overflow_add-result-2 : goal.overflow_add-result-2
+overflow_add-result-2 c = record { fits = omega (arith, reads_most c.args.cells.now c.args.k c.requires.0 c.requires.1 _ _ _ (here ((goal.at.overflow_add-result-2 c).At-loop-m))) }
+
+pub returns : goal.returns
+returns c =
+    walk_stops c.args.cells.now c.args.k c.requires.0 c.requires.1 _ _ _ (here ((goal.at.returns c).At-loop-m))
+    (subst (λ n. n ≤ c.loop-m.m) (all ((goal.at.returns c).After-total-faces)) c.loop-m-test.false)

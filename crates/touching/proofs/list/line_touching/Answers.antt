@@ -1,0 +1,58 @@
+-- `touching::list::line_touching` meets its contract: each way out has the verdict that led there, and an accepted call is filled in. Assumes nothing.
+use mathlib.Core.Path.{◌≡◌, sym, ap, ◌∙◌, subst}
+use Prim.Native.Nat.{◌*◌, ◌≤◌}
+use borrow.Author.Tests.{ltb-true, ltb-false}
+use lib.Dec.{ltb}
+use lib.ListN.{length}
+use Rattle.cells.specs.declared.Verdict.TheVariants.{Fine}
+use Rattle.lines.specs.Touching.{touching_line, visits}
+use Rattle.lines.proofs.Touched.{touching_length}
+use Rattle.lists.specs.declared.Listed.TheVariants.{Cells}
+use Rattle.lists.specs.Lists.{ends_check}
+use Rattle.lists.proofs.Front.{refused_first, refused_room, listed_all, ends_fine}
+use Rattle.touching.specs.Touching.{LineTouching}
+use Rattle.touching.specs.Listing.{course_of}
+use Rattle.touching.proofs.list.line_touching.Goals as goal
+use Rattle.touching.proofs.list.line_touching.Goals.{After-lacks_room, Else-lacks_room, In-Fine}
+
+-- where both ends have passed
+fine : (c : In-Fine) → ends_check c.args.p c.args.q ≡ Fine
+fine c = sym c.check_ends.ensures ∙ c.in-Fine.is
+
+pub measured-d-requires : goal.measured-d-requires
+measured-d-requires c = ends_fine _ _ (fine c)
+
+-- what the test of the room says
+room : (c : After-lacks_room) →
+    let a = c.args in
+    c.lacks_room.result ≡ ltb (length a.out.now) (3 * length (touching_line a.p a.q))
+room c =
+    let a = c.args in
+    c.lacks_room.ensures
+    ∙ ap (λ n. ltb (length a.out.now) (3 * n)) (ap (λ D. length (visits (course_of D))) c.measured-d.ensures.0 ∙ sym (touching_length a.p a.q))
+
+enough : (c : Else-lacks_room) → let a = c.args in 3 * length (touching_line a.p a.q) ≤ length a.out.now
+enough c = ltb-false _ _ (sym ((let it : let a = c.args in c.lacks_room.result ≡ ltb (length a.out.now) (3 * length (touching_line a.p a.q)) = let a = c.args in c.lacks_room.ensures ∙ ap (λ n. ltb (length a.out.now) (3 * n)) (ap (λ D. length (visits (course_of D))) c.measured-d.ensures.0 ∙ sym (touching_length a.p a.q)) in it)) ∙ c.if-lacks_room.false)
+
+pub fill-requires : goal.fill-requires
+fill-requires c =
+    let (hp, hq) = ends_fine _ _ (fine ((goal.at.fill-requires c).In-Fine)) in
+    (record { p_in = hp; q_in = hq; is = c.measured-d.ensures.0; short = c.measured-d.ensures.1 }, enough ((goal.at.fill-requires c).Else-lacks_room))
+
+pub returns-in-Refused : goal.returns-in-Refused
+returns-in-Refused c =
+    refused_first (touching_line c.args.p c.args.q) (ends_check c.args.p c.args.q) c.args.out.now _
+    (sym c.check_ends.ensures ∙ c.in-Refused.is)
+
+pub returns-then-lacks_room : goal.returns-then-lacks_room
+returns-then-lacks_room c =
+    refused_room (touching_line c.args.p c.args.q) (ends_check c.args.p c.args.q) c.args.out.now (fine ((goal.at.returns-then-lacks_room c).In-Fine))
+    (ltb-true _ _ (sym (room ((goal.at.returns-then-lacks_room c).After-lacks_room)) ∙ c.if-lacks_room.true))
+
+pub returns-else-lacks_room : goal.returns-else-lacks_room
+returns-else-lacks_room c =
+    let p = c.args.p in
+    let q = c.args.q in
+    let (stored, many) = c.fill.ensures in
+    subst (λ n. LineTouching p q c.args.out.now (Cells n) c.fill.new.out) (sym many)
+    (listed_all (touching_line p q) (ends_check p q) c.args.out.now _ (fine ((goal.at.returns-else-lacks_room c).In-Fine)) (enough ((goal.at.returns-else-lacks_room c).Else-lacks_room)) stored)
