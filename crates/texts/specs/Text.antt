@@ -5,7 +5,6 @@ use Rattle.cells.specs.declared.Axis.{Axis}
 use Rattle.cells.specs.declared.Axis.TheVariants.{X, Y, Z}
 use Rattle.cells.specs.declared.Cell.{Cell}
 use Rattle.cells.specs.declared.Face.{Face}
-use Rattle.cells.specs.declared.Face.TheVariants as Face
 
 -- ---- fields
 
