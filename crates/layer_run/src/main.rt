@@ -1,43 +1,40 @@
 // Writes, for each z from -1 to 2 of a grid of two layers, what the layer holds and what its partner says: start and length, or the refusal's
 // number. The bytes are letters that differ by layer, so a part in another place is seen.
 #![tactic(auto)]
+
 use cells::Counts;
 use grids::LayerPart;
-use libc::STDOUT_FILENO;
+use std::io;
 
-fn say(p: LayerPart) {
+fn say(rt: &impl Print, p: LayerPart) -> io::Result<()> {
     match p {
-        LayerPart::Part(start, long) => {
-            io::print_decimal(STDOUT_FILENO, start as u64);
-            io::write_all(STDOUT_FILENO, b" ");
-            io::print_decimal(STDOUT_FILENO, long as u64);
-        }
+        LayerPart::Part(start, long) => println!(rt; "{start} {long}"),
         LayerPart::Refused(r) => {
-            io::write_all(STDOUT_FILENO, b"refused ");
-            io::print_decimal(STDOUT_FILENO, cells::number(r) as u64);
+            let number = cells::number(r);
+            println!(rt; "refused {number}")
         }
     }
-    io::write_all(STDOUT_FILENO, b"\n");
 }
 
-fn show(n: Counts, bytes: &[u8], z: i32) {
-    io::write_all(STDOUT_FILENO, grids::layer(n, bytes, z));
-    io::write_all(STDOUT_FILENO, b" ");
-    say(grids::layer_part(n, bytes, z));
+fn show(rt: &impl Print, n: Counts, bytes: &[u8], z: i32) -> io::Result<()> {
+    rt.write_all(grids::layer(n, bytes, z))?;
+    rt.write_all(b" ")?;
+    say(rt, grids::layer_part(n, bytes, z))
 }
 
-fn main() {
+fn main(rt: HostRuntime) -> io::Result<()> {
     let n = Counts {
         nx: 3,
         ny: 2,
         nz: 2,
     };
     let bytes = b"abcdefghijkl";
-    show(n, bytes, -1);
-    show(n, bytes, 0);
-    show(n, bytes, 1);
-    show(n, bytes, 2);
+    show(&rt, n, bytes, -1)?;
+    show(&rt, n, bytes, 0)?;
+    show(&rt, n, bytes, 1)?;
+    show(&rt, n, bytes, 2)?;
     show(
+        &rt,
         Counts {
             nx: 3,
             ny: 2,
@@ -45,5 +42,5 @@ fn main() {
         },
         bytes,
         0,
-    );
+    )
 }
