@@ -1,5 +1,6 @@
 // C's structs: what goes into a call and what it means, and how each answer is flattened into numbers.
 #![tactic(auto)]
+
 mod refusals; // what every answer begins with: a refusal as three numbers
 mod faces; // an entry face as one number
 mod inputs; // the structs that go into a call

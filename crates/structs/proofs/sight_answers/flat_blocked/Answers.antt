@@ -3,22 +3,15 @@ use mathlib.Core.Path.{◌∙◌}
 use Rattle.cells.proofs.Machine.{held_is}
 use Rattle.structs.specs.Refusals.{accepted}
 use borrow.Author.Rules.{rules}
-use Rattle.structs.proofs.sight_answers.flat_blocked.Statement.{statement}
-use Rattle.structs.proofs.sight_answers.flat_blocked.Tie as tie
+use Rattle.structs.proofs.sight_answers.flat_blocked.Goals as goal
 
-cast-t5 : tie.Need-overflow-cast-t5
-cast-t5 c = search rules
-
-face-code-requires : tie.Need-face-code-requires
-face-code-requires c κs = search rules
-
-returns : tie.Need-returns
+pub returns : goal.returns
 returns c =
-    let b = c.before.before.before.before.args.b in
+    let b = c.args.b in
     let x = held_is b.cell.x (search rules) in
     let y = held_is b.cell.y (search rules) in
     let z = held_is b.cell.z (search rules) in
-    let face = held_is c.before.face-code.result (search rules) ∙ c.before.face-code.ensures in
+    let face = held_is c.face_code.result (search rules) ∙ c.face_code.ensures in
     λ i.
     record {
       said = accepted;
@@ -31,6 +24,3 @@ returns c =
       reads = b.reads;
       face = face i;
     }
-
-pub flat-blocked-spec : {M : Type 1} → statement M
-flat-blocked-spec = tie.close (tie.spec cast-t5 face-code-requires returns)

@@ -6,14 +6,12 @@ use native.Mathlib.Omega.{arith}
 use lib.IntN.{pos, ◌-ℤ◌}
 use mir.Syntax.{w32}
 use mir.Val.{SFits, to_z}
-use borrow.Author.Rules.{rules}
 use Rattle.cells.specs.declared.Axis.TheVariants.{X, Y, Z}
 use Rattle.cells.specs.declared.Face.{Face}
 use Rattle.cells.specs.declared.Face.TheVariants as Face
 use Rattle.cells.proofs.Machine.{nat_held, nat_fits, nat_small, small_diff, held, held_is}
 use Rattle.structs.specs.Faces.{face_axis, falls, face_number}
-use Rattle.structs.proofs.faces.face_code.Statement.{statement}
-use Rattle.structs.proofs.faces.face_code.Tie as tie
+use Rattle.structs.proofs.faces.face_code.Goals as goal
 
 few : (f : Face) → face_axis f ≤ 3
 few Face.None = omega arith
@@ -47,30 +45,21 @@ fits f {n} e = small_diff (pos 0) (pos n) (nat_small 0 (omega arith)) (nat_small
 as_is : (f : Face) {n : ℕ} → n ≡ face_axis f → to_z w32 n ≡ pos n
 as_is f {n} e = nat_held n (omega (arith, small f e))
 
-face-axis-requires : tie.Need-face-axis-requires
-face-axis-requires c κs = search rules
+pub overflow_cast-n : goal.overflow_cast-n
+overflow_cast-n c = nat_fits _ (omega (arith, small c.args.f c.face_axis-n.ensures))
 
-cast-n : tie.Need-overflow-cast-n
-cast-n c = nat_fits _ (omega (arith, small c.before.args.f c.face_axis.ensures))
+pub overflow_sub-result : goal.overflow_sub-result
+overflow_sub-result c = let e = c.face_axis-n.ensures in let f = c.args.f in rw (as_is f e) (fits f e)
 
-falls-requires : tie.Need-falls-requires
-falls-requires c κs = search rules
-
-sub-result : tie.Need-overflow-sub-result
-sub-result c = let e = c.before.before.face_axis.ensures in let f = c.before.before.before.args.f in rw (as_is f e) (fits f e)
-
-returns : tie.Need-returns
-returns c =
-    let e = c.before.before.face_axis.ensures in
-    let f = c.before.before.before.args.f in
+pub returns-then-falls : goal.returns-then-falls
+returns-then-falls c =
+    let e = c.face_axis-n.ensures in
+    let f = c.args.f in
     ap (λ v. held (pos 0 -ℤ v)) (as_is f e) ∙ held_is _ (fits f e) ∙ ap (λ n. pos 0 -ℤ pos n) e
-    ∙ falling f (sym c.before.falls.ensures ∙ c.if1.true)
+    ∙ falling f (sym c.falls.ensures ∙ c.if-falls.true)
 
-returns-2 : tie.Need-returns-2
-returns-2 c =
-    let e = c.before.before.face_axis.ensures in
-    let f = c.before.before.before.args.f in
-    as_is f e ∙ ap pos e ∙ rising f (sym c.before.falls.ensures ∙ c.if1.false)
-
-pub face-code-spec : {M : Type 1} → statement M
-face-code-spec = tie.close (tie.spec face-axis-requires cast-n falls-requires sub-result returns returns-2)
+pub returns-else-falls : goal.returns-else-falls
+returns-else-falls c =
+    let e = c.face_axis-n.ensures in
+    let f = c.args.f in
+    as_is f e ∙ ap pos e ∙ rising f (sym c.falls.ensures ∙ c.if-falls.false)
