@@ -1,6 +1,7 @@
 // The trail: the cells on which the adaptive walk stands, listed. They are cells of the 6-line, so one face after another is crossed; which of the cells on
 // the way are listed is seen from the bytes and from how far the next cell of the 26-line is.
 #![tactic(auto)]
+
 ghost use Rattle.std.specs.Prelude.{◌≡◌, ◌*◌, ◌≤◌, length};
 ghost use Rattle.cells.specs.declared.Verdict.TheVariants.{Fine};
 ghost use Rattle.walks.specs.declared.Walker.TheVariants.{Adaptive};

@@ -1,0 +1,111 @@
+-- `trails::fill` meets its contract: the invariant: m cells are stored, and the walk stands where it stands after m steps; a turn stores its cell and steps on.
+-- The measure is how many cells are left. Assumes nothing.
+use mathlib.Core.Path.{◌≡◌, sym, ap, ◌∙◌, subst}
+use Prim.Native.Nat.{ℕ, ◌+◌, ◌-◌, ◌*◌, ◌≤◌, ◌<◌}
+use native.Mathlib.Omega.{arith}
+use borrow.Author.Rules.{rules}
+use lib.ListN.{length}
+use Rattle.cells.specs.declared.Cell.{Cell}
+use Rattle.lines.specs.Steps.{X, Y, Z}
+use Rattle.lines.specs.Lines.{six_cell}
+use Rattle.walks.specs.Numbers.{stands, last_number}
+use Rattle.routes.specs.Route.{preference}
+use Rattle.routes.proofs.Accepting.{p_enclosed}
+use Rattle.routes.proofs.Spots.{at_first, short_at}
+use Rattle.lists.specs.Lists.{filled}
+use Rattle.lists.proofs.Filling.{filled_none, filled_one, filled_last}
+use Rattle.trails.specs.Standing.{stand, stand_cells, StandsAt, CanPass}
+use Rattle.trails.proofs.Steps26.{starts_on}
+use Rattle.trails.proofs.Along.{stand_next, stand_most}
+use Rattle.trails.proofs.fill.Goals as goal
+use Rattle.trails.proofs.fill.Goals.{At-loop-m, In-loop-m}
+
+pub overflow_sub-last : goal.overflow_sub-last
+overflow_sub-last c = omega (arith, c.requires.1.some)
+
+pub first_spot-requires : goal.first_spot-requires
+first_spot-requires c = p_enclosed c.requires.0
+
+pub loop-m-init : goal.loop-m-init
+unfolding stands
+loop-m-init c =
+    let k = c.args.k in
+    (filled_none _ _ _, record { spot = at_first _ k c.requires.0 _ c.first_spot.ensures; beside = starts_on k })
+
+-- there is room for all cells
+room : (l : At-loop-m) →
+    3 * (l.args.count - 1 + 1) ≤ length l.args.out.now
+room l = omega (arith, l.requires.1.some, l.requires.2)
+
+-- the walk stands on the line
+within : (l : At-loop-m) →
+    let a = l.args in
+    stand a.cells.now a.k l.loop-m.m ≤ last_number a.k.p a.k.q
+within l =
+    stand_most l.args.cells.now l.args.k l.args.count l.requires.1 l.loop-m.m (omega (arith, l.requires.1.some, l.loop-m.invariant.0.most))
+
+cell_there : (l : At-loop-m) → CanPass l.args.k 0 l.loop-m.t.spot
+cell_there l =
+    record { bytes = _; plan = l.requires.0; number = stand l.args.cells.now l.args.k l.loop-m.m; at = l.loop-m.invariant.1.spot; fits = omega (arith, within l) }
+
+-- before the last cell it is not at Q
+below : (i : In-loop-m) →
+    let a = i.args in
+    stand a.cells.now a.k i.loop-m.m < last_number a.k.p a.k.q
+below i =
+    i.requires.1.below i.loop-m.m (omega (arith, i.loop-m-test.true))
+
+pub spot_cell-requires : goal.spot_cell-requires
+spot_cell-requires c = cell_there ((goal.at.spot_cell-requires c).At-loop-m)
+
+pub put-requires : goal.put-requires
+put-requires c = omega (arith, room ((goal.at.put-requires c).At-loop-m), c.loop-m.invariant.0)
+
+pub next_stand-t-requires : goal.next_stand-t-requires
+next_stand-t-requires c =
+    record {
+      plan = c.requires.0;
+      long = c.longest_axis-long.ensures;
+      number = stand c.args.cells.now c.args.k c.loop-m.m;
+      below = below ((goal.at.next_stand-t-requires c).In-loop-m);
+      at = c.loop-m.invariant.1;
+    }
+
+pub overflow_add-at : goal.overflow_add-at
+overflow_add-at c =
+    let k = c.args.k in
+    let short = short_at _ k c.requires.0 in
+    record { fits = omega (arith, c.loop-m.invariant.0, c.requires.1.few, short X, short Y, short Z) }
+
+pub overflow_add-m : goal.overflow_add-m
+overflow_add-m c = record { fits = omega arith }
+
+pub loop-m-preserved : goal.loop-m-preserved
+loop-m-preserved c =
+    let k = c.args.k in
+    let cells = c.args.cells.now in (
+      filled_one (λ j. six_cell (preference k) k.p k.q (stand cells k j)) _ _ (room ((goal.at.loop-m-preserved c).At-loop-m)) _ _ _ c.loop-m.m _ c.loop-m.invariant.0 c.loop-m-test.true
+          c.put.ensures (c.spot_cell.ensures.is (stand cells k c.loop-m.m) (within ((goal.at.loop-m-preserved c).At-loop-m)) c.loop-m.invariant.1.spot),
+      subst (λ n. StandsAt k n c.next_stand-t.result) (stand_next cells k c.loop-m.m)
+          (c.next_stand-t.ensures.leads (stand cells k c.loop-m.m) (below ((goal.at.loop-m-preserved c).In-loop-m)) c.loop-m.invariant.1),
+    )
+
+pub spot_cell-requires-2 : goal.spot_cell-requires-2
+spot_cell-requires-2 c = cell_there ((goal.at.spot_cell-requires-2 c).At-loop-m)
+
+pub put-requires-2 : goal.put-requires-2
+put-requires-2 c = omega (arith, room ((goal.at.put-requires-2 c).At-loop-m), c.loop-m.invariant.0)
+
+pub shape_of-out : goal.shape_of-out
+shape_of-out c = let h = c.loop-m.invariant.0 in search (rules, h)
+
+pub returns : goal.returns
+returns c =
+    let k = c.args.k in
+    let cells = c.args.cells.now in
+    let count : c.args.count - 1 + 1 ≡ c.args.count = omega (arith, c.requires.1.some) in
+    let f : ℕ → Cell = λ j. six_cell (preference k) k.p k.q (stand cells k j) in
+    let last : c.loop-m.m ≡ c.args.count - 1 = omega (arith, c.loop-m.invariant.0.most, c.loop-m-test.false) in
+    filled_last f _ _ (room ((goal.at.returns c).At-loop-m)) _ _ _ c.loop-m.m _ c.loop-m.invariant.0 c.loop-m-test.false
+    (ap f (sym last) ∙ sym (c.spot_cell-2.ensures.is (stand cells k c.loop-m.m) (within ((goal.at.returns c).At-loop-m)) c.loop-m.invariant.1.spot)) c.put-2.ensures
+    ∙ ap (λ n. filled (stand_cells cells k n) c.args.out.now) count

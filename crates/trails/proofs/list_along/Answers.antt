@@ -1,0 +1,39 @@
+-- `trails::list_along` meets its contract: the walk's reads are how many cells there are; with room for them they are filled in. Assumes nothing.
+use mathlib.Core.Path.{◌≡◌, refl, sym, ap, ◌∙◌, subst}
+use native.Mathlib.Omega.{arith}
+use lib.ListN.{length}
+use Rattle.cells.specs.declared.Verdict.TheVariants.{Fine}
+use Rattle.walks.specs.declared.Walker.TheVariants.{Adaptive}
+use Rattle.walks.specs.Walks.{walk_of}
+use Rattle.hits.specs.Found.{conduct_of}
+use Rattle.lists.specs.declared.Listed.TheVariants.{Cells}
+use Rattle.lists.specs.Lists.{filled, Lists}
+use Rattle.lists.proofs.Front.{refused_room, listed_all}
+use Rattle.trails.specs.Standing.{stand_cells, CanList}
+use Rattle.trails.proofs.Along.{can_list, walked_is, walked_long}
+use Rattle.trails.proofs.list_along.Goals as goal
+use Rattle.trails.proofs.list_along.Goals.{After-walk_adaptive-stop}
+
+-- as many cells as the walk reads
+long : (c : After-walk_adaptive-stop) →
+    let a = c.args in
+    length (walk_of Adaptive (conduct_of a.how.start a.k) a.k.n a.cells.now a.k.p a.k.q) ≡ c.walk_adaptive-stop.result.reads
+long c = let a = c.args in walked_long a.cells.now a.k a.how.start ∙ sym c.walk_adaptive-stop.ensures.reads
+
+pub returns-then-out-count : goal.returns-then-out-count
+returns-then-out-count c = let a = c.args in refused_room _ Fine a.out.now refl (omega (arith, long ((goal.at.returns-then-out-count c).After-walk_adaptive-stop), c.if-out-count.true))
+
+pub fill-requires : goal.fill-requires
+fill-requires c =
+    let a = c.args in
+    (c.requires, subst (CanList a.cells.now a.k) (sym c.walk_adaptive-stop.ensures.reads) (can_list a.cells.now a.k a.how.start), c.if-out-count.false)
+
+pub returns : goal.returns
+returns c =
+    let a = c.args in
+    let line = walk_of Adaptive (conduct_of a.how.start a.k) a.k.n a.cells.now a.k.p a.k.q in
+    let reads = c.walk_adaptive-stop.ensures.reads in
+    subst (λ n. Lists line Fine a.out.now (Cells n) c.fill.new.out) (long ((goal.at.returns c).After-walk_adaptive-stop))
+    (listed_all line Fine a.out.now _ refl (omega (arith, long ((goal.at.returns c).After-walk_adaptive-stop), c.if-out-count.false))
+    (c.fill.ensures ∙ ap (λ n. filled (stand_cells a.cells.now a.k n) a.out.now) reads
+    ∙ ap (λ x. filled x a.out.now) (sym (walked_is a.cells.now a.k a.how.start))))
