@@ -1,6 +1,7 @@
 // The calls for C: each hands its inputs to the proved call and flattens the answer into a struct of numbers. One call more
 // says which revision of the header the library is.
 #![tactic(auto)]
+
 mod brick_calls;
 mod grid_calls;
 mod line_calls;
