@@ -111,7 +111,7 @@ module _ (e : End) (n : Counts) (at : Placement) (p : Point) where
       by_axes (passes off x x') (passes off_y y y') (wall on z) = inr (Z, on, rw (x', y', z) refl)
       by_axes (passes off x x') (passes off_y y y') (alike r z z') = inl (rw (x, x', y, y', z, z') refl)
       by_axes (passes off x x') (passes off_y y y') (passes off_z z z') =
-          inl (rw (x, x', y, y', z, z') (ap Cell (cell_same (λ a. elim a [ X ↦ off | Y ↦ off_y | Z ↦ off_z ]))))
+          inl (rw (x, x', y, y', z, z') (ap Cell (cell_same (λ a. elim a as (λ k. on_wall n at p k ≡ false) [ X ↦ off | Y ↦ off_y | Z ↦ off_z ]))))
 
   -- what the half-open rule found lies on no far wall
   found_off : (c : cell.Cell) → look_up_before e n at p ≡ Cell c → (a : Axis) → on_wall n at p a ≡ false
@@ -119,7 +119,7 @@ module _ (e : End) (n : Counts) (at : Placement) (p : Point) where
       let (fine, same) = by_fine Refused (point_before e n p q) _ (no_refusal c) h in
       let (x, rest) = each_fine _ _ fine in
       let (y, z) = each_fine _ _ rest in
-      elim a [
+      elim a as (λ k. on_wall n at p k ≡ false) [
         | X ↦ passed_off X n.nx p.x q.x x
         | Y ↦ passed_off Y n.ny p.y q.y y
         | Z ↦ passed_off Z n.nz p.z q.z z

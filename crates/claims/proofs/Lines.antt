@@ -6,7 +6,7 @@ use lib.IntN.{pos, negsuc, ◌-ℤ◌}
 use lib.Signed.{lt_z}
 use Rattle.cells.proofs.Signed.{diff_is, ≤ℤ_is}
 use Rattle.cells.specs.declared.Cell.{Cell}
-use Rattle.lines.specs.Steps.{X, Y, Z, Steps}
+use Rattle.lines.specs.Steps.{Axis, X, Y, Z, Steps}
 use Rattle.lines.specs.Crossings.{next, place}
 use Rattle.lines.specs.Preference.{Preference}
 use Rattle.lines.specs.Lines.{differences, centres, longest}
@@ -117,21 +117,27 @@ long_step D = record { moves = moves D }
 
 -- ---- the faces of a cell
 
+-- a fact of each axis, from that of the three
+of_each : (P : Axis → Type 0) → P X → P Y → P Z → (a : Axis) → P a
+of_each P x y z X = x
+of_each P x y z Y = y
+of_each P x y z Z = z
+
 pub half_a_cell : HalfACell
 half_a_cell =
     record {
       short_of = record {
-        from = λ a. elim a [ X ↦ record { lt = tt } | Y ↦ record { lt = tt } | Z ↦ record { lt = tt } ];
-        upto = λ a. elim a [ X ↦ record { lt = tt } | Y ↦ record { lt = tt } | Z ↦ record { lt = tt } ];
+        from = of_each _ (record { lt = tt }) (record { lt = tt }) (record { lt = tt });
+        upto = of_each _ (record { lt = tt }) (record { lt = tt }) (record { lt = tt });
       };
       on_the_face = (
         record {
-          from = λ a. elim a [ X ↦ record { le = tt } | Y ↦ record { le = tt } | Z ↦ record { le = tt } ];
-          upto = λ a. elim a [ X ↦ record { le = tt } | Y ↦ record { le = tt } | Z ↦ record { le = tt } ];
+          from = of_each _ (record { le = tt }) (record { le = tt }) (record { le = tt });
+          upto = of_each _ (record { le = tt }) (record { le = tt }) (record { le = tt });
         },
         record {
-          from = λ a. elim a [ X ↦ record { le = tt } | Y ↦ record { le = tt } | Z ↦ record { le = tt } ];
-          upto = λ a. elim a [ X ↦ record { le = tt } | Y ↦ record { le = tt } | Z ↦ record { le = tt } ];
+          from = of_each _ (record { le = tt }) (record { le = tt }) (record { le = tt });
+          upto = of_each _ (record { le = tt }) (record { le = tt }) (record { le = tt });
         },
       );
       not_inside = (λ h. (h.upto X).lt, λ h. (h.from X).lt);

@@ -100,6 +100,6 @@ pub record ShutOut : Type 0 where
   pub complete_always : Completes example_counts example_cells Yes → ⊥
   pub never_complete : Completes example_counts marked_cells No → ⊥
   pub empty_layer : (cells r : Bor (List ℕ)) → cells.now ≡ example_cells → GivesLayer example_counts cells (pos 0) r → r.now ≡ [] → ⊥
-  pub first_layer : (cells r : Bor (List ℕ)) → cells.now ≡ 0 ∷ 0 ∷ 0 ∷ 0 ∷ [] → GivesLayer two_layers cells (pos 1) r → r.ptr ≡ cells.ref_ptr → ⊥
+  pub first_layer : (cells r : Bor (List ℕ)) → cells.now ≡ 0 ∷ 0 ∷ 0 ∷ 0 ∷ [] → GivesLayer two_layers cells (pos 1) r → r.ref_ptr ≡ cells.ref_ptr → ⊥
   pub first_part : GivesLayerPart two_layers 4 (pos 1) (LayerPart.Part 0 2) → ⊥
   pub no_part : (r : Refusal) → GivesLayerPart two_layers 4 (pos 1) (LayerPart.Refused r) → ⊥
