@@ -5,7 +5,7 @@ use mathlib.Core.List.{List, []}
 use Prim.Native.Nat.{ℕ, ◌+◌}
 use lib.Dec.{eqb}
 use lib.ListN.{length}
-use Rattle.io.specs.Counts.{IsPrefixLen as Count}
+use Rattle.std.specs.Counts.{IsPrefixLen as Count}
 use Rattle.cells.specs.declared.Counts.{Counts}
 use Rattle.cells.specs.declared.Refusal.TheVariants.{Record}
 use Rattle.cells.specs.declared.Verdict.{Verdict}
@@ -14,7 +14,6 @@ use Rattle.walks.specs.declared.FirstHit.{FirstHit}
 use Rattle.cells.specs.Refusals.{told}
 use Rattle.grids.specs.Inside.{walk_check}
 use Rattle.records.specs.declared.pairs.PairRead.{PairRead}
-use Rattle.records.specs.declared.pairs.PairRead.TheVariants as PairRead
 use Rattle.records.specs.Pairs.{pair_read}
 use Rattle.program.specs.declared.Next.TheVariants.{On, Over}
 use Rattle.program.specs.declared.Step.{Step}

@@ -7,7 +7,7 @@ use native.Mathlib.Omega.{arith}
 use lib.Dec.{ltb}
 use lib.ListN.{length, take, length-append, length-take}
 use lib.Seq.{take_all}
-use Rattle.io.specs.Counts.{IsPrefixLen}
+use Rattle.std.specs.Counts.{IsPrefixLen}
 use Rattle.records.specs.Heads.{length_field, announced}
 use Rattle.records.proofs.Following.{same_announced}
 use Rattle.program.specs.Program.{beyond, frame_length, frame}

@@ -10,14 +10,11 @@ use Rattle.cells.specs.declared.Manner.{Manner}
 use Rattle.cells.specs.Manners.{tested_by}
 use Rattle.cells.specs.Refusals.{told}
 use Rattle.walks.specs.declared.FirstHit.{FirstHit}
-use Rattle.walks.specs.declared.FirstHit.TheVariants as FirstHit
 use Rattle.grids.specs.Inside.{walk_check}
 use Rattle.walks.specs.Answers.{first_hit}
 use Rattle.records.specs.declared.venues.VenueRead.{VenueRead}
-use Rattle.records.specs.declared.venues.VenueRead.TheVariants as VenueRead
 use Rattle.records.specs.declared.pairs.Pair.{Pair}
 use Rattle.records.specs.declared.pairs.PairRead.{PairRead}
-use Rattle.records.specs.declared.pairs.PairRead.TheVariants as PairRead
 use Rattle.records.specs.Heads.{length_field, announced}
 use Rattle.records.specs.Venues.{venue_read, venue_cells}
 use Rattle.records.specs.Pairs.{pair_read}

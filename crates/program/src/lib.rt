@@ -1,7 +1,8 @@
 // The program's steps: each takes the next frame of the input, and gives the text and what comes next.
 #![tactic(auto)]
+
 ghost use Rattle.std.specs.Prelude.{◌≡◌, ◌+◌, ◌-◌, ◌^◌, ◌≤◌, ◌<◌, length};
-ghost use Rattle.io.specs.Counts.{IsPrefixLen as Count};
+ghost use Rattle.std.specs.Counts.{IsPrefixLen as Count};
 ghost use Rattle.texts.specs.Text.{line_room, Puts};
 ghost use Rattle.program.specs.Program.{beyond, venue_refused, venue_said, after_refusal, pair_refused, walk_line};
 ghost use Rattle.program.specs.Program.{answers, walk_lines, said_of_pair, pair_said, text_room, Says, Follows};
