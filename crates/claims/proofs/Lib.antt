@@ -1,5 +1,6 @@
 pub mod Headline
 pub mod Words
+pub mod Cases
 pub mod Starred
 pub mod Lines
 pub mod Lists

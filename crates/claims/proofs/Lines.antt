@@ -6,7 +6,7 @@ use lib.IntN.{pos, negsuc, ◌-ℤ◌}
 use lib.Signed.{lt_z}
 use Rattle.cells.proofs.Signed.{diff_is, ≤ℤ_is}
 use Rattle.cells.specs.declared.Cell.{Cell}
-use Rattle.lines.specs.Steps.{Axis, X, Y, Z, Steps}
+use Rattle.lines.specs.Steps.{X, Y, Z, Steps}
 use Rattle.lines.specs.Crossings.{next, place}
 use Rattle.lines.specs.Preference.{Preference}
 use Rattle.lines.specs.Lines.{differences, centres, longest}
@@ -18,6 +18,7 @@ use Rattle.lines.proofs.Signs.{sign_tells, figure_6_is_next, lowered_moves, lowe
 use Rattle.lines.proofs.TieSigns.{tie_by_signs_is}
 use Rattle.lines.proofs.Cells.{six_length, six_numbered, six_start, six_end, six_different, six_by_face, six_touched, six_misses_none, six_at_26}
 use Rattle.lines.proofs.Cells.{length_26, numbered_26, start_26, end_26, moves_by_one_26, longest_moves_26, skipped_touches, limited_difference}
+use Rattle.claims.proofs.Cases.{on_axes}
 use Rattle.claims.specs.Lines.{OnePlace, SixLine, Touched, NoneMissing, TwentySixLine, Skipped, Signs, SmallValues, Entered, Moves, LongStep, HalfACell}
 
 pub one_place : (r : Preference) (D : Steps) → OnePlace r D
@@ -117,27 +118,21 @@ long_step D = record { moves = moves D }
 
 -- ---- the faces of a cell
 
--- a fact of each axis, from that of the three
-of_each : (P : Axis → Type 0) → P X → P Y → P Z → (a : Axis) → P a
-of_each P x y z X = x
-of_each P x y z Y = y
-of_each P x y z Z = z
-
 pub half_a_cell : HalfACell
 half_a_cell =
     record {
       short_of = record {
-        from = of_each _ (record { lt = tt }) (record { lt = tt }) (record { lt = tt });
-        upto = of_each _ (record { lt = tt }) (record { lt = tt }) (record { lt = tt });
+        from = on_axes _ (record { lt = tt }) (record { lt = tt }) (record { lt = tt });
+        upto = on_axes _ (record { lt = tt }) (record { lt = tt }) (record { lt = tt });
       };
       on_the_face = (
         record {
-          from = of_each _ (record { le = tt }) (record { le = tt }) (record { le = tt });
-          upto = of_each _ (record { le = tt }) (record { le = tt }) (record { le = tt });
+          from = on_axes _ (record { le = tt }) (record { le = tt }) (record { le = tt });
+          upto = on_axes _ (record { le = tt }) (record { le = tt }) (record { le = tt });
         },
         record {
-          from = of_each _ (record { le = tt }) (record { le = tt }) (record { le = tt });
-          upto = of_each _ (record { le = tt }) (record { le = tt }) (record { le = tt });
+          from = on_axes _ (record { le = tt }) (record { le = tt }) (record { le = tt });
+          upto = on_axes _ (record { le = tt }) (record { le = tt }) (record { le = tt });
         },
       );
       not_inside = (λ h. (h.upto X).lt, λ h. (h.from X).lt);

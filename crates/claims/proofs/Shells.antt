@@ -44,6 +44,7 @@ use Rattle.survey.specs.declared.Lookup.TheVariants as Lookup
 use Rattle.survey.specs.Survey.{placement_check, look_up}
 use Rattle.sight.specs.declared.Sight.TheVariants as Sight
 use Rattle.sight.specs.Sight.{Sees}
+use Rattle.claims.proofs.Cases.{on_axes}
 use Rattle.claims.specs.Example.{counts, at, faces_there, faces_back, far_counts, faces_inside}
 use Rattle.claims.specs.Points.{one_metre}
 use Rattle.claims.specs.Rules.{AdaptiveBothWays}
@@ -183,8 +184,8 @@ share = record { some = lit< tt; most = omega arith }
 entered : InOpen (at 0 0 0) (at 3 2 2) 19 24 (at 2 2 2)
 entered =
     record {
-      from = λ a. elim a [ X ↦ record { lt = tt } | Y ↦ record { lt = tt } | Z ↦ record { lt = tt } ];
-      upto = λ a. elim a [ X ↦ record { lt = tt } | Y ↦ record { lt = tt } | Z ↦ record { lt = tt } ];
+      from = on_axes _ (record { lt = tt }) (record { lt = tt }) (record { lt = tt });
+      upto = on_axes _ (record { lt = tt }) (record { lt = tt }) (record { lt = tt });
     }
 
 plain_inside : (how : Manner) → Finds Plain how far_counts faces_inside (at 0 0 0) (at 3 2 2) (FirstHit.Hit inside_hit)

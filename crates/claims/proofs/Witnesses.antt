@@ -38,6 +38,7 @@ use Rattle.records.specs.Venues.{venue_version, venue_head, venue_check, venue_r
 use Rattle.records.specs.Pairs.{signed, pair_version, pair_length, rule_byte, pair_check, pair_read}
 use Rattle.records.specs.Writing.{write_check}
 use Rattle.bricks.specs.Kept.{Kept}
+use Rattle.claims.proofs.Cases.{on_axes, of_walks}
 use Rattle.claims.specs.Example.{counts, at, example_counts, marked_cells, set_cells, all_solid}
 use Rattle.claims.specs.Sequences.{Set, then_one, nothing, Mark, Refill, Build}
 use Rattle.claims.proofs.Sequences.{keeping}
@@ -88,8 +89,8 @@ of_lines =
       touching = record { says = refl; holds = refl };
       touching_no_room = record { says = refl; holds = refl };
       at_an_edge = record {
-        from = λ a. elim a [ X ↦ record { le = tt } | Y ↦ record { le = tt } | Z ↦ record { le = tt } ];
-        upto = λ a. elim a [ X ↦ record { le = tt } | Y ↦ record { le = tt } | Z ↦ record { le = tt } ];
+        from = on_axes _ (record { le = tt }) (record { le = tt }) (record { le = tt });
+        upto = on_axes _ (record { le = tt }) (record { le = tt }) (record { le = tt });
       };
       in_line = record { number = 2; below = omega arith; is = refl };
     }
@@ -98,7 +99,7 @@ pub of_grids : OfGrids
 unfolding shape marked complete completeness layer_part layer walk_of first_hit first_touching
 of_grids =
     record {
-      corner = record { by_one = λ a. elim a [ X ↦ omega arith | Y ↦ omega arith | Z ↦ omega arith ]; differing = omega arith; within = omega arith };
+      corner = record { by_one = on_axes _ (omega arith) (omega arith) (omega arith); differing = omega arith; within = omega arith };
       number = record { says = refl };
       shaped = record { says = refl };
       one_short = record { says = refl };
@@ -112,23 +113,23 @@ of_grids =
       thin_marks = refl;
       not_full = refl;
       thin_made = refl;
-      thin_clear = λ w. elim w [ Plain ↦ record { says = refl } | Adaptive ↦ record { says = refl } ];
-      thin_hits = λ w. elim w [ Plain ↦ record { says = refl } | Adaptive ↦ record { says = refl } ];
+      thin_clear = of_walks _ (record { says = refl }) (record { says = refl });
+      thin_hits = of_walks _ (record { says = refl }) (record { says = refl });
       trail = record { says = refl; holds = refl };
       trail_no_room = record { says = refl; holds = refl };
       trail_to_hit = record { says = refl; holds = refl };
       touching_hits = record { says = refl };
       touching_clear = record { says = refl };
-      back_clear = λ w. elim w [ Plain ↦ record { says = refl } | Adaptive ↦ record { says = refl } ];
-      back_hits = λ w. elim w [ Plain ↦ record { says = refl } | Adaptive ↦ record { says = refl } ];
+      back_clear = of_walks _ (record { says = refl }) (record { says = refl });
+      back_hits = of_walks _ (record { says = refl }) (record { says = refl });
       plain_hits = λ how. record { says = sym (as_usual example_counts marked_cells (at 0 0 0) (at 3 1 0) Plain how refl refl) };
       adaptive_hits = λ how. record { says = sym (as_usual example_counts marked_cells (at 0 0 0) (at 3 1 0) Adaptive how refl refl) };
       clear_marks = refl;
       plain_clear = λ how. record { says = sym (as_usual (counts 3 2 1) all_clear (at 0 0 0) (at 2 1 0) Plain how refl refl) };
       adaptive_clear = λ how. record { says = sym (as_usual (counts 3 2 1) all_clear (at 0 0 0) (at 2 1 0) Adaptive how refl refl) };
       solid_start = refl;
-      passed = λ w. elim w [ Plain ↦ record { says = refl } | Adaptive ↦ record { says = refl } ];
-      not_passed = λ w. elim w [ Plain ↦ record { says = refl } | Adaptive ↦ record { says = refl } ];
+      passed = of_walks _ (record { says = refl }) (record { says = refl });
+      not_passed = of_walks _ (record { says = refl }) (record { says = refl });
       clear_start = refl;
     }
 
