@@ -10,16 +10,13 @@ use Rattle.cells.specs.declared.Cell.{Cell}
 use Rattle.cells.specs.declared.Counts.{Counts}
 use Rattle.cells.specs.declared.Refusal.{Refusal}
 use Rattle.cells.specs.declared.Rule.{Rule}
-use Rattle.cells.specs.declared.Rule.TheVariants as Rule
 use Rattle.cells.specs.declared.Verdict.{Verdict}
-use Rattle.cells.specs.declared.Verdict.TheVariants as Verdict
 use Rattle.cells.specs.Checks.{◌then◌, by_verdict}
 use Rattle.cells.specs.Manners.{rule_of, rule_check}
 use Rattle.lines.specs.Preference.{comes_before, order_of, by_rule}
 use Rattle.lines.specs.Lines.{six_line, line_26}
 use Rattle.lines.specs.Touching.{touching_line}
 use Rattle.lists.specs.declared.Listed.{Listed}
-use Rattle.lists.specs.declared.Listed.TheVariants as Listed
 use Rattle.lists.specs.Lists.{ends_check, list_check, filled, Lists, Line6}
 use Rattle.grids.specs.Grid.{shape, layer_part}
 use Rattle.grids.specs.Marks.{marked, complete, completeness, any}
@@ -31,7 +28,6 @@ use Rattle.refills.specs.Boxes.{corner}
 use Rattle.refills.specs.Refills.{refilled, remasked, moved, box_check, stale_check, ones_in, differs_in, stale}
 use Rattle.walks.specs.declared.Walker.{Walker}
 use Rattle.walks.specs.declared.FirstHit.{FirstHit}
-use Rattle.walks.specs.declared.FirstHit.TheVariants as FirstHit
 use Rattle.walks.specs.Walks.{walk_of}
 use Rattle.walks.specs.Answers.{first_hit, Finds}
 use Rattle.grids.specs.Inside.{walk_check}
@@ -39,7 +35,6 @@ use Rattle.trails.specs.Trails.{trail, AdaptiveCells}
 use Rattle.survey.specs.declared.Placement.{Placement}
 use Rattle.survey.specs.declared.Point.{Point}
 use Rattle.sight.specs.declared.Sight.{Sight}
-use Rattle.sight.specs.declared.Sight.TheVariants as Sight
 use Rattle.sight.specs.Sight.{sight, Sees}
 use Rattle.records.specs.Venues.{venue_head}
 use Rattle.records.specs.declared.writing.Written.TheVariants as Written

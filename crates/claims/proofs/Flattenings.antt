@@ -9,13 +9,11 @@ use native.Mathlib.Omega.{arith}
 use lib.Dec.{eqb}
 use lib.IntN.{ℤ, pos, negsuc}
 use borrow.Author.Tests.{ne_eqb}
-use lib.ListN.{length}
 use Rattle.cells.specs.declared.Axis.{Axis}
 use Rattle.cells.specs.declared.Axis.TheVariants.{X, Y, Z}
 use Rattle.cells.specs.declared.End.{End}
 use Rattle.cells.specs.declared.End.TheVariants.{P, Q}
 use Rattle.cells.specs.declared.Face.{Face}
-use Rattle.cells.specs.declared.Face.TheVariants as Face
 use Rattle.cells.specs.declared.Part.{Part}
 use Rattle.cells.specs.declared.Part.TheVariants.{OriginX, OriginY, OriginZ, Edge}
 use Rattle.cells.specs.declared.Refusal.{Refusal}
@@ -25,42 +23,32 @@ use Rattle.cells.specs.declared.Start.TheVariants.{Untested, Tested}
 use Rattle.cells.specs.declared.Refusal.TheVariants.{Limit, Count, Bytes, Layer, OffGrid, Room, Placement, NotFinite, OffSurvey}
 use Rattle.cells.specs.declared.Refusal.TheVariants.{Record, Version, NoRule, Stale, Corners}
 use Rattle.cells.specs.declared.Verdict.{Verdict}
-use Rattle.cells.specs.declared.Verdict.TheVariants as Verdict
 use Rattle.cells.specs.Manners.{rule_of, rule_check}
 use Rattle.cells.specs.Refusals.{Told, told, told_verdict}
 use Rattle.cells.proofs.Refusals.{numbered_of, untold, told_back, tells_apart}
 use Rattle.lists.specs.declared.Listed.{Listed}
-use Rattle.lists.specs.declared.Listed.TheVariants as Listed
 use Rattle.lists.specs.Lists.{told_listed}
 use Rattle.grids.specs.declared.LayerPart.{LayerPart}
-use Rattle.grids.specs.declared.LayerPart.TheVariants as LayerPart
 use Rattle.grids.specs.declared.Completeness.{Completeness}
-use Rattle.grids.specs.declared.Completeness.TheVariants as Completeness
 use Rattle.grids.specs.Grid.{shape, told_part}
 use Rattle.grids.specs.Inside.{walk_check}
-use Rattle.grids.specs.Marks.{complete, told_completeness}
+use Rattle.grids.specs.Marks.{told_completeness}
 use Rattle.walks.specs.declared.Walker.TheVariants.{Plain}
 use Rattle.walks.specs.declared.Hit.{Hit}
 use Rattle.walks.specs.declared.FirstHit.{FirstHit}
-use Rattle.walks.specs.declared.FirstHit.TheVariants as FirstHit
 use Rattle.walks.specs.Answers as walk
 use Rattle.walks.specs.Answers.{first_hit, told_hit}
 use Rattle.survey.specs.declared.Lookup.{Lookup}
-use Rattle.survey.specs.declared.Lookup.TheVariants as Lookup
 use Rattle.survey.specs.Survey.{told_lookup}
 use Rattle.sight.specs.declared.Block.{Block}
 use Rattle.sight.specs.declared.Sight.{Sight}
-use Rattle.sight.specs.declared.Sight.TheVariants as Sight
 use Rattle.sight.specs.Sight as sights
 use Rattle.sight.specs.Sight.{told_sight}
 use Rattle.records.specs.declared.venues.VenueRead.{VenueRead}
-use Rattle.records.specs.declared.venues.VenueRead.TheVariants as VenueRead
 use Rattle.records.specs.declared.pairs.PairRead.{PairRead}
-use Rattle.records.specs.declared.pairs.PairRead.TheVariants as PairRead
 use Rattle.records.specs.Venues.{told_venue}
 use Rattle.records.specs.Pairs.{told_pair}
 use Rattle.records.specs.declared.writing.Written.{Written}
-use Rattle.records.specs.declared.writing.Written.TheVariants as Written
 use Rattle.records.specs.Writing.{told_written}
 use Rattle.structs.specs.declared.refusals.OatSaid.{OatSaid}
 use Rattle.structs.specs.declared.line_answers.OatListed.{OatListed}
@@ -78,7 +66,6 @@ use Rattle.structs.specs.Faces.{face_number}
 use Rattle.structs.specs.LineAnswers.{flat_listed}
 use Rattle.structs.specs.GridAnswers.{flat_verdict, flat_complete, flat_part}
 use Rattle.bricks.specs.declared.Tally.{Tally}
-use Rattle.bricks.specs.declared.Tally.TheVariants as Tally
 use Rattle.bricks.specs.Builds.{told_tally}
 use Rattle.structs.specs.declared.brick_answers.OatTally.{OatTally}
 use Rattle.structs.specs.BrickAnswers.{flat_tally}

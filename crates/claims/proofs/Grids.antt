@@ -19,9 +19,7 @@ use Rattle.cells.specs.Touching.{touching, Touches}
 use Rattle.cells.proofs.Checks.{by_fine}
 use Rattle.cells.proofs.Touching.{and_both, touching_iff}
 use Rattle.grids.specs.declared.LayerPart.{LayerPart}
-use Rattle.grids.specs.declared.LayerPart.TheVariants as LayerPart
 use Rattle.grids.specs.declared.Completeness.{Completeness}
-use Rattle.grids.specs.declared.Completeness.TheVariants as Completeness
 use Rattle.grids.specs.Grid.{shape, index, cell_at, solid, layer_check, layer_start, layer_length, layer_part, layer, start_of, GivesLayerPart}
 use Rattle.grids.specs.Marks.{touches_solid, marked, complete, yes_or_no, completeness, Marks, Completes}
 use Rattle.grids.specs.Inside.{Shaped}

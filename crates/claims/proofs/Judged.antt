@@ -42,7 +42,6 @@ use Rattle.bricks.specs.Bricks.{bricks, mask_at}
 use Rattle.bricks.specs.Builds.{bricks_check}
 use Rattle.refills.specs.Boxes.{corner}
 use Rattle.refills.specs.Refills.{holds_named, ones_in, crossed, box_check, differs, differs_in, stale, stale_check}
-use Rattle.survey.specs.declared.Lookup.TheVariants.{Cell}
 use Rattle.survey.specs.declared.Placement.{Placement}
 use Rattle.survey.specs.declared.Point.{Point}
 use Rattle.survey.specs.Quotient.{as_f64, quotient}

@@ -16,7 +16,7 @@ use Rattle.cells.specs.declared.Refusal.TheVariants.{Stale}
 use Rattle.cells.specs.declared.Verdict.TheVariants.{Fine}
 use Rattle.cells.specs.Checks.{◌then◌, by_verdict}
 use Rattle.cells.proofs.Checks.{by_fine, by_refusal}
-use Rattle.cells.proofs.Signed.{up, abs_is, ≤ℤ_is}
+use Rattle.cells.proofs.Signed.{abs_is, ≤ℤ_is}
 use Rattle.grids.specs.Grid.{count_check, shape, size, index, solid}
 use Rattle.grids.specs.Inside.{off_axis, InGrid}
 use Rattle.grids.specs.Marks.{any}
@@ -27,7 +27,6 @@ use Rattle.grids.proofs.Places.{index_below, index_of_cell}
 use Rattle.grids.proofs.Shapes.{shaped}
 use Rattle.bricks.specs.declared.Slot.{Slot}
 use Rattle.bricks.specs.declared.Tally.{Tally}
-use Rattle.bricks.specs.declared.Tally.TheVariants as Tally
 use Rattle.bricks.specs.Sums.{sum}
 use Rattle.bricks.specs.Bricks.{bricks, mask_of, mask_at, solids}
 use Rattle.bricks.specs.Builds.{bricks_check, built, Builds}

@@ -29,7 +29,6 @@ use Rattle.walks.specs.declared.Walker.{Walker}
 use Rattle.walks.specs.declared.Walker.TheVariants.{Plain, Adaptive}
 use Rattle.walks.specs.declared.FirstHit.{FirstHit}
 use Rattle.walks.specs.declared.Hit.{Hit}
-use Rattle.walks.specs.declared.FirstHit.TheVariants as FirstHit
 use Rattle.walks.specs.Walks.{Conduct, conduct}
 use Rattle.walks.specs.Answers.{first_hit}
 use Rattle.walks.specs.Numbers.{hits_at, end_of}
@@ -40,7 +39,6 @@ use Rattle.records.proofs.HeadTests.{pair_longest, head_tests, head_fits, pair_h
 use Rattle.records.proofs.RoundTrip.{record_fits}
 use Rattle.records.specs.declared.venues.Venue.{Venue}
 use Rattle.records.specs.declared.venues.VenueRead.{VenueRead}
-use Rattle.records.specs.declared.venues.VenueRead.TheVariants as VenueRead
 use Rattle.records.specs.Heads.{length_field, announced, version_of, whole_check}
 use Rattle.records.specs.Venues.{venue_check, venue_read, venue_cells, start_of}
 use Rattle.records.specs.Pairs.{pair_version, pair_length, rule_byte, pair_in, pair_check, pair_read}

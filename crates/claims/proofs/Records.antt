@@ -32,7 +32,6 @@ use Rattle.records.specs.Pairs.{signed, pair_version, pair_length, rule_byte, pa
 use Rattle.records.proofs.HeadTests.{venue_accepted, pair_accepted}
 use Rattle.records.proofs.Following.{venue_unread, cells_unread, pair_unread}
 use Rattle.records.specs.declared.writing.Written.{Written}
-use Rattle.records.specs.declared.writing.Written.TheVariants as Written
 use Rattle.records.specs.Writing.{written_version, head_bytes, record_length, write_check, after_writing, WritesVenue}
 use Rattle.records.proofs.RoundTrip.{read_back, cells_back, front_written, record_fits, same_bytes}
 use Rattle.claims.specs.Records.{OneAnswer, Right, RightPair, Accepted, LengthTested, ThePart, SameVenue, ReadBack, WrittenBack, NotLookedAt}

@@ -28,10 +28,8 @@ use Rattle.lines.specs.Touching.{visits, crossings, touching_line}
 use Rattle.lines.proofs.Touched.{start}
 use Rattle.lines.proofs.Cells.{six_length, length_26}
 use Rattle.lists.specs.declared.Listed.{Listed}
-use Rattle.lists.specs.declared.Listed.TheVariants as Listed
 use Rattle.lists.specs.Lists.{Lists, list_check, told_listed}
 use Rattle.grids.specs.declared.LayerPart.{LayerPart}
-use Rattle.grids.specs.declared.LayerPart.TheVariants as LayerPart
 use Rattle.grids.specs.declared.Completeness.TheVariants as Completeness
 use Rattle.grids.specs.Grid.{count_check, shape, layer_start, layer_length, layer_part, GivesLayerPart, told_part, bytes_of, layer, GivesLayer}
 use Rattle.grids.specs.Inside.{walk_check}
@@ -39,7 +37,6 @@ use Rattle.grids.specs.Marks.{complete, yes_or_no, completeness, told_completene
 use Rattle.grids.proofs.Layers.{layer_empty}
 use Rattle.grids.proofs.Shapes.{shape_counts}
 use Rattle.bricks.specs.declared.Tally.{Tally}
-use Rattle.bricks.specs.declared.Tally.TheVariants as Tally
 use Rattle.bricks.specs.Bricks.{solids}
 use Rattle.bricks.specs.Builds.{told_tally}
 use Rattle.refills.specs.Boxes.{corner}
@@ -48,25 +45,21 @@ use Rattle.walks.specs.declared.Walker.{Walker}
 use Rattle.walks.specs.declared.Walker.TheVariants.{Adaptive}
 use Rattle.walks.specs.declared.Hit.{Hit}
 use Rattle.walks.specs.declared.FirstHit.{FirstHit}
-use Rattle.walks.specs.declared.FirstHit.TheVariants as FirstHit
 use Rattle.walks.specs.Walks.{Conduct, conduct, hit_at, walk_of}
 use Rattle.walks.specs.Answers.{last_of, answer_of, first_hit, told_hit, WalkSaid, clear, hit}
 use Rattle.touching.specs.Touching.{found_in, walking, first_touching}
 use Rattle.trails.specs.Trails.{trail}
 use Rattle.touching.proofs.Answers.{Search, found, none, search_of}
 use Rattle.survey.specs.declared.Lookup.{Lookup}
-use Rattle.survey.specs.declared.Lookup.TheVariants as Lookup
 use Rattle.survey.specs.declared.Placement.{Placement}
 use Rattle.survey.specs.declared.Point.{Point}
 use Rattle.survey.specs.Survey.{placement_check, PlacedGrid, quotients, point_check, cell_at, look_up, cell_of, LooksUp, told_lookup}
 use Rattle.survey.proofs.Lookups.{lookup_found}
 use Rattle.sight.specs.declared.Sight.{Sight}
-use Rattle.sight.specs.declared.Sight.TheVariants as Sight
 use Rattle.sight.specs.Sight as sights
 use Rattle.sight.specs.Sight.{sight_of, seen, looked, sight, Sees, told_sight, SightSaid}
 use Rattle.sight.proofs.Walkable.{walkable}
 use Rattle.records.specs.declared.venues.VenueRead.{VenueRead}
-use Rattle.records.specs.declared.venues.VenueRead.TheVariants as VenueRead
 use Rattle.records.specs.declared.pairs.PairRead.TheVariants as PairRead
 use Rattle.records.specs.declared.writing.Written.TheVariants as Written
 use Rattle.records.specs.Venues.{venue_in, venue_read, ReadsVenue, part_of, venue_cells, GivesCells, told_venue}

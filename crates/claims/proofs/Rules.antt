@@ -27,7 +27,7 @@ use Rattle.lines.proofs.Cells.{six_length}
 use Rattle.lines.proofs.Mirror.{Compared, less, more, equal, compared, Which, p_first, q_first, one, which}
 use Rattle.lines.proofs.Mirror.{rule_1_order, order_from, either_way_total, rule_2_mirror, line_mirror, six_same, line_same}
 use Rattle.lists.specs.declared.Listed.{Listed}
-use Rattle.lists.specs.declared.Listed.TheVariants.{Cells, Refused}
+use Rattle.lists.specs.declared.Listed.TheVariants.{Cells}
 use Rattle.lists.specs.Lists.{ends_check, Line6}
 use Rattle.lists.proofs.Front.{ends_fine, limits_pass}
 use Rattle.grids.specs.Grid.{byte_of, solid}
@@ -37,7 +37,6 @@ use Rattle.walks.specs.declared.Walker.{Walker}
 use Rattle.walks.specs.declared.Walker.TheVariants.{Plain, Adaptive}
 use Rattle.walks.specs.declared.Hit.{Hit}
 use Rattle.walks.specs.declared.FirstHit.{FirstHit}
-use Rattle.walks.specs.declared.FirstHit.TheVariants as FirstHit
 use Rattle.walks.specs.Walks.{conduct}
 use Rattle.walks.specs.Answers.{first_hit, Finds}
 use Rattle.walks.proofs.Testing.{tested_test}

@@ -13,7 +13,6 @@ use Rattle.grids.specs.Grid.{shape}
 use Rattle.grids.specs.Marks.{marked, Marks}
 use Rattle.grids.proofs.Marking.{marked_same}
 use Rattle.bricks.specs.declared.Tally.{Tally}
-use Rattle.bricks.specs.declared.Tally.TheVariants as Tally
 use Rattle.bricks.specs.Sums.{bit}
 use Rattle.bricks.specs.Bricks.{brick_there, bit_there}
 use Rattle.bricks.specs.Builds.{built, Builds}

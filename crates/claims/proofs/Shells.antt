@@ -8,7 +8,7 @@ use lib.Dec.{lit<}
 use lib.Ieee.{eq, le, lt, of_int, div, sub}
 use lib.IntN.{nat_abs}
 use lib.ListN.{length}
-use Rattle.cells.specs.declared.Axis.TheVariants.{X, Y, Z}
+use Rattle.cells.specs.declared.Axis.TheVariants.{Z}
 use Rattle.cells.specs.declared.Cell.{Cell}
 use Rattle.cells.specs.declared.Counts.{Counts}
 use Rattle.cells.specs.declared.End.TheVariants.{P, Q}
@@ -18,7 +18,6 @@ use Rattle.cells.specs.declared.Rule.TheVariants.{One, Two}
 use Rattle.cells.specs.declared.Start.{Start}
 use Rattle.cells.specs.declared.Start.TheVariants.{Untested, Tested}
 use Rattle.cells.specs.declared.Verdict.{Verdict}
-use Rattle.cells.specs.declared.Verdict.TheVariants as Verdict
 use Rattle.cells.specs.Checks.{by_verdict}
 use Rattle.cells.specs.Manners.{usual, tested_by}
 use Rattle.lines.specs.Preference.{comes_before}
@@ -32,7 +31,6 @@ use Rattle.walks.specs.declared.Walker.{Walker}
 use Rattle.walks.specs.declared.Walker.TheVariants.{Plain, Adaptive}
 use Rattle.walks.specs.declared.Hit.{Hit}
 use Rattle.walks.specs.declared.FirstHit.{FirstHit}
-use Rattle.walks.specs.declared.FirstHit.TheVariants as FirstHit
 use Rattle.walks.specs.Answers.{first_hit, Finds}
 use Rattle.walks.specs.Numbers.{hits_at, end_of, reads_of, answer_at}
 use Rattle.walks.specs.Walks.{Conduct, conduct}
@@ -40,7 +38,6 @@ use Rattle.walks.proofs.Modes.{as_usual}
 use Rattle.walks.proofs.MoreClear.{MoreClear, same_hits, plain_alike, clearer_reads}
 use Rattle.walks.proofs.Testing.{hit_solid}
 use Rattle.survey.specs.declared.Lookup.{Lookup}
-use Rattle.survey.specs.declared.Lookup.TheVariants as Lookup
 use Rattle.survey.specs.Survey.{placement_check, look_up}
 use Rattle.sight.specs.declared.Sight.TheVariants as Sight
 use Rattle.sight.specs.Sight.{Sees}

@@ -12,7 +12,6 @@ use Rattle.cells.specs.declared.Refusal.{Refusal}
 use Rattle.cells.specs.declared.Rule.{Rule}
 use Rattle.cells.specs.declared.Rule.TheVariants.{One, Two}
 use Rattle.cells.specs.declared.Verdict.{Verdict}
-use Rattle.cells.specs.declared.Verdict.TheVariants as Verdict
 use Rattle.cells.specs.Checks.{by_verdict}
 use Rattle.cells.specs.Manners.{is_tested, usual, tested_by}
 use Rattle.lines.specs.Preference.{Preference, by_rule}
@@ -24,7 +23,6 @@ use Rattle.walks.specs.declared.Walker.{Walker}
 use Rattle.walks.specs.declared.Walker.TheVariants.{Plain, Adaptive}
 use Rattle.walks.specs.declared.Hit.{Hit}
 use Rattle.walks.specs.declared.FirstHit.{FirstHit}
-use Rattle.walks.specs.declared.FirstHit.TheVariants as FirstHit
 use Rattle.walks.specs.Answers.{entered_at, first_hit}
 use Rattle.walks.specs.Numbers.{end_of}
 use Rattle.walks.proofs.Testing.{tested_test, other_test, exempt_test}

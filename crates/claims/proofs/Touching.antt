@@ -17,7 +17,6 @@ use Rattle.cells.specs.declared.Refusal.{Refusal}
 use Rattle.cells.specs.declared.Start.{Start}
 use Rattle.cells.specs.declared.Start.TheVariants.{Untested, Tested}
 use Rattle.cells.specs.declared.Verdict.{Verdict}
-use Rattle.cells.specs.declared.Verdict.TheVariants as Verdict
 use Rattle.cells.specs.Checks.{by_verdict}
 use Rattle.cells.specs.Manners.{is_tested}
 use Rattle.cells.proofs.Checks.{by_fine}
@@ -40,7 +39,6 @@ use Rattle.grids.specs.Inside.{walk_check}
 use Rattle.walks.specs.declared.Walker.TheVariants.{Plain}
 use Rattle.walks.specs.declared.Hit.{Hit}
 use Rattle.walks.specs.declared.FirstHit.{FirstHit}
-use Rattle.walks.specs.declared.FirstHit.TheVariants as FirstHit
 use Rattle.walks.specs.Walks.{hit_at, conduct}
 use Rattle.walks.specs.Answers.{entered_at, Finds}
 use Rattle.walks.specs.Numbers.{hits_at, end_of}

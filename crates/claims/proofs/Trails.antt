@@ -10,7 +10,6 @@ use Rattle.cells.specs.declared.Counts.{Counts}
 use Rattle.cells.specs.declared.Manner.{Manner}
 use Rattle.cells.specs.declared.Refusal.{Refusal}
 use Rattle.cells.specs.declared.Verdict.{Verdict}
-use Rattle.cells.specs.declared.Verdict.TheVariants as Verdict
 use Rattle.cells.specs.Checks.{by_verdict}
 use Rattle.cells.specs.Refusals.{told}
 use Rattle.lines.specs.Preference.{order_of, comes_before}
@@ -19,9 +18,7 @@ use Rattle.lists.specs.declared.Listed.TheVariants.{Cells, Refused}
 use Rattle.lists.specs.Lists.{list_check}
 use Rattle.grids.specs.Inside.{walk_check}
 use Rattle.walks.specs.declared.Walker.TheVariants.{Adaptive}
-use Rattle.walks.specs.declared.Hit.{Hit}
 use Rattle.walks.specs.declared.FirstHit.{FirstHit}
-use Rattle.walks.specs.declared.FirstHit.TheVariants as FirstHit
 use Rattle.walks.specs.Walks.{conduct, walk_of}
 use Rattle.walks.specs.Answers.{last_of, Finds}
 use Rattle.walks.proofs.Numbers.{walk_length}

@@ -11,7 +11,6 @@ use Rattle.cells.specs.declared.End.{End}
 use Rattle.cells.specs.declared.End.TheVariants.{P, Q}
 use Rattle.cells.specs.declared.Manner.{Manner}
 use Rattle.cells.specs.declared.Refusal.{Refusal}
-use Rattle.cells.specs.declared.Refusal.TheVariants as Refusal
 use Rattle.cells.specs.declared.Verdict.{Verdict}
 use Rattle.cells.specs.Checks.{refuse_when, ◌then◌, by_verdict}
 use Rattle.grids.specs.Grid.{shape, count_check}
@@ -23,7 +22,6 @@ use Rattle.survey.specs.declared.Point.{Point}
 use Rattle.survey.specs.Quotient.{as_f64, outside, in_cell, on_far_face, number_below, cell_number}
 use Rattle.survey.specs.Survey.{placement_check, quotients, look_up, LooksUp}
 use Rattle.sight.specs.declared.Sight.{Sight}
-use Rattle.sight.specs.declared.Sight.TheVariants as Sight
 use Rattle.sight.specs.Sight.{seen, Sees}
 
 -- ---- the half-open rule

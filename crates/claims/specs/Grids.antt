@@ -10,7 +10,6 @@ use Rattle.cells.specs.declared.Verdict.TheVariants.{Fine, Refused}
 use Rattle.cells.specs.Parts.{StartsAt}
 use Rattle.cells.specs.Touching.{Touches}
 use Rattle.grids.specs.declared.LayerPart.{LayerPart}
-use Rattle.grids.specs.declared.LayerPart.TheVariants as LayerPart
 use Rattle.grids.specs.declared.Completeness.{Completeness}
 use Rattle.grids.specs.declared.Completeness.TheVariants.{Yes, No}
 use Rattle.grids.specs.Grid.{size, shape, Shapes, index, cell_at, byte_of, clear, solid, GivesLayerPart, GivesLayer}

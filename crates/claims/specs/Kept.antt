@@ -8,7 +8,6 @@ use Rattle.cells.specs.declared.Refusal.{Refusal}
 use Rattle.cells.specs.declared.Verdict.TheVariants.{Fine}
 use Rattle.grids.specs.Grid.{shape, size, index, byte_index, solid}
 use Rattle.bricks.specs.declared.Tally.{Tally}
-use Rattle.bricks.specs.declared.Tally.TheVariants as Tally
 use Rattle.bricks.specs.Sums.{sum, count, bit}
 use Rattle.bricks.specs.Bricks.{bricks, mask_at, solids, brick_there, bit_there, solids_in}
 use Rattle.bricks.specs.Builds.{Builds}

@@ -12,7 +12,6 @@ use Rattle.records.specs.declared.venues.VenueRead.TheVariants.{Read}
 use Rattle.records.specs.Venues.{ReadsVenue, GivesCells}
 use Rattle.walks.specs.declared.Hit.{Hit}
 use Rattle.walks.specs.declared.FirstHit.{FirstHit}
-use Rattle.walks.specs.declared.FirstHit.TheVariants as FirstHit
 use Rattle.records.specs.declared.pairs.Pair.{Pair}
 use Rattle.records.specs.declared.pairs.PairRead.TheVariants as PairRead
 use Rattle.texts.specs.Text.{hit_line, clear_line, pair_refused_line}

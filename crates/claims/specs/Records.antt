@@ -11,15 +11,12 @@ use Rattle.cells.specs.declared.Verdict.TheVariants.{Fine}
 use Rattle.grids.specs.Grid.{size, count_check, shape}
 use Rattle.records.specs.declared.venues.Venue.{Venue}
 use Rattle.records.specs.declared.venues.VenueRead.{VenueRead}
-use Rattle.records.specs.declared.venues.VenueRead.TheVariants as VenueRead
 use Rattle.records.specs.declared.pairs.Pair.{Pair}
 use Rattle.records.specs.declared.pairs.PairRead.{PairRead}
-use Rattle.records.specs.declared.pairs.PairRead.TheVariants as PairRead
 use Rattle.records.specs.Heads.{announced, version_of}
 use Rattle.records.specs.Venues.{counts_at, ReadsVenue, GivesCells}
 use Rattle.records.specs.Pairs.{signed, ReadsPair}
 use Rattle.records.specs.declared.writing.Written.{Written}
-use Rattle.records.specs.declared.writing.Written.TheVariants as Written
 use Rattle.records.specs.Writing.{WritesVenue}
 use Rattle.claims.specs.Example.{example_counts, example_cells}
 

@@ -8,7 +8,6 @@ use Rattle.cells.specs.declared.Verdict.{Verdict}
 use Rattle.grids.specs.Grid.{size, index, solid}
 use Rattle.grids.specs.Marks.{Marks}
 use Rattle.bricks.specs.declared.Tally.{Tally}
-use Rattle.bricks.specs.declared.Tally.TheVariants as Tally
 use Rattle.bricks.specs.Sums.{bit}
 use Rattle.bricks.specs.Bricks.{bricks, solids, brick_there, bit_there, solids_in}
 use Rattle.bricks.specs.Builds.{Builds}

@@ -5,7 +5,6 @@ use Rattle.cells.specs.declared.Axis.TheVariants.{Z}
 use Rattle.cells.specs.declared.Cell.{Cell}
 use Rattle.cells.specs.declared.Counts.{Counts}
 use Rattle.cells.specs.declared.Face.{Face}
-use Rattle.cells.specs.declared.Face.TheVariants as Face
 use Rattle.cells.specs.declared.Manner.{Manner}
 use Rattle.cells.specs.declared.Rule.TheVariants.{One, Two}
 use Rattle.cells.specs.declared.Start.{Start}
@@ -14,7 +13,6 @@ use Rattle.walks.specs.declared.Walker.{Walker}
 use Rattle.walks.specs.declared.Walker.TheVariants.{Plain, Adaptive}
 use Rattle.walks.specs.declared.Hit.{Hit}
 use Rattle.walks.specs.declared.FirstHit.{FirstHit}
-use Rattle.walks.specs.declared.FirstHit.TheVariants as FirstHit
 use Rattle.walks.specs.Answers.{Finds}
 use Rattle.survey.specs.declared.Placement.{Placement}
 use Rattle.survey.specs.declared.Point.{Point}

@@ -10,7 +10,6 @@ use Rattle.cells.specs.declared.Counts.{Counts}
 use Rattle.cells.specs.declared.Axis.TheVariants.{X, Y, Z}
 use Rattle.cells.specs.declared.End.TheVariants.{P, Q}
 use Rattle.cells.specs.declared.Face.{Face}
-use Rattle.cells.specs.declared.Face.TheVariants as Face
 use Rattle.cells.specs.declared.Manner.{Manner}
 use Rattle.cells.specs.declared.Refusal.TheVariants.{OffGrid, Room, Stale, Corners}
 use Rattle.cells.specs.Checks.{◌then◌, by_verdict}
@@ -24,7 +23,6 @@ use Rattle.lists.specs.declared.Listed.TheVariants as Listed
 use Rattle.lists.specs.Lists.{ends_check, list_check, told_listed}
 use Rattle.grids.specs.Marks.{marked, complete, completeness, told_completeness}
 use Rattle.bricks.specs.declared.Tally.{Tally}
-use Rattle.bricks.specs.declared.Tally.TheVariants as Tally
 use Rattle.bricks.specs.Bricks.{solids}
 use Rattle.bricks.specs.Builds.{bricks_check, built, Builds}
 use Rattle.refills.specs.Boxes.{corner}

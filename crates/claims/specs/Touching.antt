@@ -6,7 +6,6 @@ use Rattle.cells.specs.declared.Counts.{Counts}
 use Rattle.cells.specs.declared.Axis.{Axis}
 use Rattle.cells.specs.declared.Axis.TheVariants.{X, Y, Z}
 use Rattle.cells.specs.declared.Face.{Face}
-use Rattle.cells.specs.declared.Face.TheVariants as Face
 use Rattle.cells.specs.declared.Manner.{Manner}
 use Rattle.cells.specs.declared.Refusal.{Refusal}
 use Rattle.cells.specs.declared.Rule.{Rule}
@@ -25,7 +24,6 @@ use Rattle.grids.specs.Grid.{byte_of, solid}
 use Rattle.walks.specs.declared.Walker.TheVariants.{Plain}
 use Rattle.walks.specs.declared.Hit.{Hit}
 use Rattle.walks.specs.declared.FirstHit.{FirstHit}
-use Rattle.walks.specs.declared.FirstHit.TheVariants as FirstHit
 use Rattle.walks.specs.Answers.{Finds}
 use Rattle.touching.specs.Touching.{LineTouching, first_touching, FindsTouching}
 use Rattle.claims.specs.Example.{counts, at, sevens}

@@ -7,7 +7,6 @@ use Rattle.structs.specs.declared.sight_answers.OatFound.{OatFound}
 use Rattle.survey.specs.declared.Placement.{Placement}
 use Rattle.survey.specs.declared.Point.{Point}
 use Rattle.sight.specs.declared.Sight.{Sight}
-use Rattle.sight.specs.declared.Sight.TheVariants as Sight
 use Rattle.structs.specs.declared.sight_answers.OatSight.{OatSight}
 use Rattle.survey.specs.Survey.{LooksUp}
 use Rattle.sight.specs.Sight.{Sees}

@@ -7,7 +7,6 @@ use Rattle.cells.specs.declared.Start.{Start}
 use Rattle.cells.specs.Manners.{rule_check}
 use Rattle.walks.specs.declared.Walker.{Walker}
 use Rattle.walks.specs.declared.FirstHit.{FirstHit}
-use Rattle.walks.specs.declared.FirstHit.TheVariants as FirstHit
 use Rattle.walks.specs.Answers.{Finds}
 use Rattle.touching.specs.Touching.{FindsTouching}
 use Rattle.trails.specs.Trails.{AdaptiveCells}

@@ -1,6 +1,5 @@
 -- How the answer of the calls that keep counts is flattened for C: what SCOPE says of it, as numbers. Assumes nothing.
 use Rattle.bricks.specs.declared.Tally.{Tally}
-use Rattle.bricks.specs.declared.Tally.TheVariants as Tally
 use Rattle.structs.specs.declared.brick_answers.OatTally.{OatTally}
 use Rattle.structs.specs.Refusals.{accepted, flat_refusal}
 

@@ -1,7 +1,6 @@
 -- The entry face of a hit for C, as one number. Assumes nothing.
 use Rattle.std.specs.Prelude.{ℕ, Bool, true, false, ℤ, pos, neg_ℤ}
 use Rattle.cells.specs.declared.Face.{Face}
-use Rattle.cells.specs.declared.Face.TheVariants as Face
 use Rattle.structs.specs.Refusals.{axis_number}
 
 -- 0 for none, else the axis's number with the sign of the move

@@ -1,10 +1,7 @@
 -- How the answers of marking, completeness and layers are flattened for C: what SCOPE says of them, as numbers. Assumes nothing.
 use Rattle.cells.specs.declared.Verdict.{Verdict}
-use Rattle.cells.specs.declared.Verdict.TheVariants as Verdict
 use Rattle.grids.specs.declared.LayerPart.{LayerPart}
-use Rattle.grids.specs.declared.LayerPart.TheVariants as LayerPart
 use Rattle.grids.specs.declared.Completeness.{Completeness}
-use Rattle.grids.specs.declared.Completeness.TheVariants as Completeness
 use Rattle.structs.specs.declared.grid_answers.OatVerdict.{OatVerdict}
 use Rattle.structs.specs.declared.grid_answers.OatComplete.{OatComplete}
 use Rattle.structs.specs.declared.grid_answers.OatPart.{OatPart}

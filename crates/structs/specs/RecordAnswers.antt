@@ -6,11 +6,8 @@ use Rattle.structs.specs.declared.record_answers.OatVenue.{OatVenue}
 use Rattle.structs.specs.declared.record_answers.OatPair.{OatPair}
 use Rattle.structs.specs.declared.record_answers.OatWritten.{OatWritten}
 use Rattle.records.specs.declared.venues.VenueRead.{VenueRead}
-use Rattle.records.specs.declared.venues.VenueRead.TheVariants as VenueRead
 use Rattle.records.specs.declared.pairs.PairRead.{PairRead}
-use Rattle.records.specs.declared.pairs.PairRead.TheVariants as PairRead
 use Rattle.records.specs.declared.writing.Written.{Written}
-use Rattle.records.specs.declared.writing.Written.TheVariants as Written
 use Rattle.structs.specs.Refusals.{accepted, flat_refusal}
 
 abbrev pub flat_venue : VenueRead → OatVenue

@@ -3,9 +3,7 @@ use Rattle.std.specs.Prelude.{pos}
 use Rattle.structs.specs.declared.refusals.OatSaid.{OatSaid}
 use Rattle.structs.specs.declared.sight_answers.OatFound.{OatFound}
 use Rattle.survey.specs.declared.Lookup.{Lookup}
-use Rattle.survey.specs.declared.Lookup.TheVariants as Lookup
 use Rattle.sight.specs.declared.Sight.{Sight}
-use Rattle.sight.specs.declared.Sight.TheVariants as Sight
 use Rattle.structs.specs.declared.sight_answers.OatSight.{OatSight}
 use Rattle.survey.specs.Quotient.{as_f64}
 use Rattle.structs.specs.Refusals.{accepted, flat_refusal}

@@ -8,7 +8,6 @@ use mir.Syntax.{w32}
 use mir.Val.{SFits, to_z}
 use Rattle.cells.specs.declared.Axis.TheVariants.{X, Y, Z}
 use Rattle.cells.specs.declared.Face.{Face}
-use Rattle.cells.specs.declared.Face.TheVariants as Face
 use Rattle.cells.proofs.Machine.{nat_held, nat_fits, nat_small, small_diff, held, held_is}
 use Rattle.structs.specs.Faces.{face_axis, falls, face_number}
 use Rattle.structs.proofs.faces.face_code.Goals as goal
