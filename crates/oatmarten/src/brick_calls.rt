@@ -5,8 +5,7 @@ ghost use Rattle.oatmarten.specs.BrickCalls.{FlatBuilds, FlatSets, FlatRefills};
 use structs::{OatCell, OatCounts, OatTally, cell, counts, flat_tally};
 
 // The masks of all bricks, and the total.
-#[unsafe(no_mangle)]
-pub extern "C" fn oat_build(n: OatCounts, cells: &[u8], masks: &mut [u64]) -> OatTally
+pub fn oat_build(n: OatCounts, cells: &[u8], masks: &mut [u64]) -> OatTally
     ensures { FlatBuilds (as_counts n) cells.now masks.old result masks.new }
 {
     let grid = counts(n);
@@ -14,8 +13,7 @@ pub extern "C" fn oat_build(n: OatCounts, cells: &[u8], masks: &mut [u64]) -> Oa
 }
 
 // One cell gets one byte.
-#[unsafe(no_mangle)]
-pub extern "C" fn oat_set(
+pub fn oat_set(
     n: OatCounts,
     cells: &mut [u8],
     masks: &mut [u64],
@@ -31,8 +29,7 @@ pub extern "C" fn oat_set(
 }
 
 // Each cell of a box, both corners included, gets one byte.
-#[unsafe(no_mangle)]
-pub extern "C" fn oat_refill(
+pub fn oat_refill(
     n: OatCounts,
     cells: &mut [u8],
     masks: &mut [u64],

@@ -8,8 +8,7 @@ use structs::{
 };
 
 // Marks the near cells of a grid, in place.
-#[unsafe(no_mangle)]
-pub extern "C" fn oat_mark(n: OatCounts, cells: &mut [u8]) -> OatVerdict
+pub fn oat_mark(n: OatCounts, cells: &mut [u8]) -> OatVerdict
     ensures { FlatMarks (as_counts n) cells.old result cells.new }
 {
     let grid = counts(n);
@@ -17,8 +16,7 @@ pub extern "C" fn oat_mark(n: OatCounts, cells: &mut [u8]) -> OatVerdict
 }
 
 // Whether no clear cell touches a solid one.
-#[unsafe(no_mangle)]
-pub extern "C" fn oat_complete(n: OatCounts, cells: &[u8]) -> OatComplete
+pub fn oat_complete(n: OatCounts, cells: &[u8]) -> OatComplete
     ensures { FlatCompletes (as_counts n) cells.now result }
 {
     let grid = counts(n);
@@ -26,8 +24,7 @@ pub extern "C" fn oat_complete(n: OatCounts, cells: &[u8]) -> OatComplete
 }
 
 // Where layer z lies in the caller's bytes.
-#[unsafe(no_mangle)]
-pub extern "C" fn oat_layer(n: OatCounts, cells: &[u8], z: i32) -> OatPart
+pub fn oat_layer(n: OatCounts, cells: &[u8], z: i32) -> OatPart
     ensures { FlatGivesLayerPart (as_counts n) (length cells.now) z result }
 {
     let grid = counts(n);

@@ -7,8 +7,7 @@ use lists::Listed;
 use structs::{OatCell, OatListed, cell, flat_listed};
 
 // The 6-line from p to q, ties by the rule of a number.
-#[unsafe(no_mangle)]
-pub extern "C" fn oat_line6(p: OatCell, q: OatCell, rule: u32, out: &mut [i32]) -> OatListed
+pub fn oat_line6(p: OatCell, q: OatCell, rule: u32, out: &mut [i32]) -> OatListed
     ensures { FlatLine6 rule (as_cell p) (as_cell q) out.old result out.new }
 {
     match cells::check_rule(rule) {
@@ -22,8 +21,7 @@ pub extern "C" fn oat_line6(p: OatCell, q: OatCell, rule: u32, out: &mut [i32]) 
 }
 
 // The 26-line from p to q.
-#[unsafe(no_mangle)]
-pub extern "C" fn oat_line26(p: OatCell, q: OatCell, out: &mut [i32]) -> OatListed
+pub fn oat_line26(p: OatCell, q: OatCell, out: &mut [i32]) -> OatListed
     ensures { FlatLine26 (as_cell p) (as_cell q) out.old result out.new }
 {
     let from = cell(p);
@@ -32,8 +30,7 @@ pub extern "C" fn oat_line26(p: OatCell, q: OatCell, out: &mut [i32]) -> OatList
 }
 
 // The touching line from p to q.
-#[unsafe(no_mangle)]
-pub extern "C" fn oat_line_touching(p: OatCell, q: OatCell, out: &mut [i32]) -> OatListed
+pub fn oat_line_touching(p: OatCell, q: OatCell, out: &mut [i32]) -> OatListed
     ensures { FlatLineTouching (as_cell p) (as_cell q) out.old result out.new }
 {
     let from = cell(p);

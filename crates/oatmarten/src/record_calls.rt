@@ -7,24 +7,21 @@ use structs::{
 };
 
 // Reads a venue's record.
-#[unsafe(no_mangle)]
-pub extern "C" fn oat_read_venue(bytes: &[u8]) -> OatVenue
+pub fn oat_read_venue(bytes: &[u8]) -> OatVenue
     ensures { FlatReadsVenue bytes.now result }
 {
     flat_venue(records::read_venue(bytes))
 }
 
 // Reads a pair's record.
-#[unsafe(no_mangle)]
-pub extern "C" fn oat_read_pair(bytes: &[u8]) -> OatPair
+pub fn oat_read_pair(bytes: &[u8]) -> OatPair
     ensures { FlatReadsPair bytes.now result }
 {
     flat_pair(records::read_pair(bytes))
 }
 
 // Writes a venue's record at the front of the lent bytes.
-#[unsafe(no_mangle)]
-pub extern "C" fn oat_write_venue(n: OatCounts, cells: &[u8], out: &mut [u8]) -> OatWritten
+pub fn oat_write_venue(n: OatCounts, cells: &[u8], out: &mut [u8]) -> OatWritten
     ensures { FlatWritesVenue (as_counts n) cells.now out.old result out.new }
 {
     let grid = counts(n);

@@ -3,8 +3,7 @@
 ghost use Rattle.std.specs.Prelude.{◌≡◌};
 ghost use Rattle.oatmarten.specs.Revision.{revision};
 
-#[unsafe(no_mangle)]
-pub extern "C" fn oat_revision() -> u32
+pub fn oat_revision() -> u32
     ensures { result ≡ revision }
 {
     9

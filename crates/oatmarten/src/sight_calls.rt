@@ -10,8 +10,7 @@ use structs::{
 };
 
 // The cell of a surveyed point.
-#[unsafe(no_mangle)]
-pub extern "C" fn oat_cell_of(n: OatCounts, at: OatPlacement, p: OatPoint) -> OatFound
+pub fn oat_cell_of(n: OatCounts, at: OatPlacement, p: OatPoint) -> OatFound
     ensures { FlatLooksUp (as_counts n) (as_placement at) (as_point p) result }
 {
     let grid = counts(n);
@@ -21,8 +20,7 @@ pub extern "C" fn oat_cell_of(n: OatCounts, at: OatPlacement, p: OatPoint) -> Oa
 }
 
 // Whether anything is in the way from the camera to the ball.
-#[unsafe(no_mangle)]
-pub extern "C" fn oat_sight(
+pub fn oat_sight(
     n: OatCounts,
     cells: &[u8],
     at: OatPlacement,

@@ -12,14 +12,7 @@ use structs::{
 use walks::FirstHit;
 
 // The first hit of the plain walk.
-#[unsafe(no_mangle)]
-pub extern "C" fn oat_plain(
-    n: OatCounts,
-    cells: &[u8],
-    p: OatCell,
-    q: OatCell,
-    how: OatManner,
-) -> OatHit
+pub fn oat_plain(n: OatCounts, cells: &[u8], p: OatCell, q: OatCell, how: OatManner) -> OatHit
     ensures { FlatFinds Plain how (as_counts n) cells.now (as_cell p) (as_cell q) result }
 {
     match cells::check_rule(how.rule) {
@@ -34,14 +27,7 @@ pub extern "C" fn oat_plain(
 }
 
 // The first hit of the adaptive walk.
-#[unsafe(no_mangle)]
-pub extern "C" fn oat_adaptive(
-    n: OatCounts,
-    cells: &[u8],
-    p: OatCell,
-    q: OatCell,
-    how: OatManner,
-) -> OatHit
+pub fn oat_adaptive(n: OatCounts, cells: &[u8], p: OatCell, q: OatCell, how: OatManner) -> OatHit
     ensures { FlatFinds Adaptive how (as_counts n) cells.now (as_cell p) (as_cell q) result }
 {
     match cells::check_rule(how.rule) {
@@ -56,8 +42,7 @@ pub extern "C" fn oat_adaptive(
 }
 
 // The cells on which the adaptive walk stands.
-#[unsafe(no_mangle)]
-pub extern "C" fn oat_adaptive_cells(
+pub fn oat_adaptive_cells(
     n: OatCounts,
     cells: &[u8],
     p: OatCell,
@@ -79,14 +64,7 @@ pub extern "C" fn oat_adaptive_cells(
 }
 
 // The first hit along the touching line, the start tested or not by a number.
-#[unsafe(no_mangle)]
-pub extern "C" fn oat_touching(
-    n: OatCounts,
-    cells: &[u8],
-    p: OatCell,
-    q: OatCell,
-    start: u32,
-) -> OatHit
+pub fn oat_touching(n: OatCounts, cells: &[u8], p: OatCell, q: OatCell, start: u32) -> OatHit
     ensures { FlatFindsTouching (as_start start) (as_counts n) cells.now (as_cell p) (as_cell q) result }
 {
     let grid = counts(n);
