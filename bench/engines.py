@@ -84,7 +84,7 @@ class Workshop:
     """compilers, the linker, and a folder for what they make"""
 
     def __init__(self, work):
-        self.work, self.tools = work, kit() / "on" / MACHINE / "toolchain/bin"
+        self.work, self.tools = work, kit() / "toolchain/bin"
         self.clang = [self.tools / "clang", f"--target={MACHINE}-unknown-linux-gnu", "-nostdinc", "-isystem", ROOT / "tests/headers"]
         self.compilers = {"clang": (self.clang, "the kit's " + version(self.tools / "clang"))}
         if shutil.which("gcc"):
@@ -153,7 +153,7 @@ def helpers(shop):
 
 
 def how_built():
-    return "the archive of `rt staticlib oatmarten` as it is" if MACHINE == "x86_64" else \
+    return "the archive of `rt lib` as it is" if MACHINE == "x86_64" else \
         f"the library's modules compiled for {MACHINE}, for timing alone: what ships is for x86-64"
 
 
@@ -166,13 +166,13 @@ def library():
     held.parent.mkdir(parents=True, exist_ok=True)
     sources = [ROOT / "crates.txt", ROOT / "bench/native-archive", *ROOT.glob("crates/*/src/**/*")]
     if not held.exists() or any(source.stat().st_mtime > held.stat().st_mtime for source in sources):
-        say(f"builds the library for {MACHINE}; what it rests on is proved first (three to six minutes from nothing)")
+        say(f"builds the library for {MACHINE}; what it rests on is proved first, where that was not kept")
         native(ROOT, held, "the library")
     return held
 
 
 def native(tree, out, what):
-    if subprocess.run([ROOT / "bench/native-archive", "oatmarten", out], cwd=tree, stdout=sys.stderr).returncode:
+    if subprocess.run([ROOT / "bench/native-archive", "oatmarten_c", out], cwd=tree, stdout=sys.stderr).returncode:
         fail(f"{what} could not be built, as said above")
 
 
@@ -204,6 +204,8 @@ def commit_of(rev):
     commit = found.decode().strip()
     if git("cat-file", "-e", f"{commit}:include/oatmarten.h") is None:
         fail(f"'{rev}' is older than the C interface: it has no include/oatmarten.h")
+    if git("cat-file", "-e", f"{commit}:crates/oatmarten_c") is None:
+        fail(f"'{rev}' was written for an older toolchain, and this one cannot build its library: it has no crate oatmarten_c")
     return commit, git("log", "-1", "--format=%h, %s", commit).decode().strip()
 
 
@@ -213,7 +215,7 @@ def earlier(rev, commit):
     if (kept / "made-by").exists() and (kept / "made-by").read_text() == made_by:
         return kept
     kept.parent.mkdir(parents=True, exist_ok=True)
-    say(f"builds the library of {rev} apart; what is not proved here already is proved first (one to six minutes). It is kept for the next time")
+    say(f"builds the library of {rev} apart; what is not proved here already is proved first. It is kept for the next time")
     with tempfile.TemporaryDirectory(dir=kept.parent) as work:
         tree, new = pathlib.Path(work) / "tree", pathlib.Path(work) / "new"
         with tarfile.open(fileobj=io.BytesIO(git("archive", "--format=tar", commit))) as tar:
@@ -231,27 +233,14 @@ def earlier(rev, commit):
     return kept
 
 
-def lend_proofs(tree):
-    """Puts what is proved in this tree into the other one. rt takes of it the crates whose files, and whose crates below, are the same there."""
-    (tree / "target/stamp").mkdir(parents=True)
-    for stamp in (ROOT / "target/stamp").glob("*"):
-        try:
-            proved = stamp.read_text()
-            shutil.copytree(ROOT / "target/rlib" / f"{stamp.name}.rlib", tree / "target/rlib" / f"{stamp.name}.rlib")
-            # rt takes a stamp away before it proves anew: what was copied is what this one stands for
-            if stamp.read_text() == proved:
-                (tree / "target/stamp" / stamp.name).write_text(proved)
-        except OSError:  # a program, or rt is at work on it
-            pass
-
-
 def build(tree, out, rev):
-    lend_proofs(tree)
+    """rt takes what it proved of the same files in this tree"""
     if MACHINE != "x86_64":
         return native(tree, out, f"the library of {rev}")
-    if subprocess.run(["rt", "staticlib", "oatmarten"], cwd=tree, stdout=sys.stderr).returncode:
+    crate = tree / "crates/oatmarten_c"
+    if subprocess.run(["rt", "lib", "--cpu", "x86-64"], cwd=crate, stdout=sys.stderr).returncode:
         fail(f"the library of {rev} could not be built, as said above")
-    shutil.copy(tree / "target/staticlib/liboatmarten.a", out)
+    shutil.copy(crate / "out/liboatmarten_c.a", out)
 
 
 def loops_of(shop, kept, rev):
