@@ -2,96 +2,132 @@
 // output. What is written is decided by the steps of `program`; here frames are read and texts are written. A read or a write that fails ends it, with
 // one line on standard error.
 #![tactic(auto)]
+
 ghost use Rattle.std.specs.Prelude.{◌≡◌, ℕ, ◌+◌, ◌-◌, ◌^◌, ◌≤◌, ◌<◌, length, take};
-ghost use Rattle.io.specs.Counts.{IsPrefixLen as Count};
+ghost use Rattle.std.specs.Counts.{IsPrefixLen as Count};
 ghost use Rattle.records.specs.Heads.{length_field};
 ghost use Rattle.program.specs.Program.{frame, Follows};
 
 use cells::Counts;
-use libc::{STDIN_FILENO, STDOUT_FILENO};
 use program::Next;
 use records::VenueRead;
+use std::io;
+use std::io::Read;
+
+// Reads until buf is full, the input ends or a read fails. Answers how many bytes came, and the error of a read that failed.
+fn read_full(rt: &HostRuntime, buf: &mut [u8]) -> (usize, io::Result<()>)
+    ensures { Count result.0 buf.new }
+{
+    let mut done = 0;
+    while done < buf.len() {
+        match rt.stdin().read(&mut buf[done..]) {
+            Ok(0) => return (done, Ok(())),
+            Ok(n) => done += n,
+            Err(e) => return (done, Err(e)),
+        }
+    }
+    (done, Ok(()))
+}
 
 // Reads the next frame: the four bytes of the length and, unless that is above the most, as many bytes as it announces; or what there is. Answers
-// how many came.
-fn read_frame(buf: &mut [u8], most: usize) -> usize
+// how many came, and the error of a read that failed.
+fn read_frame(rt: &HostRuntime, buf: &mut [u8], most: usize) -> (usize, io::Result<()>)
     requires { length_field + most ≤ length buf.old }
-    ensures count { Count result buf.new }
-    ensures buf_after { frame most (take result buf.new) ≡ take result buf.new }
+    ensures count { Count result.0 buf.new }
+    ensures buf_after { frame most (take result.0 buf.new) ≡ take result.0 buf.new }
 {
-    let got = io::read_full(STDIN_FILENO, &mut buf[..4]);
+    let (got, came) = read_full(rt, &mut buf[..4]);
     if got < 4 {
-        return got;
+        return (got, came);
     }
     if program::beyond(&buf[..4], most) {
-        return 4;
+        return (4, came);
     }
     let end = 4 + buffers::four_at(buf, 0);
-    4 + io::read_full(STDIN_FILENO, &mut buf[4..end])
+    let (more, came) = read_full(rt, &mut buf[4..end]);
+    (4 + more, came)
+}
+
+// The text of an error without its number, which std puts behind it.
+fn without_number(said: &str) -> &str {
+    match said.split_once(" (os error ") {
+        Some((text, _)) => text,
+        None => said,
+    }
+}
+
+// Says on standard error what failed, with the system's text of the error.
+fn fail(rt: &HostRuntime, what: &str, e: io::Error) {
+    let _ = match e.to_string(rt.alloc()) {
+        Ok(said) => {
+            let text = without_number(said.as_str());
+            eprintln!(rt; "{what}: {text}")
+        }
+        Err(_) => eprintln!(rt; "{what}: {e}"),
+    };
 }
 
 // Where nothing comes next because the input could not be read, says so on standard error. A failed read gives a short frame, as an end of the input
-// does. What tells them apart is errno: a program starts with 0 there, reads and writes that succeed leave it, and the writes have all
-// succeeded.
-fn say_unread(next: Next) {
+// does; what tells them apart is the error.
+fn say_unread(rt: &HostRuntime, next: Next, came: io::Result<()>) {
     if let Next::Over = next {
-        if os::errno() != 0 {
-            os::fail(b"sightlines: standard input cannot be read");
+        if let Err(e) = came {
+            fail(rt, "sightlines: standard input cannot be read", e);
         }
     }
 }
 
 // What comes next, once the text is written. A write that fails is told on standard error and ends the program; nothing more is told then.
-fn written(text: &[u8], next: Next) -> Next
+fn written(rt: &HostRuntime, text: &[u8], next: Next, came: io::Result<()>) -> Next
     ensures { (k : ℕ) → Follows k next → Follows k result }
 {
-    if !io::write_all(STDOUT_FILENO, text) {
-        os::fail(b"sightlines: standard output cannot be written");
+    if let Err(e) = rt.write_all(text) {
+        fail(rt, "sightlines: standard output cannot be written", e);
         return Next::Over;
     }
-    say_unread(next);
+    say_unread(rt, next, came);
     next
 }
 
 // Writes what the venue's step says.
-fn answer_venue(frame: &[u8]) -> Next {
+fn answer_venue(rt: &HostRuntime, frame: &[u8], came: io::Result<()>) -> Next {
     let mut text = [0u8; program::TEXT_ROOM];
     let step = program::venue_step(frame, &mut text);
     let next = step.next;
-    written(&text[..step.long], next)
+    written(rt, &text[..step.long], next, came)
 }
 
 // Reads pair k and writes what its step says.
-fn answer_pair(n: Counts, cells: &[u8], k: u64) -> Next
+fn answer_pair(rt: &HostRuntime, n: Counts, cells: &[u8], k: u64) -> Next
     requires { k < 2 ^ 64 - 1 }
     ensures { Follows k result }
 {
     let mut space = [0u8; 259];
     let mut text = [0u8; program::TEXT_ROOM];
-    let got = read_frame(&mut space, program::PAIR_MOST);
+    let (got, came) = read_frame(rt, &mut space, program::PAIR_MOST);
     let step = program::pair_step(n, cells, k, &space[..got], &mut text);
     let next = step.next;
-    written(&text[..step.long], next)
+    written(rt, &text[..step.long], next, came)
 }
 
 // Nothing can say that input ends, so pairs are read up to a number that no run reaches.
-fn answer_pairs(n: Counts, cells: &[u8], first: u64) {
+fn answer_pairs(rt: &HostRuntime, n: Counts, cells: &[u8], first: u64) {
     let mut k = first;
     while k < u64::MAX {
-        match answer_pair(n, cells, k) {
+        match answer_pair(rt, n, cells, k) {
             Next::On(j) => k = j,
             Next::Over => return,
         }
     }
 }
 
-fn main() {
-    let mut space = io::large_buffer();
-    let got = read_frame(&mut space, program::VENUE_MOST);
+fn main(rt: HostRuntime) {
+    let mut space = [0u8; 65536];
+    let (got, came) = read_frame(&rt, &mut space, program::VENUE_MOST);
     let frame = &space[..got];
-    if let Next::On(first) = answer_venue(frame) {
+    if let Next::On(first) = answer_venue(&rt, frame, came) {
         if let VenueRead::Read(venue) = records::read_venue(frame) {
-            answer_pairs(venue.counts, records::venue_cells(frame), first);
+            answer_pairs(&rt, venue.counts, records::venue_cells(frame), first);
         }
     }
 }
