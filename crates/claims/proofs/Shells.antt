@@ -118,7 +118,7 @@ module _ (how : Manner) (n : Counts) (l : List ℕ) (p q : Cell) (j k : ℕ) (le
 pub no_dearer : (how : Manner) (n : Counts) (l : List ℕ) (p q : Cell) → NoDearer how n l p q
 no_dearer how n l p q =
     record {
-      reads = λ j k two le at-k at_j hk hj.
+      reads = λ j k two le at_k at_j hk hj.
           subst₂ SameStory (sym (found_marked how n l p q j k le k hk)) (sym (found_marked how n l p q j k le j hj))
           (by_test how n l p q j k le two (walk_check n (length l) p q) refl);
     }

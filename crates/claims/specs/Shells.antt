@@ -49,8 +49,8 @@ pub record Shells : Type 0 where
 
 -- 3. What is saved: the same cells marked at a smaller number, from 2 on, give the same adaptive answer, by no more reads.
 pub record NoDearer (how : Manner) (n : Counts) (l : List ℕ) (p q : Cell) : Type 0 where
-  pub reads : (j k : ℕ) → 2 ≤ j → j ≤ k → (at-k at_j : FirstHit) → Finds Adaptive how n (marked k n l) p q at-k →
-      Finds Adaptive how n (marked j n l) p q at_j → SameStory at-k at_j
+  pub reads : (j k : ℕ) → 2 ≤ j → j ≤ k → (at_k at_j : FirstHit) → Finds Adaptive how n (marked k n l) p q at_k →
+      Finds Adaptive how n (marked j n l) p q at_j → SameStory at_k at_j
 
 -- ---- 4. Faces alone, on named grids: the adaptive walk is clear, and the plain one hits
 

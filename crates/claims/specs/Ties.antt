@@ -6,8 +6,8 @@ use Rattle.cells.specs.Refusals.{NumberOf}
 use Rattle.cells.proofs.number.Reads as number
 use Rattle.cells.specs.Manners.{usual, rule_check, rule_of}
 use Rattle.cells.proofs.Manner.usual.Reads as default
-use Rattle.cells.proofs.check_rule.Reads as check-rule
-use Rattle.cells.proofs.rule_of.Reads as named_Rule
+use Rattle.cells.proofs.check_rule.Reads as check_rule
+use Rattle.cells.proofs.rule_of.Reads as named_rule
 use Rattle.grids.specs.Grid.{Shapes, GivesLayerPart, GivesLayer}
 use Rattle.grids.specs.Marks.{Marks, Completes}
 use Rattle.grids.proofs.shape.Reads as shape
@@ -40,8 +40,8 @@ use Rattle.records.specs.Venues.{ReadsVenue, GivesCells}
 use Rattle.records.specs.Pairs.{ReadsPair}
 use Rattle.records.specs.Writing.{WritesVenue}
 use Rattle.program.specs.Program.{venue_said, pair_said, Says}
-use Rattle.program.proofs.venue_step.Reads as venue-step
-use Rattle.program.proofs.pair_step.Reads as Pair-step
+use Rattle.program.proofs.venue_step.Reads as venue_step
+use Rattle.program.proofs.pair_step.Reads as pair_step
 use Rattle.records.proofs.read_venue.Reads as read_venue
 use Rattle.records.proofs.venue_cells.Reads as venue_cells
 use Rattle.records.proofs.read_pair.Reads as read_pair
@@ -51,8 +51,8 @@ use Rattle.records.proofs.write_venue.Reads as write_venue
 pub record Promised : Type 1 where
   pub of_number : (κs : _) (a : _) (r : _) (e : _) → number.Post κs a r e → NumberOf a.0 r
   pub of_usual : (κs : _) (a : _) (r : _) (e : _) → default.Post κs a r e → r ≡ usual
-  pub of_check_rule : (κs : _) (a : _) (r : _) (e : _) → check-rule.Post κs a r e → r ≡ rule_check a.0
-  pub of_rule_of : (κs : _) (a : _) (r : _) (e : _) → named_Rule.Post κs a r e → r ≡ rule_of a.0
+  pub of_check_rule : (κs : _) (a : _) (r : _) (e : _) → check_rule.Post κs a r e → r ≡ rule_check a.0
+  pub of_rule_of : (κs : _) (a : _) (r : _) (e : _) → named_rule.Post κs a r e → r ≡ rule_of a.0
   pub of_line6 : (κs : _) (a : _) (r : _) (e : _) → line6.Post κs a r e → Line6 a.1.1.0 a.0 a.1.0 a.1.1.1.0.now r e.1.1.1.0.now
   pub of_line26 : (κs : _) (a : _) (r : _) (e : _) → line26.Post κs a r e → Line26 a.0 a.1.0 a.1.1.0.now r e.1.1.0.now
   pub of_line_touching : (κs : _) (a : _) (r : _) (e : _) → line_touching.Post κs a r e → LineTouching a.0 a.1.0 a.1.1.0.now r e.1.1.0.now
@@ -85,16 +85,16 @@ pub record Promised : Type 1 where
 
 -- what the program's two steps promise, whose theorem is that of its whole output
 pub record StepsPromised : Type 1 where
-  pub of_venue_step : (κs : _) (a : _) (r : _) (e : _) → venue-step.Post κs a r e → Says (venue_said a.0.now) a.1.0.now r e.1.0.now
-  pub of_pair_step : (κs : _) (a : _) (r : _) (e : _) → Pair-step.Post κs a r e →
+  pub of_venue_step : (κs : _) (a : _) (r : _) (e : _) → venue_step.Post κs a r e → Says (venue_said a.0.now) a.1.0.now r e.1.0.now
+  pub of_pair_step : (κs : _) (a : _) (r : _) (e : _) → pair_step.Post κs a r e →
       Says (pair_said a.0 a.1.0.now a.1.1.0 a.1.1.1.0.now) a.1.1.1.1.0.now r e.1.1.1.1.0.now
 
 -- what each call asks for: nothing, of any inputs
 pub record AsksNothing : Type 1 where
   pub number_asks : (κs : _) (a : _) → number.Pre κs a
   pub usual_asks : (κs : _) (a : _) → default.Pre κs a
-  pub check_rule_asks : (κs : _) (a : _) → check-rule.Pre κs a
-  pub rule_of_asks : (κs : _) (a : _) → named_Rule.Pre κs a
+  pub check_rule_asks : (κs : _) (a : _) → check_rule.Pre κs a
+  pub rule_of_asks : (κs : _) (a : _) → named_rule.Pre κs a
   pub line6_asks : (κs : _) (a : _) → line6.Pre κs a
   pub line26_asks : (κs : _) (a : _) → line26.Pre κs a
   pub line_touching_asks : (κs : _) (a : _) → line_touching.Pre κs a
