@@ -5,8 +5,8 @@ usage: tools/respell.py        at the top of the repository, once, straight afte
 
 A name is this repository's own where a file of specs/ or proofs/ declares it. It is respelled wherever it stands as a whole word in an
 .antt file, in the clauses, ghost items and ghost imports of an .rt file, and in the texts of must-fail edits. Comments are respelled where they
-quote a name. Functions of src/, exported names and strings keep theirs. Two names that would fall together, or one that would take
-the name of a function's parameter, stop the script before anything is written.
+quote a name. Functions of src/, exported names and strings keep theirs. Two names that would fall together stop the script before
+anything is written.
 """
 import glob
 import os
