@@ -1,65 +1,55 @@
--- The decimal text of a number: of one digit it is that digit, and of more that of the tenth and then the last digit; in 64 bits it has at most
--- twenty. Assumes nothing.
-use mathlib.Core.Path.{◌≡◌, refl, sym, ap, ◌∙◌}
+-- The decimal text of a number: it is the fewest digits, it reads back as the number, and it has no leading zero. Assumes nothing.
+use mathlib.Core.Path.{◌≡◌, refl, sym, subst}
 use mathlib.Core.Bool.{Bool, true, false}
-use mathlib.Core.List.{List, [], ◌∷◌, ◌++◌}
-use Prim.Native.Nat.{ℕ, zero, suc, ◌+◌, ◌*◌, ◌/◌, ◌%◌, ◌^◌, ◌≤◌, ◌<◌}
-use native.Mathlib.Nat.{pow-succ'}
-use native.Mathlib.Numerals.{add-one}
+use Prim.Native.Nat.{ℕ, zero, suc, ◌-◌, ◌*◌, ◌/◌, ◌%◌, ◌^◌, ◌≤◌, ◌<◌}
+use native.Mathlib.Nat.{pow-succ', one-le-pow, pow-le-pow_right}
 use native.Mathlib.Omega.{arith}
-use lib.Dec.{ltb}
-use lib.ListN.{length, take, set, length-append}
-use lib.Seq.{take-suc-set}
-use borrow.Author.Tests.{lt-ltb, le-ltb, ltb-true, ltb-false}
+use lib.Dec.{leb}
+use borrow.Author.Tests.{lt-ltb, le-ltb, leb-true, leb-false}
+use Rattle.io.specs.Digits.{hex_digit_ascii, last_digits, IsDigitCount}
 use Rattle.texts.specs.Text.{digit, decimal_in, decimal}
 
--- more turns than enough change nothing
-turns_enough : (s t n : ℕ) → n < s → n < t → decimal_in s n ≡ decimal_in t n
+glyph_digit : (d : ℕ) → d < 10 → hex_digit_ascii d ≡ digit d
+glyph_digit d h = rw (lt-ltb d 10 h)
+
+-- the fewest digits that hold the number
+in_turns : (turns k n : ℕ) → n < turns → IsDigitCount 10 1 n k → last_digits 10 k n ≡ decimal_in turns n
 unfolding decimal_in
-turns_enough zero t n h g = absurd (omega arith)
-turns_enough (suc s) zero n h g = absurd (omega arith)
-turns_enough (suc s) (suc t) n h g = go (ltb n 10) refl (λ i j. turns_enough s t (n / 10) i j)
+in_turns zero k n h f = absurd (omega arith)
+in_turns (suc turns) zero n h f = absurd (let g = f.0 in omega arith)
+in_turns (suc turns) (suc zero) n h f =
+    let small : n < 10 = f.1 in
+    let rest : n % 10 ≡ n = omega arith in
+    rw (lt-ltb n 10 small, rest, glyph_digit n small)
+in_turns (suc turns) (suc (suc k)) n h f =
+    let least : 10 ^ suc k ≤ n = subst (λ (j : ℕ). 10 ^ j ≤ n) (less (suc k)) (f.2 (omega arith)) in
+    let more : 10 ^ suc (suc k) ≡ 10 * 10 ^ suc k = pow-succ' 10 (suc k) in
+    let some : 10 ^ suc k ≡ 10 * 10 ^ k = pow-succ' 10 k in
+    let one : 1 ≤ 10 ^ k = one-le-pow k 10 (omega arith) in
+    let most = f.1 in
+    let large : 10 ≤ n = omega arith in
+    let tenth : 10 ^ k ≤ n / 10 = omega arith in
+    rw (
+      le-ltb n 10 large,
+      in_turns turns (suc k) (n / 10) (omega arith) (omega arith, omega arith, λ i. subst (λ (j : ℕ). 10 ^ j ≤ n / 10) (sym (less k)) tenth),
+      glyph_digit (n % 10) (omega arith),
+    )
   where
-    go : (b : Bool) → ltb n 10 ≡ b → (n / 10 < s → n / 10 < t → decimal_in s (n / 10) ≡ decimal_in t (n / 10))
-        → decimal_in (suc s) n ≡ decimal_in (suc t) n
-    go true e rest = rw e
-    go false e rest = let large : 10 ≤ n = ltb-false n 10 e in rw (e, rest (omega arith) (omega arith))
+    less : (j : ℕ) → suc j - 1 ≡ j
+    less j = omega arith
 
-pub one_digit : (n : ℕ) → n < 10 → decimal n ≡ digit n ∷ []
-unfolding decimal decimal_in
-one_digit n h = rw (lt-ltb n 10 h)
-
-pub one_more_digit : (n : ℕ) → 10 ≤ n → decimal n ≡ decimal (n / 10) ++ (digit (n % 10) ∷ [])
-unfolding decimal decimal_in
-one_more_digit n h = rw (le-ltb n 10 h, turns_enough n (suc (n / 10)) (n / 10) (omega arith) (omega arith))
-
--- what a power of ten is above has no more digits than that power has zeros
-most_digits : (k n : ℕ) → n < 10 ^ suc k → length (decimal n) ≤ suc k
-most_digits zero n h = rw (one_digit n (omega arith)) (omega arith)
-most_digits (suc k) n h = go (ltb n 10) refl (most_digits k (n / 10))
-  where
-    go : (b : Bool) → ltb n 10 ≡ b → (n / 10 < 10 ^ suc k → length (decimal (n / 10)) ≤ suc k) → length (decimal n) ≤ suc (suc k)
-    go true e rest = rw (one_digit n (ltb-true n 10 e)) (omega arith)
-    go false e rest =
-        let large : 10 ≤ n = ltb-false n 10 e in
-        let more : 10 ^ suc (suc k) ≡ 10 * 10 ^ suc k = pow-succ' 10 (suc k) in
-        let fewer : length (decimal (n / 10)) ≤ suc k = rest (omega arith) in
-        rw (one_more_digit n large) (omega (arith, length-append (decimal (n / 10)) (digit (n % 10) ∷ [])))
+pub fewest_digits : (n k : ℕ) → IsDigitCount 10 1 n k → last_digits 10 k n ≡ decimal n
+unfolding decimal
+fewest_digits n k f = in_turns (suc n) k n (omega arith) f
 
 -- a 64-bit number has at most twenty digits
-pub at_most_twenty : (n : ℕ) → n < 2 ^ 64 → length (decimal n) ≤ 20
-at_most_twenty n h = most_digits 19 n (omega arith)
-
--- and its tenth at most nineteen
-pub tenth_has_room : (n : ℕ) → n < 2 ^ 64 → length (decimal (n / 10)) < 20
-tenth_has_room n h = let fewer : length (decimal (n / 10)) ≤ 19 = most_digits 18 (n / 10) (omega arith) in omega arith
-
--- ---- the digits stored at the front, the first and one more
-
-pub first_stored : (n : ℕ) (s : List ℕ) → 0 < length s → n < 10 → take 1 (set s 0 (digit n)) ≡ decimal n
-first_stored n s room h = take-suc-set s 0 (digit n) room ∙ sym (one_digit n h)
-
-pub one_more_stored : (n k : ℕ) (s : List ℕ) → k < length s → 10 ≤ n → take k s ≡ decimal (n / 10)
-    → take (k + 1) (set s k (digit (n % 10))) ≡ decimal n
-one_more_stored n k s room large before =
-    rw add-one (take-suc-set s k (digit (n % 10)) room ∙ ap (λ l. l ++ (digit (n % 10) ∷ [])) before ∙ sym (one_more_digit n large))
+pub at_most_twenty : (n k : ℕ) → n < 2 ^ 64 → IsDigitCount 10 1 n k → k ≤ 20
+at_most_twenty n k h f = go (leb k 20) refl
+  where
+    go : (b : Bool) → leb k 20 ≡ b → k ≤ 20
+    go true e = leb-true k 20 e
+    go false e =
+        let long : 20 < k = leb-false k 20 e in
+        let least : 10 ^ (k - 1) ≤ n = f.2 (omega arith) in
+        let large : 10 ^ 20 ≤ 10 ^ (k - 1) = pow-le-pow_right {n = 10} (omega arith) {i = 20} {j = k - 1} (omega arith) in
+        absurd (omega arith)

@@ -1,8 +1,7 @@
 // The program's lines as bytes, from a place of a lent slice on.
 #![tactic(auto)]
 
-ghost use Rattle.std.specs.Prelude.{◌≡◌, [], ◌∷◌, ◌++◌, ◌+◌, ◌≤◌, ◌<◌, nat_abs, length, take};
-ghost use Rattle.std.specs.Counts.{IsPrefixLen as Count};
+ghost use Rattle.std.specs.Prelude.{◌≡◌, [], ◌∷◌, ◌++◌, ◌+◌, ◌≤◌, ◌<◌, nat_abs, length};
 ghost use Rattle.texts.specs.Text.{decimal, signed_decimal, axis_letter, face_word, parted, ended, cell_fields};
 ghost use Rattle.texts.specs.Text.{line_room, hit_line, clear_line, pair_refused_line, venue_refused_line, Puts};
 
@@ -25,20 +24,6 @@ fn put_word(out: &mut [u8], at: usize, word: &[u8], after: u8) -> usize
     next + 1
 }
 
-// A number's decimal digits, at the front of twenty bytes, which hold every number of 64 bits; answers how many there are.
-fn put_decimal(n: u64, text: &mut [u8; 20]) -> usize
-    ensures count { Count result text.new }
-    ensures digits { take result text.new ≡ decimal n }
-{
-    if n < 10 {
-        text[0] = b'0' + n as u8;
-        return 1;
-    }
-    let k = put_decimal(n / 10, text);
-    text[k] = b'0' + (n % 10) as u8;
-    k + 1
-}
-
 // A number and the byte that parts it from the next.
 fn put_number(out: &mut [u8], at: usize, n: u64, after: u8) -> usize
     requires { at + 20 < length out.old }
@@ -46,7 +31,7 @@ fn put_number(out: &mut [u8], at: usize, n: u64, after: u8) -> usize
     ensures upper_bound { result ≤ at + 21 }
 {
     let mut text = [0u8; 20];
-    let k = put_decimal(n, &mut text);
+    let k = io::decimal(n, &mut text);
     put_word(out, at, &text[..k], after)
 }
 

@@ -1,22 +1,34 @@
--- `texts::put_number` meets its contract: the digits are the number's decimal text, which has at most twenty bytes. Assumes nothing.
-use mathlib.Core.Path.{◌≡◌, ap}
+-- `texts::put_number` meets its contract: the digits are the fewest that hold the number, so they are its decimal text. Assumes nothing.
+use mathlib.Core.Path.{◌≡◌, ap, ◌∙◌}
+use Prim.Native.Nat.{◌+◌, ◌<◌}
 use mathlib.Core.List.{[], ◌∷◌, ◌++◌}
 use lib.ListN.{length, take, length-append}
 use native.Mathlib.Omega.{arith}
 use Rattle.texts.specs.Text.{decimal}
 use Rattle.texts.proofs.Pieces.{same_piece}
-use Rattle.texts.proofs.Decimal.{at_most_twenty}
+use Rattle.texts.proofs.Decimal.{fewest_digits, at_most_twenty}
+use borrow.Author.Rules.{rules}
 use Rattle.texts.proofs.put_number.Goals as goal
 
 pub put_word-requires : goal.put_word-requires
-put_word-requires c = omega (arith, ap length c.put_decimal-k.ensures.digits, at_most_twenty c.args.n c.ranges.n.fits)
+put_word-requires c =
+    let d = c.decimal-k.ensures in
+    let few = at_most_twenty _ c.decimal-k.result c.ranges.n.fits d.len in
+    let long = d.in_bounds.1 in
+    let room = c.requires in
+    let digits = take c.decimal-k.result c.decimal-k.new.out in
+    let h : c.args.at + length digits < length c.args.out.now = omega arith in
+    search rules
 
 pub returns : goal.returns
 returns c =
-    let digits = take c.put_decimal-k.result c.put_decimal-k.new.text in
-    let text : digits ≡ decimal c.args.n = c.put_decimal-k.ensures.digits in
-    let few = at_most_twenty c.args.n c.ranges.n.fits in
+    let d = c.decimal-k.ensures in
+    let few = at_most_twenty _ c.decimal-k.result c.ranges.n.fits d.len in
+    let long = d.in_bounds.1 in
+    let puts = c.put_word.ensures in
+    let digits = take c.decimal-k.result c.decimal-k.new.out in
+    let text : digits ≡ decimal c.args.n = d.digits ∙ fewest_digits c.args.n c.decimal-k.result d.len in
     record {
-      puts = same_piece (ap (λ l. l ++ (c.args.after ∷ [])) text) c.put_word.ensures;
-      upper_bound = omega (arith, c.put_word.ensures.says, ap length text, length-append digits (c.args.after ∷ []));
+      puts = same_piece (ap (λ l. l ++ (c.args.after ∷ [])) text) puts;
+      upper_bound = omega (arith, puts.says, length-append digits (c.args.after ∷ []));
     }
