@@ -1,17 +1,6 @@
--- What the sources of the exports promise is the record of each one's name, as it is of the calls of `oatmarten`: `Post` is an export's `ensures` as the
--- toolchain reads it, of its inputs a, its answer r and the memory at exit e, and `Pre` its `requires`. A weaker `ensures` fails here, since no other crate
--- can rest on this one. Assumes nothing.
-use mathlib.Core.Path.{◌≡◌}
-use lib.ListN.{length}
-use Rattle.walks.specs.declared.Walker.TheVariants.{Plain, Adaptive}
-use Rattle.structs.specs.Inputs.{as_cell, as_counts, as_start, as_placement, as_point}
-use Rattle.oatmarten.specs.LineCalls.{FlatLine6, FlatLine26, FlatLineTouching}
-use Rattle.oatmarten.specs.GridCalls.{FlatMarks, FlatCompletes, FlatGivesLayerPart}
-use Rattle.oatmarten.specs.BrickCalls.{FlatBuilds, FlatSets, FlatRefills}
-use Rattle.oatmarten.specs.WalkCalls.{FlatFinds, FlatAdaptiveCells, FlatFindsTouching}
-use Rattle.oatmarten.specs.SightCalls.{FlatLooksUp, FlatSees}
-use Rattle.oatmarten.specs.RecordCalls.{FlatReadsVenue, FlatReadsPair, FlatWritesVenue}
-use Rattle.oatmarten.specs.Revision.{revision}
+-- What an export's source promises is what that of the library's call of its name does: `Post` is a function's `ensures` as the toolchain reads it, of its
+-- inputs a, its answer r and the memory at exit e. A weaker `ensures` of an export fails here; what the library's calls promise is claimed in `claims`. And
+-- no export asks for anything: `Pre` is its `requires`. Assumes nothing.
 use Rattle.oatmarten_c.proofs.line_calls.oat_line6.Reads as line6
 use Rattle.oatmarten_c.proofs.line_calls.oat_line26.Reads as line26
 use Rattle.oatmarten_c.proofs.line_calls.oat_line_touching.Reads as line_touching
@@ -31,79 +20,85 @@ use Rattle.oatmarten_c.proofs.record_calls.oat_read_venue.Reads as read_venue
 use Rattle.oatmarten_c.proofs.record_calls.oat_read_pair.Reads as read_pair
 use Rattle.oatmarten_c.proofs.record_calls.oat_write_venue.Reads as write_venue
 use Rattle.oatmarten_c.proofs.revision.oat_revision.Reads as answered
+use Rattle.oatmarten.proofs.oat_line6.Reads as library_line6
+use Rattle.oatmarten.proofs.oat_line26.Reads as library_line26
+use Rattle.oatmarten.proofs.oat_line_touching.Reads as library_line_touching
+use Rattle.oatmarten.proofs.oat_mark.Reads as library_mark
+use Rattle.oatmarten.proofs.oat_complete.Reads as library_complete
+use Rattle.oatmarten.proofs.oat_layer.Reads as library_layer
+use Rattle.oatmarten.proofs.oat_build.Reads as library_build
+use Rattle.oatmarten.proofs.oat_set.Reads as library_set
+use Rattle.oatmarten.proofs.oat_refill.Reads as library_refill
+use Rattle.oatmarten.proofs.oat_plain.Reads as library_plain
+use Rattle.oatmarten.proofs.oat_adaptive.Reads as library_adaptive
+use Rattle.oatmarten.proofs.oat_adaptive_cells.Reads as library_adaptive_cells
+use Rattle.oatmarten.proofs.oat_touching.Reads as library_touching
+use Rattle.oatmarten.proofs.oat_cell_of.Reads as library_cell_of
+use Rattle.oatmarten.proofs.oat_sight.Reads as library_sight
+use Rattle.oatmarten.proofs.oat_read_venue.Reads as library_read_venue
+use Rattle.oatmarten.proofs.oat_read_pair.Reads as library_read_pair
+use Rattle.oatmarten.proofs.oat_write_venue.Reads as library_write_venue
+use Rattle.oatmarten.proofs.oat_revision.Reads as library_answered
 
-pub of_line6 : (κs : _) (a : _) (r : _) (e : _) → line6.Post κs a r e →
-    FlatLine6 a.1.1.0 (as_cell a.0) (as_cell a.1.0) a.1.1.1.0.now r e.1.1.1.0.now
+pub of_line6 : (κs : _) (a : _) (r : _) (e : _) → line6.Post κs a r e → library_line6.Post κs a r e
 of_line6 κs a r e h = h
 
-pub of_line26 : (κs : _) (a : _) (r : _) (e : _) → line26.Post κs a r e → FlatLine26 (as_cell a.0) (as_cell a.1.0) a.1.1.0.now r e.1.1.0.now
+pub of_line26 : (κs : _) (a : _) (r : _) (e : _) → line26.Post κs a r e → library_line26.Post κs a r e
 of_line26 κs a r e h = h
 
-pub of_line_touching : (κs : _) (a : _) (r : _) (e : _) → line_touching.Post κs a r e →
-    FlatLineTouching (as_cell a.0) (as_cell a.1.0) a.1.1.0.now r e.1.1.0.now
+pub of_line_touching : (κs : _) (a : _) (r : _) (e : _) → line_touching.Post κs a r e → library_line_touching.Post κs a r e
 of_line_touching κs a r e h = h
 
-pub of_mark : (κs : _) (a : _) (r : _) (e : _) → mark.Post κs a r e → FlatMarks (as_counts a.0) a.1.0.now r e.1.0.now
+pub of_mark : (κs : _) (a : _) (r : _) (e : _) → mark.Post κs a r e → library_mark.Post κs a r e
 of_mark κs a r e h = h
 
-pub of_complete : (κs : _) (a : _) (r : _) (e : _) → complete.Post κs a r e → FlatCompletes (as_counts a.0) a.1.0.now r
+pub of_complete : (κs : _) (a : _) (r : _) (e : _) → complete.Post κs a r e → library_complete.Post κs a r e
 of_complete κs a r e h = h
 
-pub of_layer : (κs : _) (a : _) (r : _) (e : _) → layer.Post κs a r e → FlatGivesLayerPart (as_counts a.0) (length a.1.0.now) a.1.1.0 r
+pub of_layer : (κs : _) (a : _) (r : _) (e : _) → layer.Post κs a r e → library_layer.Post κs a r e
 of_layer κs a r e h = h
 
-pub of_build : (κs : _) (a : _) (r : _) (e : _) → build.Post κs a r e → FlatBuilds (as_counts a.0) a.1.0.now a.1.1.0.now r e.1.1.0.now
+pub of_build : (κs : _) (a : _) (r : _) (e : _) → build.Post κs a r e → library_build.Post κs a r e
 of_build κs a r e h = h
 
-pub of_set : (κs : _) (a : _) (r : _) (e : _) → set.Post κs a r e →
-    FlatSets (as_counts a.0) (as_cell a.1.1.1.1.0) a.1.1.1.1.1.0 a.1.0.now a.1.1.0.now a.1.1.1.0 r e.1.0.now
-    e.1.1.0.now
+pub of_set : (κs : _) (a : _) (r : _) (e : _) → set.Post κs a r e → library_set.Post κs a r e
 of_set κs a r e h = h
 
-pub of_refill : (κs : _) (a : _) (r : _) (e : _) → refill.Post κs a r e →
-    FlatRefills (as_counts a.0) (as_cell a.1.1.1.1.0) (as_cell a.1.1.1.1.1.0) a.1.1.1.1.1.1.0 a.1.0.now a.1.1.0.now
-    a.1.1.1.0 r e.1.0.now e.1.1.0.now
+pub of_refill : (κs : _) (a : _) (r : _) (e : _) → refill.Post κs a r e → library_refill.Post κs a r e
 of_refill κs a r e h = h
 
-pub of_plain : (κs : _) (a : _) (r : _) (e : _) → plain.Post κs a r e →
-    FlatFinds Plain a.1.1.1.1.0 (as_counts a.0) a.1.0.now (as_cell a.1.1.0) (as_cell a.1.1.1.0) r
+pub of_plain : (κs : _) (a : _) (r : _) (e : _) → plain.Post κs a r e → library_plain.Post κs a r e
 of_plain κs a r e h = h
 
-pub of_adaptive : (κs : _) (a : _) (r : _) (e : _) → adaptive.Post κs a r e →
-    FlatFinds Adaptive a.1.1.1.1.0 (as_counts a.0) a.1.0.now (as_cell a.1.1.0) (as_cell a.1.1.1.0) r
+pub of_adaptive : (κs : _) (a : _) (r : _) (e : _) → adaptive.Post κs a r e → library_adaptive.Post κs a r e
 of_adaptive κs a r e h = h
 
-pub of_adaptive_cells : (κs : _) (a : _) (r : _) (e : _) → adaptive_cells.Post κs a r e →
-    FlatAdaptiveCells a.1.1.1.1.0 (as_counts a.0) a.1.0.now (as_cell a.1.1.0) (as_cell a.1.1.1.0) a.1.1.1.1.1.0.now r
-    e.1.1.1.1.1.0.now
+pub of_adaptive_cells : (κs : _) (a : _) (r : _) (e : _) → adaptive_cells.Post κs a r e → library_adaptive_cells.Post κs a r e
 of_adaptive_cells κs a r e h = h
 
-pub of_touching : (κs : _) (a : _) (r : _) (e : _) → touching.Post κs a r e →
-    FlatFindsTouching (as_start a.1.1.1.1.0) (as_counts a.0) a.1.0.now (as_cell a.1.1.0) (as_cell a.1.1.1.0) r
+pub of_touching : (κs : _) (a : _) (r : _) (e : _) → touching.Post κs a r e → library_touching.Post κs a r e
 of_touching κs a r e h = h
 
-pub of_cell_of : (κs : _) (a : _) (r : _) (e : _) → cell_of.Post κs a r e → FlatLooksUp (as_counts a.0) (as_placement a.1.0) (as_point a.1.1.0) r
+pub of_cell_of : (κs : _) (a : _) (r : _) (e : _) → cell_of.Post κs a r e → library_cell_of.Post κs a r e
 of_cell_of κs a r e h = h
 
-pub of_sight : (κs : _) (a : _) (r : _) (e : _) → sight.Post κs a r e →
-    FlatSees a.1.1.1.1.1.0 (as_counts a.0) a.1.0.now (as_placement a.1.1.0) (as_point a.1.1.1.0)
-    (as_point a.1.1.1.1.0) r
+pub of_sight : (κs : _) (a : _) (r : _) (e : _) → sight.Post κs a r e → library_sight.Post κs a r e
 of_sight κs a r e h = h
 
-pub of_read_venue : (κs : _) (a : _) (r : _) (e : _) → read_venue.Post κs a r e → FlatReadsVenue a.0.now r
+pub of_read_venue : (κs : _) (a : _) (r : _) (e : _) → read_venue.Post κs a r e → library_read_venue.Post κs a r e
 of_read_venue κs a r e h = h
 
-pub of_read_pair : (κs : _) (a : _) (r : _) (e : _) → read_pair.Post κs a r e → FlatReadsPair a.0.now r
+pub of_read_pair : (κs : _) (a : _) (r : _) (e : _) → read_pair.Post κs a r e → library_read_pair.Post κs a r e
 of_read_pair κs a r e h = h
 
-pub of_write_venue : (κs : _) (a : _) (r : _) (e : _) → write_venue.Post κs a r e →
-    FlatWritesVenue (as_counts a.0) a.1.0.now a.1.1.0.now r e.1.1.0.now
+pub of_write_venue : (κs : _) (a : _) (r : _) (e : _) → write_venue.Post κs a r e → library_write_venue.Post κs a r e
 of_write_venue κs a r e h = h
 
-pub of_revision : (κs : _) (a : _) (r : _) (e : _) → answered.Post κs a r e → r ≡ revision
-of_revision κs a r e h = h
+pub of_answered : (κs : _) (a : _) (r : _) (e : _) → answered.Post κs a r e → library_answered.Post κs a r e
+of_answered κs a r e h = h
 
--- and none asks for anything
+-- ---- none asks for anything
+
 pub line6_asks : (κs : _) (a : _) → line6.Pre κs a
 line6_asks κs a = tt
 
