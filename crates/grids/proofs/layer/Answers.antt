@@ -24,7 +24,7 @@ asked c =
 -- the part that is taken
 taken : (c : In-Part) → let a = c.args in
     Named a.n (length a.cells.now) c.in-Part.start c.in-Part.long
-taken c = part_named _ _ _ _ _ (sym ((let it : let a = c.args in c.layer_part.result ≡ layer_part a.n (length a.cells.now) a.z = let a = c.args in c.layer_part.ensures.says ∙ ap (λ (z : ℤ). layer_part a.n (length a.cells.now) z) (to_z-of_z w32 a.z c.ranges.z) in it)) ∙ c.in-Part.is)
+taken c = part_named _ _ _ _ _ (sym (asked ((goal.at.overflow_add-result c).After-layer_part)) ∙ c.in-Part.is)
 
 -- a part that ends where it starts
 nothing : (at : ℕ) (l : List ℕ) → take (at - at) (drop at l) ≡ []

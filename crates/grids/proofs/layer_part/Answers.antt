@@ -24,7 +24,7 @@ checked c =
 
 fine : (c : After-struct_known-in-Fine-1) → let a = c.args in layer_check a.n
     (length a.cells.now) a.z ≡ Fine
-fine c = sym ((let it : let a = c.args in c.layer_check.result ≡ layer_check a.n (length a.cells.now) a.z = let a = c.args in c.layer_check.ensures ∙ ap (λ (z : ℤ). layer_check a.n (length a.cells.now) z) (to_z-of_z w32 a.z c.ranges.z) in it)) ∙ c.in-Fine.is
+fine c = sym (checked ((goal.at.overflow_mul-long c).After-layer_check)) ∙ c.in-Fine.is
 
 pub overflow_mul-long : goal.overflow_mul-long
 overflow_mul-long c = record { fits = lt_of_le_of_lt (layer_shape _ _ _ (fine c)).layer_most (lit< tt) }

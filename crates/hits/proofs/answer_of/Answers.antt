@@ -2,11 +2,11 @@
 -- byte. Assumes nothing.
 use mathlib.Core.Path.{◌≡◌, refl, sym, ap, ◌∙◌}
 use mathlib.Core.Bool.{Bool, true, false, not, ◌&&◌, ◌||◌}
-use Prim.Native.Nat.{◌<◌}
+use Prim.Native.Nat.{ℕ, ◌<◌}
 use native.Mathlib.Nat.{lt_of_lt_of_le}
 use native.Mathlib.Omega.{arith}
 use lib.Dec.{eqb}
-use lib.IntN.{nat_abs}
+use lib.IntN.{ℤ, nat_abs}
 use lib.ListN.{length}
 use Rattle.cells.specs.Manners.{is_tested}
 use Rattle.cells.proofs.Machine.{held}
@@ -15,7 +15,7 @@ use Rattle.lines.specs.Lines.{differences}
 use Rattle.tripod.specs.Tripod.{steps}
 use Rattle.grids.specs.Grid.{solid, cell_at}
 use Rattle.walks.specs.declared.FirstHit.TheVariants as FirstHit
-use Rattle.routes.specs.Route.{byte_of_spot}
+use Rattle.routes.specs.Route.{byte_of_spot, HasByte}
 use Rattle.places.specs.Entered.{entered}
 use Rattle.hits.specs.Answer.{answer_from}
 use Rattle.cells.proofs.Held.{abs_nat, cast_32}
@@ -24,14 +24,14 @@ use Rattle.hits.proofs.answer_of.Goals as goal
 use Rattle.hits.proofs.answer_of.Goals.{After-cell_at-cell, After-is_passed, After-is_solid, After-measured-made, Start}
 
 -- the place of the byte
-at_is : (c : Start) → nat_abs (held c.args.r.spot.at) ≡ nat_abs c.args.r.spot.at
-at_is c = let h = c.requires.1 in abs_nat _ h.index h.is (omega arith)
+at_is : (l : ℕ) (at : ℤ) → HasByte l at → nat_abs (held at) ≡ nat_abs at
+at_is l at h = abs_nat _ h.index h.is (omega arith)
 
 has_byte : (c : Start) → nat_abs c.args.r.spot.at < length c.args.cells.now
 has_byte c = let h = c.requires.1 in rw h.is h.below
 
 below : (c : Start) → nat_abs (held c.args.r.spot.at) < 1073741824
-below c = rw (at_is c) (lt_of_lt_of_le (has_byte c) c.requires.1.few)
+below c = rw (at_is _ _ c.requires.1) (lt_of_lt_of_le (has_byte c) c.requires.1.few)
 
 -- what the test of the byte answered
 solid_is : (c : After-is_solid) → solid
@@ -41,7 +41,7 @@ solid_is c = sym (c.is_solid.ensures ∙ ap solid c.byte_at-code.ensures)
 -- the cell
 cell_is : (c : After-cell_at-cell) → c.cell_at-cell.result ≡ cell_at
     c.args.k.n (nat_abs c.args.r.spot.at)
-cell_is c = c.cell_at-cell.ensures ∙ ap (cell_at c.args.k.n) ((let it : nat_abs (held c.args.r.spot.at) ≡ nat_abs c.args.r.spot.at = let h = c.requires.1 in abs_nat _ h.index h.is (omega arith) in it))
+cell_is c = c.cell_at-cell.ensures ∙ ap (cell_at c.args.k.n) (at_is _ _ c.requires.1)
 
 pub returns-then-not-is_solid : goal.returns-then-not-is_solid
 unfolding answer_from
@@ -57,18 +57,18 @@ pub measured-made-requires : goal.measured-made-requires
 measured-made-requires c = (p_limit _ _ c.requires.0, rw (cell_is ((goal.at.measured-made-requires c).After-cell_at-cell)) (byte_limit c.args.k.n _ c.requires.0.shaped (nat_abs c.args.r.spot.at) (has_byte ((goal.at.measured-made-requires c).Start))))
 
 -- the steps from P to it
-made_is : (c : After-measured-made) → steps c.measured-made.result ≡
-    differences c.args.k.p (cell_at c.args.k.n (nat_abs c.args.r.spot.at))
-made_is c = c.measured-made.ensures.0 ∙ ap
-    (differences c.args.k.p) ((let it : c.cell_at-cell.result ≡ cell_at c.args.k.n (nat_abs c.args.r.spot.at) = c.cell_at-cell.ensures ∙ ap (cell_at c.args.k.n) ((let it : nat_abs (held c.args.r.spot.at) ≡ nat_abs c.args.r.spot.at = let h = c.requires.1 in abs_nat _ h.index h.is (omega arith) in it)) in it))
+made_is : (c : After-measured-made) → c.cell_at-cell.result ≡ cell_at c.args.k.n (nat_abs c.args.r.spot.at) →
+    steps c.measured-made.result ≡ differences c.args.k.p (cell_at c.args.k.n (nat_abs c.args.r.spot.at))
+made_is c cell = c.measured-made.ensures.0 ∙ ap (differences c.args.k.p) cell
 
 -- what the test of P answered
 passed_is : (c : After-is_passed) →
+    steps c.measured-made.result ≡ differences c.args.k.p (cell_at c.args.k.n (nat_abs c.args.r.spot.at)) →
     (is_tested c.args.how.start || not (eqb (total (differences c.args.k.p (cell_at c.args.k.n (nat_abs c.args.r.spot.at)))) 0))
     ≡ not c.is_passed.result
-passed_is c =
+passed_is c made =
     turned (is_tested c.args.how.start) _
-    ∙ ap not (sym (c.is_passed.ensures ∙ ap (λ t. not (is_tested c.args.how.start) && eqb (total t) 0) ((let it : steps c.measured-made.result ≡ differences c.args.k.p (cell_at c.args.k.n (nat_abs c.args.r.spot.at)) = c.measured-made.ensures.0 ∙ ap (differences c.args.k.p) ((let it : c.cell_at-cell.result ≡ cell_at c.args.k.n (nat_abs c.args.r.spot.at) = c.cell_at-cell.ensures ∙ ap (cell_at c.args.k.n) ((let it : nat_abs (held c.args.r.spot.at) ≡ nat_abs c.args.r.spot.at = let h = c.requires.1 in abs_nat _ h.index h.is (omega arith) in it)) in it)) in it))))
+    ∙ ap not (sym (c.is_passed.ensures ∙ ap (λ t. not (is_tested c.args.how.start) && eqb (total t) 0) made))
   where
     turned : (t z : Bool) → (t || not z) ≡ not (not t && z)
     turned true z = refl
@@ -79,17 +79,18 @@ unfolding answer_from
 returns-then-is_passed c =
     rw (
       solid_is ((goal.at.returns-then-is_passed c).After-is_solid) ∙ c.if-not-is_solid.false,
-      passed_is ((goal.at.returns-then-is_passed c).After-is_passed),
+      passed_is ((goal.at.returns-then-is_passed c).After-is_passed) (made_is ((goal.at.returns-then-is_passed c).After-measured-made) (cell_is ((goal.at.returns-then-is_passed c).After-cell_at-cell))),
       c.if-is_passed.true,
     )
 
 pub returns : goal.returns
 unfolding answer_from
 returns c =
-    let place = c.place_after-place.ensures ∙ ap (entered c.args.k.p c.args.k.q c.args.k.order (steps c.args.k.d)) (made_is ((goal.at.returns c).After-measured-made)) in
+    let made = made_is ((goal.at.returns c).After-measured-made) (cell_is ((goal.at.returns c).After-cell_at-cell)) in
+    let place = c.place_after-place.ensures ∙ ap (entered c.args.k.p c.args.k.q c.args.k.order (steps c.args.k.d)) made in
     rw (
       solid_is ((goal.at.returns c).After-is_solid) ∙ c.if-not-is_solid.false,
-      passed_is ((goal.at.returns c).After-is_passed),
+      passed_is ((goal.at.returns c).After-is_passed) made,
       c.if-is_passed.false,
     )
     (λ i. FirstHit.Hit (record {

@@ -46,12 +46,13 @@ lowered-spot-requires c =
 
 -- where the run led
 led : (c : After-lowered-spot) →
+    c.run_spot_of-start.result ≡ run_spot c.args.long (steps c.args.k.d) (raised_spot c.args.k.order c.args.s) →
     let r = c.clear_run-r.result in
     Reached c.args.cells.now c.args.k true c.args.s c.args.reads c.args.left
     (record { spot = c.lowered-spot.result; reads = c.args.reads + (c.args.left - r.left); hit = false; left = r.left })
-led c =
+led c begun =
     let (g, is, clear) = c.requires in
-    run_leads _ _ _ _ _ _ _ g _ is _ ((let it : let a = c.args in c.run_spot_of-start.result ≡ run_spot a.long (steps a.k.d) (raised_spot a.k.order a.s) = let a = c.args in c.run_spot_of-start.ensures ∙ ap (run_spot a.long (steps a.k.d)) c.raised.ensures in it)) _ c.clear_run-r.ensures _
+    run_leads _ _ _ _ _ _ _ g _ is _ begun _ c.clear_run-r.ensures _
     (c.lowered-spot.ensures ∙ ap (lowered_spot c.args.k.order) c.spot_of.ensures)
 
 pub overflow_sub-made : goal.overflow_sub-made
@@ -60,7 +61,8 @@ overflow_sub-made c = omega (arith, c.clear_run-r.ensures.fewer)
 pub overflow_add-result : goal.overflow_add-result
 overflow_add-result c =
     let g = c.requires.0 in
-    let w = (led ((goal.at.overflow_add-result c).After-lowered-spot)).outcome g.from g.at in
+    let at = goal.at.overflow_add-result c in
+    let w = (led at.After-lowered-spot (begins at.After-run_spot_of-start)).outcome g.from g.at in
     record {
       fits = omega (
         arith,
@@ -73,4 +75,4 @@ overflow_add-result c =
     }
 
 pub returns : goal.returns
-returns c = led ((goal.at.returns c).After-lowered-spot)
+returns c = let at = goal.at.returns c in led at.After-lowered-spot (begins at.After-run_spot_of-start)

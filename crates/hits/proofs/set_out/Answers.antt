@@ -19,7 +19,7 @@ passes_solid-requires c = p_byte c.args.how.start c.args.cells.now c.args.k c.re
 here : (c : Then-passes_solid) → let a = c.args in At26 a.how.start a.cells.now a.k false a.start 0 a.left
 here c =
     let a = c.args in
-    passed_26 a.how.start a.cells.now a.k c.requires.0 a.start c.requires.1 a.left ((let it : c.args.left ≡ longest (differences c.args.k.p c.args.k.q) = c.requires.2 ∙ ap longest c.requires.0.is in it)) c.if-left-gt0.true
+    passed_26 a.how.start a.cells.now a.k c.requires.0 a.start c.requires.1 a.left (all ((goal.at.near_turn-requires c).Start)) c.if-left-gt0.true
     (sym c.passes_solid.ensures ∙ c.if-passes_solid.true)
 
 pub near_turn-requires : goal.near_turn-requires

@@ -22,7 +22,7 @@ crossing : (c : After-tests_start) →
 crossing c =
     let a = c.args in
     subst (λ t. Crossing a.how.start a.cells.now a.k t a.start 0 c.total.result suc 0) (sym c.tests_start.ensures)
-    (all_faces a.how.start _ a.k c.requires.0 a.cells.now a.start _ c.requires.1 ((let it : let k = c.args.k in c.total.result ≡ last_number k.p k.q = c.total.ensures ∙ ap total c.requires.0.is in it)))
+    (all_faces a.how.start _ a.k c.requires.0 a.cells.now a.start _ c.requires.1 (faces ((goal.at.walk_from-t-requires c).After-total)))
 
 pub walk_from-t-requires : goal.walk_from-t-requires
 walk_from-t-requires c = (c.requires.0, record { from = c.args.how.start; next = suc; number = 0; crossing = crossing c })
@@ -30,27 +30,31 @@ walk_from-t-requires c = (c.requires.0, record { from = c.args.how.start; next =
 -- what the faces came to
 came : (c : After-walk_from-t) →
     let a = c.args in
+    Crossing a.how.start a.cells.now a.k c.tests_start.result a.start 0 c.total.result suc 0 →
     let r = c.walk_from-t.result in
     Outcome a.how.start a.cells.now a.k suc (0 + c.total.result) r.hit r.spot r.reads
-came c = c.walk_from-t.ensures.leads c.args.how.start suc 0 ((let it : let a = c.args in Crossing a.how.start a.cells.now a.k c.tests_start.result a.start 0 c.total.result suc 0 = let a = c.args in subst (λ t. Crossing a.how.start a.cells.now a.k t a.start 0 c.total.result suc 0) (sym c.tests_start.ensures) (all_faces a.how.start _ a.k c.requires.0 a.cells.now a.start _ c.requires.1 ((let it : let k = c.args.k in c.total.result ≡ last_number k.p k.q = c.total.ensures ∙ ap total c.requires.0.is in it))) in it))
+came c faces = c.walk_from-t.ensures.leads c.args.how.start suc 0 faces
 
 pub returns-then-t : goal.returns-then-t
 returns-then-t c =
     let a = c.args in
-    outcome_stopped a.how.start a.cells.now a.k suc _ _ _ _ (came ((goal.at.returns-then-t c).After-walk_from-t)) c.if-t.true
+    let at = goal.at.returns-then-t c in
+    outcome_stopped a.how.start a.cells.now a.k suc _ _ _ _ (came at.After-walk_from-t (crossing at.After-tests_start)) c.if-t.true
 
 -- not stopped, it is at the last place
 walking : (c : Else-t) →
     let a = c.args in
     let r = c.walk_from-t.result in
+    Outcome a.how.start a.cells.now a.k suc (0 + c.total.result) r.hit r.spot r.reads →
     Walking a.how.start a.cells.now a.k suc (0 + c.total.result) r.reads r.spot
-walking c =
+walking c came =
     let a = c.args in
-    outcome_walking a.how.start a.cells.now a.k suc _ _ _ _ ((let it : let a = c.args in let r = c.walk_from-t.result in Outcome a.how.start a.cells.now a.k suc (0 + c.total.result) r.hit r.spot r.reads = c.walk_from-t.ensures.leads c.args.how.start suc 0 ((let it : let a = c.args in Crossing a.how.start a.cells.now a.k c.tests_start.result a.start 0 c.total.result suc 0 = let a = c.args in subst (λ t. Crossing a.how.start a.cells.now a.k t a.start 0 c.total.result suc 0) (sym c.tests_start.ensures) (all_faces a.how.start _ a.k c.requires.0 a.cells.now a.start _ c.requires.1 ((let it : let k = c.args.k in c.total.result ≡ last_number k.p k.q = c.total.ensures ∙ ap total c.requires.0.is in it))) in it)) in it)) c.if-t.false
+    outcome_walking a.how.start a.cells.now a.k suc _ _ _ _ came c.if-t.false
 
 pub overflow_add-result : goal.overflow_add-result
 overflow_add-result c =
-    let w = walking ((goal.at.overflow_add-result c).Else-t) in
+    let at = goal.at.overflow_add-result c in
+    let w = walking at.Else-t (came at.After-walk_from-t (crossing at.After-tests_start)) in
     record {
       fits = omega (
         arith,
@@ -64,5 +68,6 @@ overflow_add-result c =
 
 pub returns : goal.returns
 returns c =
-    at_end c.args.how.start _ c.args.k c.requires.0 c.args.cells.now suc _ _ _ (walking ((goal.at.returns c).Else-t))
-    (omega (arith, faces ((goal.at.returns c).After-total)))
+    let at = goal.at.returns c in
+    at_end c.args.how.start _ c.args.k c.requires.0 c.args.cells.now suc _ _ _ (walking at.Else-t (came at.After-walk_from-t (crossing at.After-tests_start)))
+    (omega (arith, faces at.After-total))

@@ -21,11 +21,12 @@ ahead : (c : After-faces_ahead-ahead) → Ahead26 c.args.k c.requires.number c.a
 ahead c = let h = c.requires in c.faces_ahead-ahead.ensures.leads h.number h.below h.at
 
 -- the faces to cross are some of it
-few : (c : After-to_cross-faces) → c.to_cross-faces.result ≤ c.faces_ahead-ahead.result
-few c =
+few : (c : After-to_cross-faces) → Ahead26 c.args.k c.requires.number c.args.t.left c.faces_ahead-ahead.result →
+    c.to_cross-faces.result ≤ c.faces_ahead-ahead.result
+few c ahead =
     let h = c.requires in
     subst (λ n. n ≤ c.faces_ahead-ahead.result) (sym c.to_cross-faces.ensures)
-    (crosses_some c.args.cells.now c.args.k h.plan h.number h.below c.args.t _ h.at.spot ((let it : Ahead26 c.args.k c.requires.number c.args.t.left c.faces_ahead-ahead.result = let h = c.requires in c.faces_ahead-ahead.ensures.leads h.number h.below h.at in it))).1
+    (crosses_some c.args.cells.now c.args.k h.plan h.number h.below c.args.t _ h.at.spot ahead).1
 
 pub over_faces-spot-requires : goal.over_faces-spot-requires
 over_faces-spot-requires c =
@@ -35,7 +36,7 @@ over_faces-spot-requires c =
       plan = h.plan;
       number = h.number;
       at = h.at.spot;
-      fits = omega (arith, few ((goal.at.over_faces-spot-requires c).After-to_cross-faces), ahead_within c.args.k h.number _ _ (ahead ((goal.at.over_faces-spot-requires c).After-faces_ahead-ahead)));
+      fits = omega (arith, few ((goal.at.over_faces-spot-requires c).After-to_cross-faces) (ahead ((goal.at.over_faces-spot-requires c).After-faces_ahead-ahead)), ahead_within c.args.k h.number _ _ (ahead ((goal.at.over_faces-spot-requires c).After-faces_ahead-ahead)));
     }
 
 pub returns : goal.returns

@@ -26,9 +26,9 @@ loop-m-init c =
     (filled_none _ _ _, subst (λ u. Paced u q 0 r) (sym (at_p c)) first)
 
 -- the coordinates in the loop are those of the line from P
-on_line : (l : At-loop-m) →
+on_line : (l : At-loop-m) → cell_at l.first_coordinates-c.result ≡ l.args.p →
     Paced l.args.p l.args.q l.loop-m.m l.loop-m.c
-on_line l = subst (λ u. Paced u l.args.q l.loop-m.m l.loop-m.c) ((let it : cell_at l.first_coordinates-c.result ≡ l.args.p = ap cell_at l.first_coordinates-c.ensures in it)) l.loop-m.invariant.1
+on_line l at_p = subst (λ u. Paced u l.args.q l.loop-m.m l.loop-m.c) at_p l.loop-m.invariant.1
 
 -- the paces are that line's, and its longest difference is the last cell's number
 paces_are : (c : After-paces_of-k) →
@@ -42,19 +42,21 @@ last_is c = c.requires.1 ∙ ap longest c.requires.0.is
 pub next_coordinates-c-requires : goal.next_coordinates-c-requires
 next_coordinates-c-requires c =
     let k = c.requires.0 in
-    subst (CanMoves c.loop-m.c) (sym (paces_are ((goal.at.next_coordinates-c-requires c).After-paces_of-k)))
+    let at = goal.at.next_coordinates-c-requires c in
+    subst (CanMoves c.loop-m.c) (sym (paces_are at.After-paces_of-k))
     (paced_moves c.args.p c.args.q c.loop-m.m c.loop-m.c
-    (omega (arith, c.loop-m-test.true, last_is ((goal.at.next_coordinates-c-requires c).After-paces_of-k))) (on_line ((goal.at.next_coordinates-c-requires c).At-loop-m)) k.p_in k.q_in)
+    (omega (arith, c.loop-m-test.true, last_is at.After-paces_of-k)) (on_line at.At-loop-m (at_p at.After-first_coordinates-c)) k.p_in k.q_in)
 
 -- a turn leads to those of the next cell
 turned : (c : After-next_coordinates-c) →
     Paced c.args.p c.args.q (c.loop-m.m + 1) c.next_coordinates-c.result
 turned c =
+    let at = goal.at.loop-m-preserved c in
     let p = c.args.p in
     let q = c.args.q in
-    subst (Paced p q (c.loop-m.m + 1)) (sym (c.next_coordinates-c.ensures ∙ ap (λ k. nexts k c.loop-m.c) ((let it : c.paces_of-k.result ≡ paces c.args.p c.args.q (differences c.args.p c.args.q) = c.paces_of-k.ensures ∙ ap (paces c.args.p c.args.q) c.requires.0.is in it))))
+    subst (Paced p q (c.loop-m.m + 1)) (sym (c.next_coordinates-c.ensures ∙ ap (λ k. nexts k c.loop-m.c) (paces_are at.After-paces_of-k)))
     (paced_next p q c.loop-m.m c.loop-m.c
-    (omega (arith, c.loop-m-test.true, (let it : c.args.last ≡ longest (differences c.args.p c.args.q) = c.requires.1 ∙ ap longest c.requires.0.is in it))) ((let it : Paced c.args.p c.args.q c.loop-m.m c.loop-m.c = subst (λ u. Paced u c.args.q c.loop-m.m c.loop-m.c) ((let it : cell_at c.first_coordinates-c.result ≡ c.args.p = ap cell_at c.first_coordinates-c.ensures in it)) c.loop-m.invariant.1 in it)))
+    (omega (arith, c.loop-m-test.true, last_is at.After-paces_of-k)) (on_line at.At-loop-m (at_p at.After-first_coordinates-c)))
 
 pub loop-m-preserved : goal.loop-m-preserved
 loop-m-preserved c =

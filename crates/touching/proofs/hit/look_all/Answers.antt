@@ -73,20 +73,21 @@ past_ones : (c : Else-ones) →
 past_ones c =
     let a = c.args in
     looked_miss a.cells.now a.reads a.s (ones a.k a.s) (twos a.k a.s ++ all a.k a.s)
-    (ap (λ t. t.hit) (sym (c.look_three-ones.ensures ∙ ap (looked a.cells.now a.reads a.s) ((let it : (c.crossed-y.result ∷ c.crossed-z.result ∷ c.crossed-x.result ∷ []) ≡ ones c.args.k c.args.s = λ i. c.crossed-y.ensures i ∷ c.crossed-z.ensures i ∷ c.crossed-x.ensures i ∷ [] in it)))) ∙ c.if-ones.false)
+    (ap (λ t. t.hit) (sym (c.look_three-ones.ensures ∙ ap (looked a.cells.now a.reads a.s) (one_spots ((goal.at.crossed-yz-requires c).After-crossed-x)))) ∙ c.if-ones.false)
 
 -- what the next three say
 second : (c : After-look_three-twos) →
     let a = c.args in
+    (c.crossed-yz.result ∷ c.crossed-yx.result ∷ c.crossed-zx.result ∷ []) ≡ twos a.k a.s →
     c.look_three-twos.result ≡ looked a.cells.now (a.reads + 3) (crossed_spot a.k X a.s) (twos a.k a.s)
-second c =
+second c is =
     let a = c.args in
-    c.look_three-twos.ensures ∙ ap (looked a.cells.now (a.reads + 3) (crossed_spot a.k X a.s)) ((let it : let a = c.args in (c.crossed-yz.result ∷ c.crossed-yx.result ∷ c.crossed-zx.result ∷ []) ≡ twos a.k a.s = let go = crossed_spot c.args.k in λ i. (c.crossed-yz.ensures ∙ ap (go Z) c.crossed-y.ensures) i ∷ (c.crossed-yx.ensures ∙ ap (go X) c.crossed-y.ensures) i ∷ (c.crossed-zx.ensures ∙ ap (go X) c.crossed-z.ensures) i ∷ [] in it))
+    c.look_three-twos.ensures ∙ ap (looked a.cells.now (a.reads + 3) (crossed_spot a.k X a.s)) is
 
 pub returns-then-twos : goal.returns-then-twos
 returns-then-twos c =
     let a = c.args in
-    let is = second ((goal.at.returns-then-twos c).After-look_three-twos) in
+    let is = second ((goal.at.returns-then-twos c).After-look_three-twos) (two_spots ((goal.at.returns-then-twos c).After-crossed-zx)) in
     is
     ∙ sym (looked_hit a.cells.now (a.reads + 3) (crossed_spot a.k X a.s) (twos a.k a.s) (all a.k a.s)
     (ap (λ t. t.hit) (sym is) ∙ c.if-twos.true))
@@ -115,5 +116,5 @@ returns c =
     let six : a.reads + 6 ≡ a.reads + 3 + 3 = omega arith in
     c.look.ensures ∙ ap₂ (λ i k. looked a.cells.now i a.s k) six (last_spot_is ((goal.at.returns c).After-crossed))
     ∙ sym (looked_miss a.cells.now (a.reads + 3) (crossed_spot a.k X a.s) (twos a.k a.s) (all a.k a.s)
-    (ap (λ t. t.hit) (sym (second ((goal.at.returns c).After-look_three-twos))) ∙ c.if-twos.false))
+    (ap (λ t. t.hit) (sym (second ((goal.at.returns c).After-look_three-twos) (two_spots ((goal.at.returns c).After-crossed-zx)))) ∙ c.if-twos.false))
     ∙ sym (past_ones ((goal.at.returns c).Else-ones))

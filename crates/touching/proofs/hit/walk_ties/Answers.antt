@@ -28,8 +28,9 @@ loop-m-init c = λ plan. walking_start c.args.cells.now c.args.k plan c.args.sta
 -- a turn begins before the last crossing
 below : (c : In-loop-m) →
     let k = c.args.k in
+    c.total-faces.result ≡ total (differences k.p k.q) →
     c.loop-m.m < total (differences k.p k.q)
-below c = subst (λ n. c.loop-m.m < n) ((let it : let k = c.args.k in c.total-faces.result ≡ total (differences k.p k.q) = c.total-faces.ensures ∙ ap total c.requires.0.is in it)) c.loop-m-test.true
+below c all = subst (λ n. c.loop-m.m < n) all c.loop-m-test.true
 
 -- the walk is here
 here : (c : At-loop-m) →
@@ -43,7 +44,8 @@ one c = subst (NextTie _) c.in-One.is c.next_tie.ensures
 can : (c : In-One) →
     CanLookTie (length c.args.cells.now) c.args.k c.loop-m.s (c.loop-m.m + c.loop-m.more) (One c.in-One.n)
 can c =
-    (walking_can c.args.cells.now c.args.k c.requires.0 c.requires.1 _ _ _ ((let it : Walking c.args.cells.now c.args.k c.requires.0 c.loop-m.s c.loop-m.m (c.loop-m.m + c.loop-m.more) = c.loop-m.invariant c.requires.0 in it)) ((let it : let k = c.args.k in c.loop-m.m < total (differences k.p k.q) = subst (λ n. c.loop-m.m < n) ((let it : let k = c.args.k in c.total-faces.result ≡ total (differences k.p k.q) = c.total-faces.ensures ∙ ap total c.requires.0.is in it)) c.loop-m-test.true in it))).fits _ (one c)
+    let at = goal.at.crossed-s-requires c in
+    (walking_can c.args.cells.now c.args.k c.requires.0 c.requires.1 _ _ _ (here at.At-loop-m) (below at.In-loop-m (all at.After-total-faces))).fits _ (one c)
 
 pub crossed-s-requires : goal.crossed-s-requires
 crossed-s-requires c = (can ((goal.at.crossed-s-requires c).In-One)).steps
@@ -52,11 +54,11 @@ pub byte_at-requires : goal.byte_at-requires
 byte_at-requires c = subst (λ u. HasByte (length c.args.cells.now) u.at) (sym c.crossed-s.ensures) (can ((goal.at.byte_at-requires c).In-One)).look.there.0
 
 -- what the turn says
-turned : (c : After-is_solid) (hit : Bool) → c.is_solid.result ≡ hit →
+turned : (c : After-is_solid) → NextTie c.loop-m.s.e (One c.in-One.n) → (hit : Bool) → c.is_solid.result ≡ hit →
     Turned c.args.cells.now c.args.k c.loop-m.s (c.loop-m.m + c.loop-m.more)
     (record { turn = record { spot = c.crossed-s.result; reads = c.loop-m.m + c.loop-m.more + 1; hit = hit }; faces = 1 })
-turned c hit is =
-    one_turned c.args.cells.now c.args.k c.loop-m.s c.crossed-s.result (c.loop-m.m + c.loop-m.more) _ hit ((let it : NextTie c.loop-m.s.e (One c.in-One.n) = subst (NextTie _) c.in-One.is c.next_tie.ensures in it)) c.crossed-s.ensures
+turned c one hit is =
+    one_turned c.args.cells.now c.args.k c.loop-m.s c.crossed-s.result (c.loop-m.m + c.loop-m.more) _ hit one c.crossed-s.ensures
     (sym (c.is_solid.ensures ∙ ap solid c.byte_at.ensures) ∙ is)
 
 pub overflow_add-result : goal.overflow_add-result
@@ -66,7 +68,7 @@ pub returns-then-is_solid : goal.returns-then-is_solid
 returns-then-is_solid c =
     let one_more : c.loop-m.m + c.loop-m.more + 1 ≡ c.loop-m.m + 1 + c.loop-m.more = omega arith in
     subst (λ r. WalksTies c.args.cells.now c.args.k (record { spot = c.crossed-s.result; reads = r; hit = true })) one_more
-    (turn_stops c.args.cells.now c.args.k c.requires.0 c.requires.1 _ _ _ (here ((goal.at.returns-then-is_solid c).At-loop-m)) (below ((goal.at.returns-then-is_solid c).In-loop-m)) _ (turned ((goal.at.returns-then-is_solid c).After-is_solid) true c.if-is_solid.true) refl)
+    (turn_stops c.args.cells.now c.args.k c.requires.0 c.requires.1 _ _ _ (here ((goal.at.returns-then-is_solid c).At-loop-m)) (below ((goal.at.returns-then-is_solid c).In-loop-m) (all ((goal.at.returns-then-is_solid c).After-total-faces))) _ (turned ((goal.at.returns-then-is_solid c).After-is_solid) (one ((goal.at.returns-then-is_solid c).In-One)) true c.if-is_solid.true) refl)
 
 pub loop-m-smaller-else-is_solid : goal.loop-m-smaller-else-is_solid
 loop-m-smaller-else-is_solid c = omega (arith, c.loop-m-test.true)
@@ -75,14 +77,14 @@ pub loop-m-preserved-else-is_solid : goal.loop-m-preserved-else-is_solid
 loop-m-preserved-else-is_solid c =
     let one_more : c.loop-m.m + c.loop-m.more + 1 ≡ c.loop-m.m + 1 + c.loop-m.more = omega arith in
     λ plan. subst (Walking c.args.cells.now c.args.k plan c.crossed-s.result (c.loop-m.m + 1)) one_more
-    (turn_goes c.args.cells.now c.args.k plan c.requires.1 _ _ _ (c.loop-m.invariant plan) (below ((goal.at.loop-m-preserved-else-is_solid c).In-loop-m)) _ (turned ((goal.at.loop-m-preserved-else-is_solid c).After-is_solid) false c.if-is_solid.false) refl)
+    (turn_goes c.args.cells.now c.args.k plan c.requires.1 _ _ _ (c.loop-m.invariant plan) (below ((goal.at.loop-m-preserved-else-is_solid c).In-loop-m) (all ((goal.at.loop-m-preserved-else-is_solid c).After-total-faces))) _ (turned ((goal.at.loop-m-preserved-else-is_solid c).After-is_solid) (one ((goal.at.loop-m-preserved-else-is_solid c).In-One)) false c.if-is_solid.false) refl)
 
 -- ---- a tie of more
 pub overflow_add-m-in_default : goal.overflow_add-m-in_default
 overflow_add-m-in_default c = record { fits = omega (arith, reads_most c.args.cells.now c.args.k c.requires.0 c.requires.1 _ _ _ (here ((goal.at.overflow_add-m-in_default c).At-loop-m))) }
 
 pub tie_turn-t-requires : goal.tie_turn-t-requires
-tie_turn-t-requires c = walking_can c.args.cells.now c.args.k c.requires.0 c.requires.1 _ _ _ (here ((goal.at.tie_turn-t-requires c).At-loop-m)) (below ((goal.at.tie_turn-t-requires c).In-loop-m))
+tie_turn-t-requires c = walking_can c.args.cells.now c.args.k c.requires.0 c.requires.1 _ _ _ (here ((goal.at.tie_turn-t-requires c).At-loop-m)) (below ((goal.at.tie_turn-t-requires c).In-loop-m) (all ((goal.at.tie_turn-t-requires c).After-total-faces)))
 
 pub overflow_add-m-in_default-2 : goal.overflow_add-m-in_default-2
 overflow_add-m-in_default-2 c =
@@ -91,23 +93,23 @@ overflow_add-m-in_default-2 c =
     record { fits = omega (arith, most, short X, short Y, short Z, tie_few c.tie_turn-t.ensures.tie, c.tie_turn-t.ensures.faces) }
 
 pub returns-then-turn : goal.returns-then-turn
-returns-then-turn c = turn_stops c.args.cells.now c.args.k c.requires.0 c.requires.1 _ _ _ (here ((goal.at.returns-then-turn c).At-loop-m)) (below ((goal.at.returns-then-turn c).In-loop-m)) c.tie_turn-t.result c.tie_turn-t.ensures c.if-turn.true
+returns-then-turn c = turn_stops c.args.cells.now c.args.k c.requires.0 c.requires.1 _ _ _ (here ((goal.at.returns-then-turn c).At-loop-m)) (below ((goal.at.returns-then-turn c).In-loop-m) (all ((goal.at.returns-then-turn c).After-total-faces))) c.tie_turn-t.result c.tie_turn-t.ensures c.if-turn.true
 
 -- a turn that missed
-on : (c : Else-turn) →
+on : (c : Else-turn) → c.loop-m.m < total (differences c.args.k.p c.args.k.q) →
     (plan : Planned (length c.args.cells.now) c.args.k) →
     Walking c.args.cells.now c.args.k plan c.tie_turn-t.result.turn.spot (c.loop-m.m + c.tie_turn-t.result.faces)
     c.tie_turn-t.result.turn.reads
-on c plan =
-    turn_goes c.args.cells.now c.args.k plan c.requires.1 _ _ _ (c.loop-m.invariant plan) ((let it : let k = c.args.k in c.loop-m.m < total (differences k.p k.q) = subst (λ n. c.loop-m.m < n) ((let it : let k = c.args.k in c.total-faces.result ≡ total (differences k.p k.q) = c.total-faces.ensures ∙ ap total c.requires.0.is in it)) c.loop-m-test.true in it)) c.tie_turn-t.result c.tie_turn-t.ensures c.if-turn.false
+on c below plan =
+    turn_goes c.args.cells.now c.args.k plan c.requires.1 _ _ _ (c.loop-m.invariant plan) below c.tie_turn-t.result c.tie_turn-t.ensures c.if-turn.false
 
 -- its reads are more than its faces
-more_reads : (c : Else-turn) →
+more_reads : (c : Else-turn) → c.loop-m.m < total (differences c.args.k.p c.args.k.q) →
     c.loop-m.m + c.tie_turn-t.result.faces < c.tie_turn-t.result.turn.reads
-more_reads c = (on c c.requires.0).least
+more_reads c below = (on c below c.requires.0).least
 
 pub overflow_sub-more : goal.overflow_sub-more
-overflow_sub-more c = omega (arith, more_reads ((goal.at.overflow_sub-more c).Else-turn))
+overflow_sub-more c = omega (arith, more_reads ((goal.at.overflow_sub-more c).Else-turn) (below ((goal.at.overflow_sub-more c).In-loop-m) (all ((goal.at.overflow_sub-more c).After-total-faces))))
 
 pub loop-m-smaller : goal.loop-m-smaller
 loop-m-smaller c = omega (arith, c.loop-m-test.true, tie_few c.tie_turn-t.ensures.tie, c.tie_turn-t.ensures.faces)
@@ -115,8 +117,8 @@ loop-m-smaller c = omega (arith, c.loop-m-test.true, tie_few c.tie_turn-t.ensure
 pub loop-m-preserved : goal.loop-m-preserved
 loop-m-preserved c =
     let m = c.loop-m.m + c.tie_turn-t.result.faces in
-    let same : c.tie_turn-t.result.turn.reads ≡ m + (c.tie_turn-t.result.turn.reads - m) = omega (arith, more_reads ((goal.at.loop-m-preserved c).Else-turn)) in
-    λ plan. subst (Walking c.args.cells.now c.args.k plan c.tie_turn-t.result.turn.spot m) same (on ((goal.at.loop-m-preserved c).Else-turn) plan)
+    let same : c.tie_turn-t.result.turn.reads ≡ m + (c.tie_turn-t.result.turn.reads - m) = omega (arith, more_reads ((goal.at.loop-m-preserved c).Else-turn) (below ((goal.at.loop-m-preserved c).In-loop-m) (all ((goal.at.loop-m-preserved c).After-total-faces)))) in
+    λ plan. subst (Walking c.args.cells.now c.args.k plan c.tie_turn-t.result.turn.spot m) same (on ((goal.at.loop-m-preserved c).Else-turn) (below ((goal.at.loop-m-preserved c).In-loop-m) (all ((goal.at.loop-m-preserved c).After-total-faces))) plan)
 
 pub overflow_add-result-2 : goal.overflow_add-result-2
 overflow_add-result-2 c = record { fits = omega (arith, reads_most c.args.cells.now c.args.k c.requires.0 c.requires.1 _ _ _ (here ((goal.at.overflow_add-result-2 c).At-loop-m))) }

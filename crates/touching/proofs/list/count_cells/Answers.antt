@@ -30,19 +30,20 @@ past_tie-past-requires c =
 
 -- and leads to the next tie
 turned : (c : After-past_tie-past) →
+    Counting (steps c.args.d) c.loop-m.e c.loop-m.m c.loop-m.count → c.loop-m.m < total (steps c.args.d) →
     let r = c.past_tie-past.result in
     Counting (steps c.args.d) r.e (c.loop-m.m + r.faces) (c.loop-m.count + r.cells)
-turned c =
-    counting_next _ _ _ _ ((let it : Counting (steps c.args.d) c.loop-m.e c.loop-m.m c.loop-m.count = c.loop-m.invariant _ c.twice-twice.ensures c.first_values-e.ensures c.total-crossings.ensures in it)) ((let it : c.loop-m.m < total (steps c.args.d) = subst (λ n. c.loop-m.m < n) c.total-crossings.ensures c.loop-m-test.true in it)) _
+turned c here below =
+    counting_next _ _ _ _ here below _
     (subst (λ w. Counted w c.loop-m.e c.past_tie-past.result) c.twice-twice.ensures c.past_tie-past.ensures)
 
 pub overflow_add-count : goal.overflow_add-count
-overflow_add-count c = record { fits = omega (arith, cells_most _ _ _ _ (turned ((goal.at.overflow_add-count c).After-past_tie-past)) (short_at c.args.d c.requires)) }
+overflow_add-count c = record { fits = omega (arith, cells_most _ _ _ _ (turned ((goal.at.overflow_add-count c).After-past_tie-past) (here ((goal.at.overflow_add-count c).At-loop-m)) (below ((goal.at.overflow_add-count c).In-loop-m))) (short_at c.args.d c.requires)) }
 
 pub overflow_add-m : goal.overflow_add-m
 overflow_add-m c =
     let short = short_at c.args.d c.requires in
-    record { fits = omega (arith, faces_most _ _ _ _ (turned ((goal.at.overflow_add-m c).After-past_tie-past)), short X, short Y, short Z) }
+    record { fits = omega (arith, faces_most _ _ _ _ (turned ((goal.at.overflow_add-m c).After-past_tie-past) (here ((goal.at.overflow_add-m c).At-loop-m)) (below ((goal.at.overflow_add-m c).In-loop-m))), short X, short Y, short Z) }
 
 pub loop-m-smaller : goal.loop-m-smaller
 loop-m-smaller c = omega (arith, below ((goal.at.loop-m-smaller c).In-loop-m), tie_few c.past_tie-past.ensures.tie, c.past_tie-past.ensures.faces)

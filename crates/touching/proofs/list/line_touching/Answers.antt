@@ -31,13 +31,15 @@ room c =
     c.lacks_room.ensures
     ∙ ap (λ n. ltb (length a.out.now) (3 * n)) (ap (λ D. length (visits (course_of D))) c.measured-d.ensures.0 ∙ sym (touching_length a.p a.q))
 
-enough : (c : Else-lacks_room) → let a = c.args in 3 * length (touching_line a.p a.q) ≤ length a.out.now
-enough c = ltb-false _ _ (sym ((let it : let a = c.args in c.lacks_room.result ≡ ltb (length a.out.now) (3 * length (touching_line a.p a.q)) = let a = c.args in c.lacks_room.ensures ∙ ap (λ n. ltb (length a.out.now) (3 * n)) (ap (λ D. length (visits (course_of D))) c.measured-d.ensures.0 ∙ sym (touching_length a.p a.q)) in it)) ∙ c.if-lacks_room.false)
+enough : (c : Else-lacks_room) →
+    let a = c.args in
+    c.lacks_room.result ≡ ltb (length a.out.now) (3 * length (touching_line a.p a.q)) → 3 * length (touching_line a.p a.q) ≤ length a.out.now
+enough c room = ltb-false _ _ (sym room ∙ c.if-lacks_room.false)
 
 pub fill-requires : goal.fill-requires
 fill-requires c =
     let (hp, hq) = ends_fine _ _ (fine ((goal.at.fill-requires c).In-Fine)) in
-    (record { p_in = hp; q_in = hq; is = c.measured-d.ensures.0; short = c.measured-d.ensures.1 }, enough ((goal.at.fill-requires c).Else-lacks_room))
+    (record { p_in = hp; q_in = hq; is = c.measured-d.ensures.0; short = c.measured-d.ensures.1 }, enough ((goal.at.fill-requires c).Else-lacks_room) (room ((goal.at.fill-requires c).After-lacks_room)))
 
 pub returns-in-Refused : goal.returns-in-Refused
 returns-in-Refused c =
@@ -55,4 +57,4 @@ returns-else-lacks_room c =
     let q = c.args.q in
     let (stored, many) = c.fill.ensures in
     subst (λ n. LineTouching p q c.args.out.now (Cells n) c.fill.new.out) (sym many)
-    (listed_all (touching_line p q) (ends_check p q) c.args.out.now _ (fine ((goal.at.returns-else-lacks_room c).In-Fine)) (enough ((goal.at.returns-else-lacks_room c).Else-lacks_room)) stored)
+    (listed_all (touching_line p q) (ends_check p q) c.args.out.now _ (fine ((goal.at.returns-else-lacks_room c).In-Fine)) (enough ((goal.at.returns-else-lacks_room c).Else-lacks_room) (room ((goal.at.returns-else-lacks_room c).After-lacks_room))) stored)
