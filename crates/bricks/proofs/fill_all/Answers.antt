@@ -88,14 +88,15 @@ fill_masks-found-requires c =
 
 pub overflow_add-found : goal.overflow_add-found
 overflow_add-found c =
-    let wide = narrow ((goal.at.overflow_add-found c).In-loop-r) in
+    let earlier = goal.at.overflow_add-found c in
+    let wide = narrow earlier.In-loop-r in
     omega (
       arith,
       c.loop-r.invariant.3,
       c.fill_masks-found.ensures.value.1,
       wide,
       counted
-          ((goal.at.overflow_add-found c).In-loop-r),
+          earlier.In-loop-r,
     )
 
 pub overflow_add-r : goal.overflow_add-r
@@ -106,10 +107,11 @@ loop-r-smaller c = omega arith
 
 pub loop-r-preserved : goal.loop-r-preserved
 loop-r-preserved c =
+    let earlier = goal.at.loop-r-preserved c in
     let a = c.args in
-    let at = starts ((goal.at.loop-r-preserved c).In-loop-r) in
+    let at = starts earlier.In-loop-r in
     let f = c.fill_masks-found.ensures in
-    let wide = narrow ((goal.at.loop-r-preserved c).In-loop-r) in (
+    let wide = narrow earlier.In-loop-r in (
       omega arith,
       row_filled (mask_at a.n a.cells.now) _ c.loop-r.r _ _ _ _ at c.loop-r.invariant.1 f.filled,
       row_summed (λ k. ones (mask_at a.n a.cells.now k)) _ c.loop-r.r _ _ _ at c.loop-r.invariant.2 f.value.0,

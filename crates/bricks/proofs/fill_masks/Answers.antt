@@ -77,10 +77,11 @@ loop-d-smaller c = omega arith
 
 pub loop-d-preserved : goal.loop-d-preserved
 loop-d-preserved c =
+    let earlier = goal.at.loop-d-preserved c in
     let a = c.args in
-    let k = numbered ((goal.at.loop-d-preserved c).After-mask_of-mask) in
+    let k = numbered earlier.After-mask_of-mask in
     let from = c.index_in-from.result in
-    let is = row_mask a.n a.at a.long c.requires.row_of_bricks.0 from (first ((goal.at.loop-d-preserved c).After-index_in-from)) c.loop-d.d (omega arith) a.cells.now _
+    let is = row_mask a.n a.at a.long c.requires.row_of_bricks.0 from (first earlier.After-index_in-from) c.loop-d.d (omega arith) a.cells.now _
     c.mask_of-mask.ensures in
     let done = c.loop-d.invariant.1 in (
       omega arith,

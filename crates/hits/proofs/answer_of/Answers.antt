@@ -54,7 +54,9 @@ pub cell_at-cell-requires : goal.cell_at-cell-requires
 cell_at-cell-requires c = (c.requires.0.shaped.x, c.requires.0.shaped.y, below ((goal.at.cell_at-cell-requires c).Start))
 
 pub measured-made-requires : goal.measured-made-requires
-measured-made-requires c = (p_limit _ _ c.requires.0, rw (cell_is ((goal.at.measured-made-requires c).After-cell_at-cell)) (byte_limit c.args.k.n _ c.requires.0.shaped (nat_abs c.args.r.spot.at) (has_byte ((goal.at.measured-made-requires c).Start))))
+measured-made-requires c =
+    let earlier = goal.at.measured-made-requires c in
+    (p_limit _ _ c.requires.0, rw (cell_is earlier.After-cell_at-cell) (byte_limit c.args.k.n _ c.requires.0.shaped (nat_abs c.args.r.spot.at) (has_byte earlier.Start)))
 
 -- the steps from P to it
 made_is : (c : After-measured-made) → c.cell_at-cell.result ≡ cell_at c.args.k.n (nat_abs c.args.r.spot.at) →
@@ -77,24 +79,26 @@ passed_is c made =
 pub returns-then-is_passed : goal.returns-then-is_passed
 unfolding answer_from
 returns-then-is_passed c =
+    let earlier = goal.at.returns-then-is_passed c in
     rw (
-      solid_is ((goal.at.returns-then-is_passed c).After-is_solid) ∙ c.if-not-is_solid.false,
-      passed_is ((goal.at.returns-then-is_passed c).After-is_passed) (made_is ((goal.at.returns-then-is_passed c).After-measured-made) (cell_is ((goal.at.returns-then-is_passed c).After-cell_at-cell))),
+      solid_is earlier.After-is_solid ∙ c.if-not-is_solid.false,
+      passed_is earlier.After-is_passed (made_is earlier.After-measured-made (cell_is earlier.After-cell_at-cell)),
       c.if-is_passed.true,
     )
 
 pub returns : goal.returns
 unfolding answer_from
 returns c =
-    let made = made_is ((goal.at.returns c).After-measured-made) (cell_is ((goal.at.returns c).After-cell_at-cell)) in
+    let earlier = goal.at.returns c in
+    let made = made_is earlier.After-measured-made (cell_is earlier.After-cell_at-cell) in
     let place = c.place_after-place.ensures ∙ ap (entered c.args.k.p c.args.k.q c.args.k.order (steps c.args.k.d)) made in
     rw (
-      solid_is ((goal.at.returns c).After-is_solid) ∙ c.if-not-is_solid.false,
-      passed_is ((goal.at.returns c).After-is_passed) made,
+      solid_is earlier.After-is_solid ∙ c.if-not-is_solid.false,
+      passed_is earlier.After-is_passed made,
       c.if-is_passed.false,
     )
     (λ i. FirstHit.Hit (record {
-      cell = cell_is ((goal.at.returns c).After-cell_at-cell) i;
+      cell = cell_is earlier.After-cell_at-cell i;
       code = c.byte_at-code.ensures i;
       place = place i;
       reads = c.args.r.reads;

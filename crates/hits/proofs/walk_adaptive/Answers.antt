@@ -50,21 +50,23 @@ here c from came =
     turn_begins from g.cells.now g.k c.loop-t.t came c.loop-t.invariant.0 (omega (arith, c.loop-t-test.true))
 
 pub next_26-t-requires : goal.next_26-t-requires
-next_26-t-requires c = (
-  record {
-    plan = c.requires.0;
-    long = c.longest_axis-long.ensures;
-    from = c.args.how.start;
-    at = here ((goal.at.next_26-t-requires c).In-loop-t) c.args.how.start (came ((goal.at.next_26-t-requires c).At-loop-t));
-  },
-  c.run_route_of-h.ensures,
-)
+next_26-t-requires c =
+    let earlier = goal.at.next_26-t-requires c in (
+      record {
+        plan = c.requires.0;
+        long = c.longest_axis-long.ensures;
+        from = c.args.how.start;
+        at = here earlier.In-loop-t c.args.how.start (came earlier.At-loop-t);
+      },
+      c.run_route_of-h.ensures,
+    )
 
 pub returns-then-t-2 : goal.returns-then-t-2
 returns-then-t-2 c =
+    let earlier = goal.at.returns-then-t-2 c in
     let g = c.args in
     turn_stopped g.how.start g.cells.now g.k c.next_26-t.result
-    (c.next_26-t.ensures.outcome g.how.start (here ((goal.at.returns-then-t-2 c).In-loop-t) g.how.start (came ((goal.at.returns-then-t-2 c).At-loop-t))))
+    (c.next_26-t.ensures.outcome g.how.start (here earlier.In-loop-t g.how.start (came earlier.At-loop-t)))
     c.if-t-2.true
 
 pub loop-t-smaller : goal.loop-t-smaller

@@ -48,17 +48,22 @@ nonzero_div-r c = (fine c).y.some
 
 pub starts-layers-requires : goal.starts-layers-requires
 starts-layers-requires c =
+    let earlier = goal.at.starts-layers-requires c in
     let a = c.args in
-    (row_z a.n a.cells.now (fine ((goal.at.starts-layers-requires c).After-struct_known-2-1)) a.r c.requires.r_bound.0, omega (arith, (fine ((goal.at.starts-layers-requires c).After-struct_known-2-1)).size_most))
+    (row_z a.n a.cells.now (fine earlier.After-struct_known-2-1) a.r c.requires.r_bound.0, omega (arith, (fine earlier.After-struct_known-2-1).size_most))
 
 pub starts-below-requires : goal.starts-below-requires
 starts-below-requires c = a_layer c _ (omega (arith, layers c))
 
 pub starts-here-requires : goal.starts-here-requires
-starts-here-requires c = a_layer ((goal.at.starts-here-requires c).After-starts-layers) _ (omega (arith, layers ((goal.at.starts-here-requires c).After-starts-layers)))
+starts-here-requires c =
+    let earlier = goal.at.starts-here-requires c in
+    a_layer earlier.After-starts-layers _ (omega (arith, layers earlier.After-starts-layers))
 
 pub starts-above-requires : goal.starts-above-requires
-starts-above-requires c = a_layer ((goal.at.starts-above-requires c).After-starts-layers) _ (omega (arith, layers ((goal.at.starts-above-requires c).After-starts-layers)))
+starts-above-requires c =
+    let earlier = goal.at.starts-above-requires c in
+    a_layer earlier.After-starts-layers _ (omega (arith, layers earlier.After-starts-layers))
 
 pub set_rows-requires : goal.set_rows-requires
 set_rows-requires c =

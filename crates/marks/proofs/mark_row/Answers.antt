@@ -21,7 +21,9 @@ pub overflow_mul-nx : goal.overflow_mul-nx
 overflow_mul-nx c = let h = fits ((goal.at.overflow_mul-nx c).After-struct_known-1) in omega arith
 
 pub put-requires : goal.put-requires
-put-requires c = ((framed ((goal.at.put-requires c).After-look)).room, fits ((goal.at.put-requires c).After-struct_known-1))
+put-requires c =
+    let earlier = goal.at.put-requires c in
+    ((framed earlier.After-look).room, fits earlier.After-struct_known-1)
 
 pub returns : goal.returns
 returns c =

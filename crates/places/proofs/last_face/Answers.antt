@@ -36,7 +36,8 @@ along_z c =
 
 pub returns : goal.returns
 returns c =
+    let earlier = goal.at.returns c in
     let a = c.args in
-    let rising = c.so_of_last.ensures ∙ (λ i. of_last a.w (along_x ((goal.at.returns c).After-rises-along_x) i) (along_y ((goal.at.returns c).After-rises-along_y) i) (along_z ((goal.at.returns c).After-rises-along_z) i))
+    let rising = c.so_of_last.ensures ∙ (λ i. of_last a.w (along_x earlier.After-rises-along_x i) (along_y earlier.After-rises-along_y i) (along_z earlier.After-rises-along_z i))
     ∙ of_last_at (λ n. le_z (on a.p n) (on a.q n)) a.w in
     c.face_of.ensures ∙ ap₂ (λ b n. cond b (Face.Plus n) (Face.Minus n)) rising c.last_axis.ensures

@@ -41,11 +41,12 @@ index_in-from-requires c =
 
 pub fill_row-requires : goal.fill_row-requires
 fill_row-requires c =
+    let earlier = goal.at.fill_row-requires c in
     let a = c.args in
-    let fits = row_fits a.n a.lo a.hi c.requires.0 c.loop-r.r (within ((goal.at.fill_row-requires c).In-loop-r)) in
+    let fits = row_fits a.n a.lo a.hi c.requires.0 c.loop-r.r (within earlier.In-loop-r) in
     omega (
       arith,
-      starts ((goal.at.fill_row-requires c).After-index_in-from),
+      starts earlier.After-index_in-from,
       c.row_width-wide.ensures,
       c.loop-r.invariant.1.long,
       c.requires.1,
@@ -59,12 +60,13 @@ loop-r-smaller c = omega arith
 
 pub loop-r-preserved : goal.loop-r-preserved
 loop-r-preserved c =
+    let earlier = goal.at.loop-r-preserved c in
     let a = c.args in (
       omega arith,
-      box_more a.n a.lo a.hi c.requires.0 (λ _. a.byte) c.loop-r.r _ _ _ (within ((goal.at.loop-r-preserved c).In-loop-r))
+      box_more a.n a.lo a.hi c.requires.0 (λ _. a.byte) c.loop-r.r _ _ _ (within earlier.In-loop-r)
           c.loop-r.invariant.1
           (rw (
-            starts ((goal.at.loop-r-preserved c).After-index_in-from),
+            starts earlier.After-index_in-from,
             c.row_width-wide.ensures,
           ) at c.fill_row.ensures),
     )

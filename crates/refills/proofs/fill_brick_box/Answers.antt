@@ -69,14 +69,15 @@ loop-r-smaller c = omega arith
 
 pub loop-r-preserved : goal.loop-r-preserved
 loop-r-preserved c =
+    let earlier = goal.at.loop-r-preserved c in
     let a = c.args in
     let box = c.requires.boxed.0 in
-    let from = starts ((goal.at.loop-r-preserved c).After-row_slot-at) in
+    let from = starts earlier.After-row_slot-at in
     let w = c.row_width-wide.ensures in
     let f = c.fill_masks-found.ensures in (
       omega arith,
       box_more (bricks a.n) a.lo a.hi box (mask_at a.n a.cells.now) c.loop-r.r _ _ _ (within
-          ((goal.at.loop-r-preserved c).In-loop-r)) c.loop-r.invariant.1 (rw (from, w) at f.filled),
+          earlier.In-loop-r) c.loop-r.invariant.1 (rw (from, w) at f.filled),
       box_sum_grows (bricks a.n) a.lo a.hi (λ k. ones (mask_at a.n a.cells.now k)) c.loop-r.r _ _ _ _ c.loop-r.invariant.2 from w
           f.value.0,
       omega (arith, c.loop-r.invariant.3, f.value.1, w, box.x),

@@ -19,9 +19,10 @@ corner_of-lo-requires c =
 
 pub corner_of-hi-requires : goal.corner_of-hi-requires
 corner_of-hi-requires c =
+    let earlier = goal.at.corner_of-hi-requires c in
     let a = c.args in
-    natural a.n _ (counts_shaped a.n (length a.cells.now) (length a.masks.now) a.low a.high (fine ((goal.at.corner_of-hi-requires c).In-Fine))) a.high
-    (high_in a.n (length a.cells.now) (length a.masks.now) a.low a.high (fine ((goal.at.corner_of-hi-requires c).In-Fine)))
+    natural a.n _ (counts_shaped a.n (length a.cells.now) (length a.masks.now) a.low a.high (fine earlier.In-Fine)) a.high
+    (high_in a.n (length a.cells.now) (length a.masks.now) a.low a.high (fine earlier.In-Fine))
 
 pub refill_box-requires : goal.refill_box-requires
 refill_box-requires c =

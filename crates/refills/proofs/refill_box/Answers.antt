@@ -68,8 +68,9 @@ returns-in_default c =
 
 pub returns-then-bad_total : goal.returns-then-bad_total
 returns-then-bad_total c =
+    let earlier = goal.at.returns-then-bad_total c in
     let a = c.args in
-    refused_total a.n a.lo a.hi a.byte a.cells.now a.masks.now a.total _ (agree ((goal.at.returns-then-bad_total c).After-bad_total)).1 (sym (judged ((goal.at.returns-then-bad_total c).After-bad_total))
+    refused_total a.n a.lo a.hi a.byte a.cells.now a.masks.now a.total _ (agree earlier.After-bad_total).1 (sym (judged earlier.After-bad_total)
     ∙ c.if-bad_total.true)
 
 pub fill_box-requires : goal.fill_box-requires
@@ -110,13 +111,14 @@ overflow_add-result c =
 
 pub returns : goal.returns
 returns c =
+    let earlier = goal.at.returns c in
     let a = c.args in
     let box = c.requires.boxed.0 in
     let bytes = c.fill_box.ensures in
     let masks = rw (c.brick_of-first.ensures, c.brick_of-last.ensures) at
     c.fill_brick_box-new.ensures.box_filled in
     let anew = box_remasked a.n a.lo a.hi box a.cells.now a.masks.now _ _ masks in
-    accepted a.n a.lo a.hi a.byte a.cells.now a.masks.now a.total _ _ _ _ (agree ((goal.at.returns c).After-bad_total)).0 (agree ((goal.at.returns c).After-bad_total)).1
-    (sym (judged ((goal.at.returns c).After-bad_total)) ∙ c.if-bad_total.false) (box_refilled a.n a.lo
+    accepted a.n a.lo a.hi a.byte a.cells.now a.masks.now a.total _ _ _ _ (agree earlier.After-bad_total).0 (agree earlier.After-bad_total).1
+    (sym (judged earlier.After-bad_total) ∙ c.if-bad_total.false) (box_refilled a.n a.lo
     a.hi box a.cells.now a.masks.now a.byte _ bytes) anew
     (summed c ∙ ones_anew a.n a.lo a.hi box _ a.masks.now c.requires.boxed.1 ∙ ap (ones_in a.n a.lo a.hi) (sym anew))

@@ -50,10 +50,11 @@ same_masks-requires c =
 
 pub returns-in_default : goal.returns-in_default
 returns-in_default c =
+    let earlier = goal.at.returns-in_default c in
     let a = c.args in
-    box_wrong a.n a.cells.now a.masks.now a.lo a.hi c.loop-r.r _ _ 0 _ (starts ((goal.at.returns-in_default c).After-row_slot-at))
+    box_wrong a.n a.cells.now a.masks.now a.lo a.hi c.loop-r.r _ _ 0 _ (starts earlier.After-row_slot-at)
     c.row_width-wide.ensures
-    c.same_masks.ensures c.requires.boxed.0 _ (within ((goal.at.returns-in_default c).In-loop-r)) c.in_default.is
+    c.same_masks.ensures c.requires.boxed.0 _ (within earlier.In-loop-r) c.in_default.is
 
 -- the ones of the row
 row_sum_is :

@@ -72,9 +72,10 @@ bounds-masks-from c = omega (arith, (turn ((goal.at.bounds-masks-from c).After-m
 
 pub returns-then-masks-from : goal.returns-then-masks-from
 returns-then-masks-from c =
+    let earlier = goal.at.returns-then-masks-from c in
     let a = c.args in
-    rw (sym (first ((goal.at.returns-then-masks-from c).After-index_in-from))) (part_wrong a.n a.cells.now a.masks.now _ a.long
-    c.loop-d.d _ _ (omega arith) (turn ((goal.at.returns-then-masks-from c).After-mask_of-mask)).2 c.if-masks-from.true)
+    rw (sym (first earlier.After-index_in-from)) (part_wrong a.n a.cells.now a.masks.now _ a.long
+    c.loop-d.d _ _ (omega arith) (turn earlier.After-mask_of-mask).2 c.if-masks-from.true)
 
 pub overflow_add-found : goal.overflow_add-found
 overflow_add-found c =

@@ -57,9 +57,10 @@ bounds-masks-k c = (lent ((goal.at.bounds-masks-k c).After-mask_of-mask)).0
 
 pub returns-then-masks-k : goal.returns-then-masks-k
 returns-then-masks-k c =
+    let earlier = goal.at.returns-then-masks-k c in
     let a = c.args in
     refused_mask a.n a.at a.at a.byte a.cells.now a.masks.now a.total
-    (cell_differs a.n a.at c.requires.boxed.0 a.cells.now a.masks.now (shaped _ _ c.requires.cells_value) _ _ (numbered ((goal.at.returns-then-masks-k c).After-mask_of-mask)) (masked ((goal.at.returns-then-masks-k c).After-mask_of-mask))
+    (cell_differs a.n a.at c.requires.boxed.0 a.cells.now a.masks.now (shaped _ _ c.requires.cells_value) _ _ (numbered earlier.After-mask_of-mask) (masked earlier.After-mask_of-mask)
     c.if-masks-k.true)
 
 -- what the test of the total answered, by the number of cells
@@ -71,11 +72,12 @@ judged c =
 
 pub returns-then-bad_total : goal.returns-then-bad_total
 returns-then-bad_total c =
+    let earlier = goal.at.returns-then-bad_total c in
     let a = c.args in
     refused_total a.n a.at a.at a.byte a.cells.now a.masks.now a.total _
-    (cell_ones a.n a.at c.requires.boxed.0 a.cells.now a.masks.now (shaped _ _ c.requires.cells_value) _ _ (numbered ((goal.at.returns-then-bad_total c).After-mask_of-mask)) (masked ((goal.at.returns-then-bad_total c).After-mask_of-mask))
+    (cell_ones a.n a.at c.requires.boxed.0 a.cells.now a.masks.now (shaped _ _ c.requires.cells_value) _ _ (numbered earlier.After-mask_of-mask) (masked earlier.After-mask_of-mask)
     c.if-masks-k.false _
-    c.ones-old.ensures.0) (sym (judged ((goal.at.returns-then-bad_total c).After-bad_total)) ∙ c.if-bad_total.true)
+    c.ones-old.ensures.0) (sym (judged earlier.After-bad_total) ∙ c.if-bad_total.true)
 
 -- past both tests the total lies between those ones and the number of cells
 fits : (c : Else-bad_total) → let a = c.args in
@@ -114,10 +116,11 @@ overflow_add-result c =
 
 pub returns : goal.returns
 returns c =
+    let earlier = goal.at.returns c in
     let a = c.args in
-    cell_set a.n a.at c.requires.boxed.0 a.cells.now a.masks.now (shaped _ _ c.requires.cells_value) _ _ (numbered ((goal.at.returns c).After-mask_of-mask)) (masked ((goal.at.returns c).After-mask_of-mask))
+    cell_set a.n a.at c.requires.boxed.0 a.cells.now a.masks.now (shaped _ _ c.requires.cells_value) _ _ (numbered earlier.After-mask_of-mask) (masked earlier.After-mask_of-mask)
     c.if-masks-k.false
     a.byte a.total _ _ _ _ _ c.requires.boxed.1 c.index_in-i.ensures c.bit_in_brick.ensures.0
     c.with_bit-turned.ensures
-    c.ones-old.ensures.0 (sym (judged ((goal.at.returns c).After-bad_total))
+    c.ones-old.ensures.0 (sym (judged earlier.After-bad_total)
     ∙ c.if-bad_total.false) c.ones.ensures.0

@@ -22,10 +22,11 @@ moved_by-w-requires c = subst (CanMove c.args.k.w) (sym (from_there ((goal.at.mo
 
 pub returns : goal.returns
 returns c =
-    let w = c.moved_by-w.ensures ∙ ap (moved_by c.args.k.w) (from_there ((goal.at.returns c).After-moved_by-v)) in
+    let earlier = goal.at.returns c in
+    let w = c.moved_by-w.ensures ∙ ap (moved_by c.args.k.w) (from_there earlier.After-moved_by-v) in
     λ i. record {
       at = (held_is _ (search rules) ∙ ap (λ t. t.at) w) i;
-      v = (held_is _ (search rules) ∙ ap (λ t. t.due) (past_v ((goal.at.returns c).After-moved_by-v))) i;
+      v = (held_is _ (search rules) ∙ ap (λ t. t.due) (past_v earlier.After-moved_by-v)) i;
       w = (held_is _ (search rules) ∙ ap (λ t. t.due) w) i;
       wv = (held_is _ (search rules) ∙ ap (λ t. t.wv) w) i;
     }

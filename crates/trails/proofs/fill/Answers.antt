@@ -82,12 +82,13 @@ overflow_add-m c = record { fits = omega arith }
 
 pub loop-m-preserved : goal.loop-m-preserved
 loop-m-preserved c =
+    let earlier = goal.at.loop-m-preserved c in
     let k = c.args.k in
     let cells = c.args.cells.now in (
-      filled_one (λ j. six_cell (preference k) k.p k.q (stand cells k j)) _ _ (room ((goal.at.loop-m-preserved c).At-loop-m)) _ _ _ c.loop-m.m _ c.loop-m.invariant.0 c.loop-m-test.true
-          c.put.ensures (c.spot_cell.ensures.is (stand cells k c.loop-m.m) (within ((goal.at.loop-m-preserved c).At-loop-m)) c.loop-m.invariant.1.spot),
+      filled_one (λ j. six_cell (preference k) k.p k.q (stand cells k j)) _ _ (room earlier.At-loop-m) _ _ _ c.loop-m.m _ c.loop-m.invariant.0 c.loop-m-test.true
+          c.put.ensures (c.spot_cell.ensures.is (stand cells k c.loop-m.m) (within earlier.At-loop-m) c.loop-m.invariant.1.spot),
       subst (λ n. StandsAt k n c.next_stand-t.result) (stand_next cells k c.loop-m.m)
-          (c.next_stand-t.ensures.leads (stand cells k c.loop-m.m) (below ((goal.at.loop-m-preserved c).In-loop-m)) c.loop-m.invariant.1),
+          (c.next_stand-t.ensures.leads (stand cells k c.loop-m.m) (below earlier.In-loop-m) c.loop-m.invariant.1),
     )
 
 pub spot_cell-requires-2 : goal.spot_cell-requires-2
@@ -101,11 +102,12 @@ shape_of-out c = let h = c.loop-m.invariant.0 in search (rules, h)
 
 pub returns : goal.returns
 returns c =
+    let earlier = goal.at.returns c in
     let k = c.args.k in
     let cells = c.args.cells.now in
     let count : c.args.count - 1 + 1 ≡ c.args.count = omega (arith, c.requires.1.some) in
     let f : ℕ → Cell = λ j. six_cell (preference k) k.p k.q (stand cells k j) in
     let last : c.loop-m.m ≡ c.args.count - 1 = omega (arith, c.loop-m.invariant.0.most, c.loop-m-test.false) in
-    filled_last f _ _ (room ((goal.at.returns c).At-loop-m)) _ _ _ c.loop-m.m _ c.loop-m.invariant.0 c.loop-m-test.false
-    (ap f (sym last) ∙ sym (c.spot_cell-2.ensures.is (stand cells k c.loop-m.m) (within ((goal.at.returns c).At-loop-m)) c.loop-m.invariant.1.spot)) c.put-2.ensures
+    filled_last f _ _ (room earlier.At-loop-m) _ _ _ c.loop-m.m _ c.loop-m.invariant.0 c.loop-m-test.false
+    (ap f (sym last) ∙ sym (c.spot_cell-2.ensures.is (stand cells k c.loop-m.m) (within earlier.At-loop-m) c.loop-m.invariant.1.spot)) c.put-2.ensures
     ∙ ap (λ n. filled (stand_cells cells k n) c.args.out.now) count

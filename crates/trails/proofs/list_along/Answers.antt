@@ -30,10 +30,11 @@ fill-requires c =
 
 pub returns : goal.returns
 returns c =
+    let earlier = goal.at.returns c in
     let a = c.args in
     let line = walk_of Adaptive (conduct_of a.how.start a.k) a.k.n a.cells.now a.k.p a.k.q in
     let reads = c.walk_adaptive-stop.ensures.reads in
-    subst (λ n. Lists line Fine a.out.now (Cells n) c.fill.new.out) (long ((goal.at.returns c).After-walk_adaptive-stop))
-    (listed_all line Fine a.out.now _ refl (omega (arith, long ((goal.at.returns c).After-walk_adaptive-stop), c.if-out-count.false))
+    subst (λ n. Lists line Fine a.out.now (Cells n) c.fill.new.out) (long earlier.After-walk_adaptive-stop)
+    (listed_all line Fine a.out.now _ refl (omega (arith, long earlier.After-walk_adaptive-stop, c.if-out-count.false))
     (c.fill.ensures ∙ ap (λ n. filled (stand_cells a.cells.now a.k n) a.out.now) reads
     ∙ ap (λ x. filled x a.out.now) (sym (walked_is a.cells.now a.k a.how.start))))

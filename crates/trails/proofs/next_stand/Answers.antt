@@ -30,13 +30,14 @@ few c ahead =
 
 pub over_faces-spot-requires : goal.over_faces-spot-requires
 over_faces-spot-requires c =
+    let earlier = goal.at.over_faces-spot-requires c in
     let h = c.requires in
     record {
       bytes = _;
       plan = h.plan;
       number = h.number;
       at = h.at.spot;
-      fits = omega (arith, few ((goal.at.over_faces-spot-requires c).After-to_cross-faces) (ahead ((goal.at.over_faces-spot-requires c).After-faces_ahead-ahead)), ahead_within c.args.k h.number _ _ (ahead ((goal.at.over_faces-spot-requires c).After-faces_ahead-ahead)));
+      fits = omega (arith, few earlier.After-to_cross-faces (ahead earlier.After-faces_ahead-ahead), ahead_within c.args.k h.number _ _ (ahead earlier.After-faces_ahead-ahead));
     }
 
 pub returns : goal.returns

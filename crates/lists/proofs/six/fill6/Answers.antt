@@ -41,7 +41,9 @@ pub loop-m-init : goal.loop-m-init
 loop-m-init c = λ o p begun. (filled_none _ _ _, begun.spot)
 
 pub put-requires : goal.put-requires
-put-requires c = omega (arith, (c.loop-m.invariant _ _ (start ((goal.at.put-requires c).After-total-crossings))).0, room ((goal.at.put-requires c).After-total-crossings))
+put-requires c =
+    let earlier = goal.at.put-requires c in
+    omega (arith, (c.loop-m.invariant _ _ (start earlier.After-total-crossings)).0, room earlier.After-total-crossings)
 
 pub crossed-s-requires : goal.crossed-s-requires
 crossed-s-requires c =
@@ -52,34 +54,40 @@ crossed-s-requires c =
     (place_on (C o _ _) (centres_good (prefers o) _) c.loop-m.m (omega (arith, b.count))).1 (c.loop-m.invariant o _ b).1
 
 pub overflow_add-at : goal.overflow_add-at
-overflow_add-at c = record { fits = omega (arith, (c.loop-m.invariant _ _ (start ((goal.at.overflow_add-at c).After-total-crossings))).0, room ((goal.at.overflow_add-at c).After-total-crossings)) }
+overflow_add-at c =
+    let earlier = goal.at.overflow_add-at c in
+    record { fits = omega (arith, (c.loop-m.invariant _ _ (start earlier.After-total-crossings)).0, room earlier.After-total-crossings) }
 
 pub overflow_add-m : goal.overflow_add-m
 overflow_add-m c = record { fits = omega arith }
 
 pub loop-m-preserved : goal.loop-m-preserved
 loop-m-preserved c =
+    let earlier = goal.at.loop-m-preserved c in
     λ o p begun.
     let (stored, spot) = c.loop-m.invariant o p begun in (
-      filled_one (six_cell (prefers o) p _) _ _ (room ((goal.at.loop-m-preserved c).After-total-crossings)) _ _ _ c.loop-m.m _ stored (below ((goal.at.loop-m-preserved c).In-loop-m)) c.put.ensures
+      filled_one (six_cell (prefers o) p _) _ _ (room earlier.After-total-crossings) _ _ _ c.loop-m.m _ stored (below earlier.In-loop-m) c.put.ensures
           (spot.cell ∙ sym (six_is (prefers o) p _ c.loop-m.m)),
       subst (SixSpotAt o p _ (place (C o p _) (c.loop-m.m + 1))) (sym c.crossed-s.ensures)
-          (six_turn o p _ _ begun.way c.loop-m.m c.loop-m.s _ (subst (λ n. c.loop-m.m < n) begun.count (below ((goal.at.loop-m-preserved c).In-loop-m))) spot
+          (six_turn o p _ _ begun.way c.loop-m.m c.loop-m.s _ (subst (λ n. c.loop-m.m < n) begun.count (below earlier.In-loop-m)) spot
           c.next_face.ensures),
     )
 
 pub put-requires-2 : goal.put-requires-2
-put-requires-2 c = omega (arith, (c.loop-m.invariant _ _ (start ((goal.at.put-requires-2 c).After-total-crossings))).0, room ((goal.at.put-requires-2 c).After-total-crossings))
+put-requires-2 c =
+    let earlier = goal.at.put-requires-2 c in
+    omega (arith, (c.loop-m.invariant _ _ (start earlier.After-total-crossings)).0, room earlier.After-total-crossings)
 
 pub shape_of-out : goal.shape_of-out
 shape_of-out c = let h = (c.loop-m.invariant _ _ (start ((goal.at.shape_of-out c).After-total-crossings))).0 in search (rules, h)
 
 pub returns : goal.returns
 returns c =
+    let earlier = goal.at.returns c in
     let p = c.args.p in
     let q = c.args.q in
     let r = prefers (order_of c.args.rule p q) in
-    let e = (start ((goal.at.returns c).After-total-crossings)).count in
-    filled_last (six_cell r p q) _ _ (room ((goal.at.returns c).After-total-crossings)) _ _ q c.loop-m.m _ (c.loop-m.invariant _ _ (start ((goal.at.returns c).After-total-crossings))).0 (omega arith)
+    let e = (start earlier.After-total-crossings).count in
+    filled_last (six_cell r p q) _ _ (room earlier.After-total-crossings) _ _ q c.loop-m.m _ (c.loop-m.invariant _ _ (start earlier.After-total-crossings)).0 (omega arith)
     (ap (six_cell r p q) e ∙ six_end r p q) c.put-2.ensures
     ∙ ap (λ n. filled (tabulate (six_cell r p q) (n + 1)) c.args.out.now) e ∙ ap (λ x. filled x c.args.out.now) (sym (six_line_is r p q))

@@ -37,14 +37,16 @@ returns-in-Refused c =
 
 pub returns-then-out-cells : goal.returns-then-out-cells
 returns-then-out-cells c =
+    let earlier = goal.at.returns-then-out-cells c in
     refused_room (six_line (by_rule c.args.rule c.args.p c.args.q) c.args.p c.args.q) (ends_check c.args.p c.args.q)
-    c.args.out.now (fine ((goal.at.returns-then-out-cells c).In-Fine))
-    (omega (arith, six_length (by_rule c.args.rule c.args.p c.args.q) c.args.p c.args.q, count ((goal.at.returns-then-out-cells c).After-total-cells)))
+    c.args.out.now (fine earlier.In-Fine)
+    (omega (arith, six_length (by_rule c.args.rule c.args.p c.args.q) c.args.p c.args.q, count earlier.After-total-cells))
 
 pub returns-else-out-cells : goal.returns-else-out-cells
 returns-else-out-cells c =
+    let earlier = goal.at.returns-else-out-cells c in
     let p = c.args.p in
     let q = c.args.q in
     let r = by_rule c.args.rule p q in
-    subst (λ n. Line6 c.args.rule p q c.args.out.now (Cells n) c.fill6.new.out) (six_length r p q ∙ ap (λ k. k + 1) (count ((goal.at.returns-else-out-cells c).After-total-cells)))
-    (listed_all (six_line r p q) (ends_check p q) c.args.out.now _ (fine ((goal.at.returns-else-out-cells c).In-Fine)) (omega (arith, six_length r p q, count ((goal.at.returns-else-out-cells c).After-total-cells))) c.fill6.ensures)
+    subst (λ n. Line6 c.args.rule p q c.args.out.now (Cells n) c.fill6.new.out) (six_length r p q ∙ ap (λ k. k + 1) (count earlier.After-total-cells))
+    (listed_all (six_line r p q) (ends_check p q) c.args.out.now _ (fine earlier.In-Fine) (omega (arith, six_length r p q, count earlier.After-total-cells)) c.fill6.ensures)

@@ -69,10 +69,11 @@ loop-m-preserved c =
 
 pub returns : goal.returns
 returns c =
+    let earlier = goal.at.returns c in
     let p = c.args.p in
     let q = c.args.q in
-    let e = last_is ((goal.at.returns c).After-paces_of-k) in
+    let e = last_is earlier.After-paces_of-k in
     filled_last _ _ _ c.requires.2 _ _ q c.loop-m.m _ c.loop-m.invariant.0 (omega arith)
-    (ap (λ u. cell_26 u q c.args.last) (at_p ((goal.at.returns c).After-first_coordinates-c)) ∙ ap (cell_26 p q) e ∙ end_26 p q) c.put-2.ensures
-    ∙ ap (λ u. filled (tabulate (cell_26 u q) (c.args.last + 1)) c.args.out.now) (at_p ((goal.at.returns c).After-first_coordinates-c))
+    (ap (λ u. cell_26 u q c.args.last) (at_p earlier.After-first_coordinates-c) ∙ ap (cell_26 p q) e ∙ end_26 p q) c.put-2.ensures
+    ∙ ap (λ u. filled (tabulate (cell_26 u q) (c.args.last + 1)) c.args.out.now) (at_p earlier.After-first_coordinates-c)
     ∙ ap (λ n. filled (tabulate (cell_26 p q) (n + 1)) c.args.out.now) e ∙ ap (λ x. filled x c.args.out.now) (sym (line_26_is p q))

@@ -35,12 +35,14 @@ returns-in-Refused c =
 
 pub returns-then-out-count : goal.returns-then-out-count
 returns-then-out-count c =
-    refused_room (line_26 c.args.p c.args.q) (ends_check c.args.p c.args.q) c.args.out.now (fine ((goal.at.returns-then-out-count c).In-Fine))
-    (omega (arith, length_26 c.args.p c.args.q, count ((goal.at.returns-then-out-count c).After-longest-last)))
+    let earlier = goal.at.returns-then-out-count c in
+    refused_room (line_26 c.args.p c.args.q) (ends_check c.args.p c.args.q) c.args.out.now (fine earlier.In-Fine)
+    (omega (arith, length_26 c.args.p c.args.q, count earlier.After-longest-last))
 
 pub returns-else-out-count : goal.returns-else-out-count
 returns-else-out-count c =
+    let earlier = goal.at.returns-else-out-count c in
     let p = c.args.p in
     let q = c.args.q in
-    subst (λ n. Line26 p q c.args.out.now (Cells n) c.fill26.new.out) (length_26 p q ∙ ap (λ k. k + 1) (count ((goal.at.returns-else-out-count c).After-longest-last)))
-    (listed_all (line_26 p q) (ends_check p q) c.args.out.now _ (fine ((goal.at.returns-else-out-count c).In-Fine)) (omega (arith, length_26 p q, count ((goal.at.returns-else-out-count c).After-longest-last))) c.fill26.ensures)
+    subst (λ n. Line26 p q c.args.out.now (Cells n) c.fill26.new.out) (length_26 p q ∙ ap (λ k. k + 1) (count earlier.After-longest-last))
+    (listed_all (line_26 p q) (ends_check p q) c.args.out.now _ (fine earlier.In-Fine) (omega (arith, length_26 p q, count earlier.After-longest-last)) c.fill26.ensures)

@@ -30,20 +30,22 @@ overflow_add-venue_head-2 c =
 pub returns-then-room-venue_head : goal.returns-then-room-venue_head
 unfolding write_check
 returns-then-room-venue_head c =
+    let earlier = goal.at.returns-then-room-venue_head c in
     let e = c.venue_head.ensures in
     rw (
-      fine ((goal.at.returns-then-room-venue_head c).In-Fine),
+      fine earlier.In-Fine,
       lt-ltb c.args.room (record_length c.args.n)
-          (omega (arith, (shaped _ _ (fine ((goal.at.returns-then-room-venue_head c).In-Fine))).bytes_are)),
+          (omega (arith, (shaped _ _ (fine earlier.In-Fine)).bytes_are)),
     )
 
 pub returns : goal.returns
 unfolding write_check
 returns c =
+    let earlier = goal.at.returns c in
     let e = c.venue_head.ensures in
     rw (
-      fine ((goal.at.returns c).In-Fine),
+      fine earlier.In-Fine,
       le-ltb c.args.room (record_length c.args.n)
-          (omega (arith, (shaped _ _ (fine ((goal.at.returns c).In-Fine))).bytes_are)),
+          (omega (arith, (shaped _ _ (fine earlier.In-Fine)).bytes_are)),
       c.in-Fine.is,
     )

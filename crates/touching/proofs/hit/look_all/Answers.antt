@@ -86,12 +86,13 @@ second c is =
 
 pub returns-then-twos : goal.returns-then-twos
 returns-then-twos c =
+    let earlier = goal.at.returns-then-twos c in
     let a = c.args in
-    let is = second ((goal.at.returns-then-twos c).After-look_three-twos) (two_spots ((goal.at.returns-then-twos c).After-crossed-zx)) in
+    let is = second earlier.After-look_three-twos (two_spots earlier.After-crossed-zx) in
     is
     ∙ sym (looked_hit a.cells.now (a.reads + 3) (crossed_spot a.k X a.s) (twos a.k a.s) (all a.k a.s)
     (ap (λ t. t.hit) (sym is) ∙ c.if-twos.true))
-    ∙ sym (past_ones ((goal.at.returns-then-twos c).Else-ones))
+    ∙ sym (past_ones earlier.Else-ones)
 
 pub crossed-requires : goal.crossed-requires
 crossed-requires c = subst (λ u. CanCross u c.args.k) (sym (c.crossed-yz.ensures ∙ ap (crossed_spot c.args.k Z) c.crossed-y.ensures)) c.requires.steps.3
@@ -112,9 +113,10 @@ look-requires c =
 
 pub returns : goal.returns
 returns c =
+    let earlier = goal.at.returns c in
     let a = c.args in
     let six : a.reads + 6 ≡ a.reads + 3 + 3 = omega arith in
-    c.look.ensures ∙ ap₂ (λ i k. looked a.cells.now i a.s k) six (last_spot_is ((goal.at.returns c).After-crossed))
+    c.look.ensures ∙ ap₂ (λ i k. looked a.cells.now i a.s k) six (last_spot_is earlier.After-crossed)
     ∙ sym (looked_miss a.cells.now (a.reads + 3) (crossed_spot a.k X a.s) (twos a.k a.s) (all a.k a.s)
-    (ap (λ t. t.hit) (sym (second ((goal.at.returns c).After-look_three-twos) (two_spots ((goal.at.returns c).After-crossed-zx)))) ∙ c.if-twos.false))
-    ∙ sym (past_ones ((goal.at.returns c).Else-ones))
+    (ap (λ t. t.hit) (sym (second earlier.After-look_three-twos (two_spots earlier.After-crossed-zx))) ∙ c.if-twos.false))
+    ∙ sym (past_ones earlier.Else-ones)

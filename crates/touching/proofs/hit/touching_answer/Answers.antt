@@ -50,13 +50,14 @@ answer_of-requires c = (
 
 pub returns-then-t : goal.returns-then-t
 returns-then-t c =
+    let earlier = goal.at.returns-then-t c in
     let r = c.walk_touching-t.result in
     c.answer_of.ensures
     ∙ by_place c.args.how.start c.args.cells.now c.told_from-told.result (held r.spot.at) _ r.spot.e r.reads
     ∙ ap (λ at. answer_from c.args.how.start c.args.cells.now c.told_from-told.result
-    (record { spot = record { at = at; e = r.spot.e }; reads = r.reads })) (at_same ((goal.at.returns-then-t c).After-walk_touching-t))
+    (record { spot = record { at = at; e = r.spot.e }; reads = r.reads })) (at_same earlier.After-walk_touching-t)
     ∙ ap (λ k. answer_from c.args.how.start c.args.cells.now k (record { spot = r.spot; reads = r.reads })) c.told_from-told.ensures
-    ∙ says ((goal.at.returns-then-t c).After-walk_touching-t) true c.if-t.true
+    ∙ says earlier.After-walk_touching-t true c.if-t.true
 
 pub returns : goal.returns
 returns c = says ((goal.at.returns c).After-walk_touching-t) false c.if-t.false

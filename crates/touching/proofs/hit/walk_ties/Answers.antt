@@ -66,25 +66,29 @@ overflow_add-result c = record { fits = omega (arith, reads_most c.args.cells.no
 
 pub returns-then-is_solid : goal.returns-then-is_solid
 returns-then-is_solid c =
+    let earlier = goal.at.returns-then-is_solid c in
     let one_more : c.loop-m.m + c.loop-m.more + 1 ≡ c.loop-m.m + 1 + c.loop-m.more = omega arith in
     subst (λ r. WalksTies c.args.cells.now c.args.k (record { spot = c.crossed-s.result; reads = r; hit = true })) one_more
-    (turn_stops c.args.cells.now c.args.k c.requires.0 c.requires.1 _ _ _ (here ((goal.at.returns-then-is_solid c).At-loop-m)) (below ((goal.at.returns-then-is_solid c).In-loop-m) (all ((goal.at.returns-then-is_solid c).After-total-faces))) _ (turned ((goal.at.returns-then-is_solid c).After-is_solid) (one ((goal.at.returns-then-is_solid c).In-One)) true c.if-is_solid.true) refl)
+    (turn_stops c.args.cells.now c.args.k c.requires.0 c.requires.1 _ _ _ (here earlier.At-loop-m) (below earlier.In-loop-m (all earlier.After-total-faces)) _ (turned earlier.After-is_solid (one earlier.In-One) true c.if-is_solid.true) refl)
 
 pub loop-m-smaller-else-is_solid : goal.loop-m-smaller-else-is_solid
 loop-m-smaller-else-is_solid c = omega (arith, c.loop-m-test.true)
 
 pub loop-m-preserved-else-is_solid : goal.loop-m-preserved-else-is_solid
 loop-m-preserved-else-is_solid c =
+    let earlier = goal.at.loop-m-preserved-else-is_solid c in
     let one_more : c.loop-m.m + c.loop-m.more + 1 ≡ c.loop-m.m + 1 + c.loop-m.more = omega arith in
     λ plan. subst (Walking c.args.cells.now c.args.k plan c.crossed-s.result (c.loop-m.m + 1)) one_more
-    (turn_goes c.args.cells.now c.args.k plan c.requires.1 _ _ _ (c.loop-m.invariant plan) (below ((goal.at.loop-m-preserved-else-is_solid c).In-loop-m) (all ((goal.at.loop-m-preserved-else-is_solid c).After-total-faces))) _ (turned ((goal.at.loop-m-preserved-else-is_solid c).After-is_solid) (one ((goal.at.loop-m-preserved-else-is_solid c).In-One)) false c.if-is_solid.false) refl)
+    (turn_goes c.args.cells.now c.args.k plan c.requires.1 _ _ _ (c.loop-m.invariant plan) (below earlier.In-loop-m (all earlier.After-total-faces)) _ (turned earlier.After-is_solid (one earlier.In-One) false c.if-is_solid.false) refl)
 
 -- ---- a tie of more
 pub overflow_add-m-in_default : goal.overflow_add-m-in_default
 overflow_add-m-in_default c = record { fits = omega (arith, reads_most c.args.cells.now c.args.k c.requires.0 c.requires.1 _ _ _ (here ((goal.at.overflow_add-m-in_default c).At-loop-m))) }
 
 pub tie_turn-t-requires : goal.tie_turn-t-requires
-tie_turn-t-requires c = walking_can c.args.cells.now c.args.k c.requires.0 c.requires.1 _ _ _ (here ((goal.at.tie_turn-t-requires c).At-loop-m)) (below ((goal.at.tie_turn-t-requires c).In-loop-m) (all ((goal.at.tie_turn-t-requires c).After-total-faces)))
+tie_turn-t-requires c =
+    let earlier = goal.at.tie_turn-t-requires c in
+    walking_can c.args.cells.now c.args.k c.requires.0 c.requires.1 _ _ _ (here earlier.At-loop-m) (below earlier.In-loop-m (all earlier.After-total-faces))
 
 pub overflow_add-m-in_default-2 : goal.overflow_add-m-in_default-2
 overflow_add-m-in_default-2 c =
@@ -93,7 +97,9 @@ overflow_add-m-in_default-2 c =
     record { fits = omega (arith, most, short X, short Y, short Z, tie_few c.tie_turn-t.ensures.tie, c.tie_turn-t.ensures.faces) }
 
 pub returns-then-turn : goal.returns-then-turn
-returns-then-turn c = turn_stops c.args.cells.now c.args.k c.requires.0 c.requires.1 _ _ _ (here ((goal.at.returns-then-turn c).At-loop-m)) (below ((goal.at.returns-then-turn c).In-loop-m) (all ((goal.at.returns-then-turn c).After-total-faces))) c.tie_turn-t.result c.tie_turn-t.ensures c.if-turn.true
+returns-then-turn c =
+    let earlier = goal.at.returns-then-turn c in
+    turn_stops c.args.cells.now c.args.k c.requires.0 c.requires.1 _ _ _ (here earlier.At-loop-m) (below earlier.In-loop-m (all earlier.After-total-faces)) c.tie_turn-t.result c.tie_turn-t.ensures c.if-turn.true
 
 -- a turn that missed
 on : (c : Else-turn) → c.loop-m.m < total (differences c.args.k.p c.args.k.q) →
@@ -109,21 +115,25 @@ more_reads : (c : Else-turn) → c.loop-m.m < total (differences c.args.k.p c.ar
 more_reads c below = (on c below c.requires.0).least
 
 pub overflow_sub-more : goal.overflow_sub-more
-overflow_sub-more c = omega (arith, more_reads ((goal.at.overflow_sub-more c).Else-turn) (below ((goal.at.overflow_sub-more c).In-loop-m) (all ((goal.at.overflow_sub-more c).After-total-faces))))
+overflow_sub-more c =
+    let earlier = goal.at.overflow_sub-more c in
+    omega (arith, more_reads earlier.Else-turn (below earlier.In-loop-m (all earlier.After-total-faces)))
 
 pub loop-m-smaller : goal.loop-m-smaller
 loop-m-smaller c = omega (arith, c.loop-m-test.true, tie_few c.tie_turn-t.ensures.tie, c.tie_turn-t.ensures.faces)
 
 pub loop-m-preserved : goal.loop-m-preserved
 loop-m-preserved c =
+    let earlier = goal.at.loop-m-preserved c in
     let m = c.loop-m.m + c.tie_turn-t.result.faces in
-    let same : c.tie_turn-t.result.turn.reads ≡ m + (c.tie_turn-t.result.turn.reads - m) = omega (arith, more_reads ((goal.at.loop-m-preserved c).Else-turn) (below ((goal.at.loop-m-preserved c).In-loop-m) (all ((goal.at.loop-m-preserved c).After-total-faces)))) in
-    λ plan. subst (Walking c.args.cells.now c.args.k plan c.tie_turn-t.result.turn.spot m) same (on ((goal.at.loop-m-preserved c).Else-turn) (below ((goal.at.loop-m-preserved c).In-loop-m) (all ((goal.at.loop-m-preserved c).After-total-faces))) plan)
+    let same : c.tie_turn-t.result.turn.reads ≡ m + (c.tie_turn-t.result.turn.reads - m) = omega (arith, more_reads earlier.Else-turn (below earlier.In-loop-m (all earlier.After-total-faces))) in
+    λ plan. subst (Walking c.args.cells.now c.args.k plan c.tie_turn-t.result.turn.spot m) same (on earlier.Else-turn (below earlier.In-loop-m (all earlier.After-total-faces)) plan)
 
 pub overflow_add-result-2 : goal.overflow_add-result-2
 overflow_add-result-2 c = record { fits = omega (arith, reads_most c.args.cells.now c.args.k c.requires.0 c.requires.1 _ _ _ (here ((goal.at.overflow_add-result-2 c).At-loop-m))) }
 
 pub returns : goal.returns
 returns c =
-    walk_stops c.args.cells.now c.args.k c.requires.0 c.requires.1 _ _ _ (here ((goal.at.returns c).At-loop-m))
-    (subst (λ n. n ≤ c.loop-m.m) (all ((goal.at.returns c).After-total-faces)) c.loop-m-test.false)
+    let earlier = goal.at.returns c in
+    walk_stops c.args.cells.now c.args.k c.requires.0 c.requires.1 _ _ _ (here earlier.At-loop-m)
+    (subst (λ n. n ≤ c.loop-m.m) (all earlier.After-total-faces) c.loop-m-test.false)

@@ -38,12 +38,15 @@ turned c here below =
     (subst (λ w. Counted w c.loop-m.e c.past_tie-past.result) c.twice-twice.ensures c.past_tie-past.ensures)
 
 pub overflow_add-count : goal.overflow_add-count
-overflow_add-count c = record { fits = omega (arith, cells_most _ _ _ _ (turned ((goal.at.overflow_add-count c).After-past_tie-past) (here ((goal.at.overflow_add-count c).At-loop-m)) (below ((goal.at.overflow_add-count c).In-loop-m))) (short_at c.args.d c.requires)) }
+overflow_add-count c =
+    let earlier = goal.at.overflow_add-count c in
+    record { fits = omega (arith, cells_most _ _ _ _ (turned earlier.After-past_tie-past (here earlier.At-loop-m) (below earlier.In-loop-m)) (short_at c.args.d c.requires)) }
 
 pub overflow_add-m : goal.overflow_add-m
 overflow_add-m c =
+    let earlier = goal.at.overflow_add-m c in
     let short = short_at c.args.d c.requires in
-    record { fits = omega (arith, faces_most _ _ _ _ (turned ((goal.at.overflow_add-m c).After-past_tie-past) (here ((goal.at.overflow_add-m c).At-loop-m)) (below ((goal.at.overflow_add-m c).In-loop-m))), short X, short Y, short Z) }
+    record { fits = omega (arith, faces_most _ _ _ _ (turned earlier.After-past_tie-past (here earlier.At-loop-m) (below earlier.In-loop-m)), short X, short Y, short Z) }
 
 pub loop-m-smaller : goal.loop-m-smaller
 loop-m-smaller c = omega (arith, below ((goal.at.loop-m-smaller c).In-loop-m), tie_few c.past_tie-past.ensures.tie, c.past_tie-past.ensures.faces)

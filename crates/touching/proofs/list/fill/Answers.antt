@@ -81,15 +81,20 @@ one : (c : In-One) → NextTie c.loop-m.s.e (One c.in-One.n)
 one c = subst (NextTie _) c.in-One.is c.next_tie.ensures
 
 pub crossed-s-requires : goal.crossed-s-requires
-crossed-s-requires c = ((can ((goal.at.crossed-s-requires c).In-loop-m) (stored ((goal.at.crossed-s-requires c).At-loop-m) (spot ((goal.at.crossed-s-requires c).After-first_spot-s)))).fits _ (one ((goal.at.crossed-s-requires c).In-One))).1
+crossed-s-requires c =
+    let earlier = goal.at.crossed-s-requires c in
+    ((can earlier.In-loop-m (stored earlier.At-loop-m (spot earlier.After-first_spot-s))).fits _ (one earlier.In-One)).1
 
 pub put-requires-in-One : goal.put-requires-in-One
-put-requires-in-One c = omega (arith, ((can ((goal.at.put-requires-in-One c).In-loop-m) (stored ((goal.at.put-requires-in-One c).At-loop-m) (spot ((goal.at.put-requires-in-One c).After-first_spot-s)))).fits _ (one ((goal.at.put-requires-in-One c).In-One))).0, c.loop-m.invariant.0)
+put-requires-in-One c =
+    let earlier = goal.at.put-requires-in-One c in
+    omega (arith, ((can earlier.In-loop-m (stored earlier.At-loop-m (spot earlier.After-first_spot-s))).fits _ (one earlier.In-One)).0, c.loop-m.invariant.0)
 
 pub overflow_add-at : goal.overflow_add-at
 overflow_add-at c =
+    let earlier = goal.at.overflow_add-at c in
     let k = c.requires.0 in
-    record { fits = omega (arith, cells_most _ _ _ _ _ _ _ _ _ (stored ((goal.at.overflow_add-at c).At-loop-m) (spot ((goal.at.overflow_add-at c).After-first_spot-s))) k.p_in k.q_in, c.loop-m.invariant.0) }
+    record { fits = omega (arith, cells_most _ _ _ _ _ _ _ _ _ (stored earlier.At-loop-m (spot earlier.After-first_spot-s)) k.p_in k.q_in, c.loop-m.invariant.0) }
 
 pub loop-m-smaller-in-One : goal.loop-m-smaller-in-One
 loop-m-smaller-in-One c = omega (arith, c.loop-m-test.true)
@@ -107,7 +112,9 @@ loop-m-preserved-in-One c =
 
 -- ---- a tie of more
 pub put_tie-past-requires : goal.put_tie-past-requires
-put_tie-past-requires c = subst (λ j. CanPut (length c.loop-m.out) j c.six_way_of-w.result c.loop-m.s) (sym c.loop-m.invariant.0) (can ((goal.at.put_tie-past-requires c).In-loop-m) (stored ((goal.at.put_tie-past-requires c).At-loop-m) (spot ((goal.at.put_tie-past-requires c).After-first_spot-s))))
+put_tie-past-requires c =
+    let earlier = goal.at.put_tie-past-requires c in
+    subst (λ j. CanPut (length c.loop-m.out) j c.six_way_of-w.result c.loop-m.s) (sym c.loop-m.invariant.0) (can earlier.In-loop-m (stored earlier.At-loop-m (spot earlier.After-first_spot-s)))
 
 -- its cells are stored
 turned : (c : After-put_tie-past) →
@@ -133,49 +140,68 @@ most c here =
     (cells_most _ _ _ _ _ _ _ _ _ f k.p_in k.q_in, omega arith, omega arith, omega (arith, faces_most _ _ _ _ _ _ _ _ _ f, short X, short Y, short Z))
 
 pub overflow_cast-at : goal.overflow_cast-at
-overflow_cast-at c = record { fits = omega (arith, most ((goal.at.overflow_cast-at c).After-put_tie-past) (stored ((goal.at.overflow_cast-at c).At-loop-m) (spot ((goal.at.overflow_cast-at c).After-first_spot-s)))) }
+overflow_cast-at c =
+    let earlier = goal.at.overflow_cast-at c in
+    record { fits = omega (arith, most earlier.After-put_tie-past (stored earlier.At-loop-m (spot earlier.After-first_spot-s))) }
 
 pub overflow_mul-at : goal.overflow_mul-at
-overflow_mul-at c = record { fits = omega (arith, most ((goal.at.overflow_mul-at c).After-put_tie-past) (stored ((goal.at.overflow_mul-at c).At-loop-m) (spot ((goal.at.overflow_mul-at c).After-first_spot-s)))) }
+overflow_mul-at c =
+    let earlier = goal.at.overflow_mul-at c in
+    record { fits = omega (arith, most earlier.After-put_tie-past (stored earlier.At-loop-m (spot earlier.After-first_spot-s))) }
 
 pub overflow_add-at-in_default : goal.overflow_add-at-in_default
-overflow_add-at-in_default c = record { fits = omega (arith, most ((goal.at.overflow_add-at-in_default c).After-put_tie-past) (stored ((goal.at.overflow_add-at-in_default c).At-loop-m) (spot ((goal.at.overflow_add-at-in_default c).After-first_spot-s))), c.loop-m.invariant.0) }
+overflow_add-at-in_default c =
+    let earlier = goal.at.overflow_add-at-in_default c in
+    record { fits = omega (arith, most earlier.After-put_tie-past (stored earlier.At-loop-m (spot earlier.After-first_spot-s)), c.loop-m.invariant.0) }
 
 pub overflow_add-m-in_default : goal.overflow_add-m-in_default
-overflow_add-m-in_default c = record { fits = omega (arith, most ((goal.at.overflow_add-m-in_default c).After-put_tie-past) (stored ((goal.at.overflow_add-m-in_default c).At-loop-m) (spot ((goal.at.overflow_add-m-in_default c).After-first_spot-s)))) }
+overflow_add-m-in_default c =
+    let earlier = goal.at.overflow_add-m-in_default c in
+    record { fits = omega (arith, most earlier.After-put_tie-past (stored earlier.At-loop-m (spot earlier.After-first_spot-s))) }
 
 pub overflow_sub-more : goal.overflow_sub-more
-overflow_sub-more c = omega (arith, most ((goal.at.overflow_sub-more c).After-put_tie-past) (stored ((goal.at.overflow_sub-more c).At-loop-m) (spot ((goal.at.overflow_sub-more c).After-first_spot-s))))
+overflow_sub-more c =
+    let earlier = goal.at.overflow_sub-more c in
+    omega (arith, most earlier.After-put_tie-past (stored earlier.At-loop-m (spot earlier.After-first_spot-s)))
 
 pub overflow_add-more : goal.overflow_add-more
-overflow_add-more c = record { fits = omega (arith, most ((goal.at.overflow_add-more c).After-put_tie-past) (stored ((goal.at.overflow_add-more c).At-loop-m) (spot ((goal.at.overflow_add-more c).After-first_spot-s)))) }
+overflow_add-more c =
+    let earlier = goal.at.overflow_add-more c in
+    record { fits = omega (arith, most earlier.After-put_tie-past (stored earlier.At-loop-m (spot earlier.After-first_spot-s))) }
 
 pub loop-m-smaller : goal.loop-m-smaller
-loop-m-smaller c = omega (arith, c.loop-m-test.true, most ((goal.at.loop-m-smaller c).After-put_tie-past) (stored ((goal.at.loop-m-smaller c).At-loop-m) (spot ((goal.at.loop-m-smaller c).After-first_spot-s))))
+loop-m-smaller c =
+    let earlier = goal.at.loop-m-smaller c in
+    omega (arith, c.loop-m-test.true, most earlier.After-put_tie-past (stored earlier.At-loop-m (spot earlier.After-first_spot-s)))
 
 pub loop-m-preserved : goal.loop-m-preserved
 loop-m-preserved c =
+    let earlier = goal.at.loop-m-preserved c in
     let m = c.loop-m.m in
     let more = c.loop-m.more in
     let r' = c.put_tie-past.result in
-    let same : m + more + r'.cells ≡ m + r'.faces + (more + (r'.cells - r'.faces)) = omega (arith, most ((goal.at.loop-m-preserved c).After-put_tie-past) (stored ((goal.at.loop-m-preserved c).At-loop-m) (spot ((goal.at.loop-m-preserved c).After-first_spot-s)))) in (
-      omega (arith, most ((goal.at.loop-m-preserved c).After-put_tie-past) (stored ((goal.at.loop-m-preserved c).At-loop-m) (spot ((goal.at.loop-m-preserved c).After-first_spot-s))), c.loop-m.invariant.0),
+    let same : m + more + r'.cells ≡ m + r'.faces + (more + (r'.cells - r'.faces)) = omega (arith, most earlier.After-put_tie-past (stored earlier.At-loop-m (spot earlier.After-first_spot-s))) in (
+      omega (arith, most earlier.After-put_tie-past (stored earlier.At-loop-m (spot earlier.After-first_spot-s)), c.loop-m.invariant.0),
       λ p q way spot all.
           subst (Filling p q _ way _ _ r'.spot (m + r'.faces)) same
-          (filling_next p q _ way _ _ _ _ _ (c.loop-m.invariant.1 p q way spot all) (subst (λ n. m < n) all c.loop-m-test.true) _ _ (turned ((goal.at.loop-m-preserved c).After-put_tie-past))),
+          (filling_next p q _ way _ _ _ _ _ (c.loop-m.invariant.1 p q way spot all) (subst (λ n. m < n) all c.loop-m-test.true) _ _ (turned earlier.After-put_tie-past)),
     )
 
 pub overflow_add-result : goal.overflow_add-result
 overflow_add-result c =
+    let earlier = goal.at.overflow_add-result c in
     let k = c.requires.0 in
-    record { fits = omega (arith, cells_most _ _ _ _ _ _ _ _ _ (stored ((goal.at.overflow_add-result c).At-loop-m) (spot ((goal.at.overflow_add-result c).After-first_spot-s))) k.p_in k.q_in) }
+    record { fits = omega (arith, cells_most _ _ _ _ _ _ _ _ _ (stored earlier.At-loop-m (spot earlier.After-first_spot-s)) k.p_in k.q_in) }
 
 pub shape_of-out : goal.shape_of-out
-shape_of-out c = long ((goal.at.shape_of-out c).At-loop-m) (stored ((goal.at.shape_of-out c).At-loop-m) (spot ((goal.at.shape_of-out c).After-first_spot-s)))
+shape_of-out c =
+    let earlier = goal.at.shape_of-out c in
+    long earlier.At-loop-m (stored earlier.At-loop-m (spot earlier.After-first_spot-s))
 
 pub returns : goal.returns
 returns c =
-    let (is, many) = filling_end _ _ _ _ _ _ _ _ _ (stored ((goal.at.returns c).At-loop-m) (spot ((goal.at.returns c).After-first_spot-s))) (subst (λ n. n ≤ c.loop-m.m) (c.total-crossings.ensures ∙ ap total c.requires.0.is) c.loop-m-test.false) in (
+    let earlier = goal.at.returns c in
+    let (is, many) = filling_end _ _ _ _ _ _ _ _ _ (stored earlier.At-loop-m (spot earlier.After-first_spot-s)) (subst (λ n. n ≤ c.loop-m.m) (c.total-crossings.ensures ∙ ap total c.requires.0.is) c.loop-m-test.false) in (
       is ∙ ap (λ out. put_cells out 3 (map (visit_cell c.args.p c.args.q)
           (visits_from (crossings c.args.p c.args.q) (total (differences c.args.p c.args.q)) (at 0 0 0)))) c.put.ensures
           ∙ put_first c.args.p c.args.q c.args.out.now c.requires.1,

@@ -38,8 +38,9 @@ enough c room = ltb-false _ _ (sym room ∙ c.if-lacks_room.false)
 
 pub fill-requires : goal.fill-requires
 fill-requires c =
-    let (hp, hq) = ends_fine _ _ (fine ((goal.at.fill-requires c).In-Fine)) in
-    (record { p_in = hp; q_in = hq; is = c.measured-d.ensures.0; short = c.measured-d.ensures.1 }, enough ((goal.at.fill-requires c).Else-lacks_room) (room ((goal.at.fill-requires c).After-lacks_room)))
+    let earlier = goal.at.fill-requires c in
+    let (hp, hq) = ends_fine _ _ (fine earlier.In-Fine) in
+    (record { p_in = hp; q_in = hq; is = c.measured-d.ensures.0; short = c.measured-d.ensures.1 }, enough earlier.Else-lacks_room (room earlier.After-lacks_room))
 
 pub returns-in-Refused : goal.returns-in-Refused
 returns-in-Refused c =
@@ -48,13 +49,15 @@ returns-in-Refused c =
 
 pub returns-then-lacks_room : goal.returns-then-lacks_room
 returns-then-lacks_room c =
-    refused_room (touching_line c.args.p c.args.q) (ends_check c.args.p c.args.q) c.args.out.now (fine ((goal.at.returns-then-lacks_room c).In-Fine))
-    (ltb-true _ _ (sym (room ((goal.at.returns-then-lacks_room c).After-lacks_room)) ∙ c.if-lacks_room.true))
+    let earlier = goal.at.returns-then-lacks_room c in
+    refused_room (touching_line c.args.p c.args.q) (ends_check c.args.p c.args.q) c.args.out.now (fine earlier.In-Fine)
+    (ltb-true _ _ (sym (room earlier.After-lacks_room) ∙ c.if-lacks_room.true))
 
 pub returns-else-lacks_room : goal.returns-else-lacks_room
 returns-else-lacks_room c =
+    let earlier = goal.at.returns-else-lacks_room c in
     let p = c.args.p in
     let q = c.args.q in
     let (stored, many) = c.fill.ensures in
     subst (λ n. LineTouching p q c.args.out.now (Cells n) c.fill.new.out) (sym many)
-    (listed_all (touching_line p q) (ends_check p q) c.args.out.now _ (fine ((goal.at.returns-else-lacks_room c).In-Fine)) (enough ((goal.at.returns-else-lacks_room c).Else-lacks_room) (room ((goal.at.returns-else-lacks_room c).After-lacks_room))) stored)
+    (listed_all (touching_line p q) (ends_check p q) c.args.out.now _ (fine earlier.In-Fine) (enough earlier.Else-lacks_room (room earlier.After-lacks_room)) stored)
