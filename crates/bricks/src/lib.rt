@@ -71,8 +71,8 @@ fn few_bits(cells: &[u8], from: usize, long: usize) -> u64
 
 // The bits of four cells from x on, those beyond the grid 0.
 fn row_bits(n: Counts, cells: &[u8], x: usize, y: usize, z: usize) -> u64
-    requires cells_value { shape n (length cells.now) ≡ Verdict.Fine }
-    requires x_lt_nx { x < n.nx }
+    requires shaped { shape n (length cells.now) ≡ Verdict.Fine }
+    requires inside { x < n.nx }
     ensures { result ≡ number_of (λ d. solid_at n cells.now (x + d) y z) 4 }
 {
     let nx = n.nx as usize;
@@ -94,8 +94,8 @@ fn row_bits(n: Counts, cells: &[u8], x: usize, y: usize, z: usize) -> u64
 
 // The mask of a brick that may reach beyond the grid, row by row.
 fn part_mask(n: Counts, cells: &[u8], bx: usize, by: usize, bz: usize) -> u64
-    requires cells_value { shape n (length cells.now) ≡ Verdict.Fine }
-    requires bx_bound { (4 * bx < n.nx) × (4 * by < n.ny) × (4 * bz < n.nz) }
+    requires shaped { shape n (length cells.now) ≡ Verdict.Fine }
+    requires starts_inside { (4 * bx < n.nx) × (4 * by < n.ny) × (4 * bz < n.nz) }
     ensures { result ≡ mask_of n cells.now bx by bz }
 {
     let mut mask = 0u64;
@@ -123,7 +123,7 @@ fn whole_mask(cells: &[u8], from: usize, row: usize, layer: usize) -> u64
 
 // Yes only where the brick (bx, by, bz) lies in the grid whole; where the answer is no, its rows are tested.
 fn is_whole(n: Counts, bx: usize, by: usize, bz: usize) -> bool
-    requires bx_bound { (4 * bx < n.nx) × (4 * by < n.ny) × (4 * bz < n.nz) }
+    requires starts_inside { (4 * bx < n.nx) × (4 * by < n.ny) × (4 * bz < n.nz) }
     requires counted { Counted n }
     ensures { result ≡ true → (4 * bx + 4 ≤ n.nx) × (4 * by + 4 ≤ n.ny) × (4 * bz + 4 ≤ n.nz) }
 {
@@ -138,8 +138,8 @@ fn is_whole(n: Counts, bx: usize, by: usize, bz: usize) -> bool
 
 // The mask of the brick (bx, by, bz).
 pub fn mask_of(n: Counts, cells: &[u8], bx: usize, by: usize, bz: usize) -> u64
-    requires cells_value { shape n (length cells.now) ≡ Verdict.Fine }
-    requires bx_bound { (4 * bx < n.nx) × (4 * by < n.ny) × (4 * bz < n.nz) }
+    requires shaped { shape n (length cells.now) ≡ Verdict.Fine }
+    requires starts_inside { (4 * bx < n.nx) × (4 * by < n.ny) × (4 * bz < n.nz) }
     ensures { result ≡ mask_of n cells.now bx by bz }
 {
     if is_whole(n, bx, by, bz) {
@@ -177,8 +177,8 @@ fn brick_count(n: Counts) -> usize
 
 // The number of a cell among the bytes, or of a brick among the masks: x fastest, then y, then z.
 pub fn index_in(n: Counts, c: Slot) -> usize
-    requires nx_bound { (n.nx ≤ 1024) × (n.ny ≤ 1024) × (n.nz ≤ 1024) }
-    requires x_lt_nx { (c.x < n.nx) × (c.y < n.ny) × (c.z < n.nz) }
+    requires small { (n.nx ≤ 1024) × (n.ny ≤ 1024) × (n.nz ≤ 1024) }
+    requires inside { (c.x < n.nx) × (c.y < n.ny) × (c.z < n.nz) }
     ensures { result ≡ index n c.x c.y c.z }
 {
     c.x + n.nx as usize * (c.y + n.ny as usize * c.z)
@@ -186,7 +186,7 @@ pub fn index_in(n: Counts, c: Slot) -> usize
 
 // Puts the masks of `long` bricks in a row along x, the first of them `at`, into the lent memory; answers their ones.
 pub fn fill_masks(n: Counts, cells: &[u8], masks: &mut [u64], at: Slot, long: usize) -> u64
-    requires cells_value { shape n (length cells.now) ≡ Verdict.Fine }
+    requires shaped { shape n (length cells.now) ≡ Verdict.Fine }
     requires row_of_bricks { RowOfBricks n at long × (size (bricks n) ≤ length masks.old) }
     ensures value { (result ≡ sum (λ i. ones (mask_at n cells.now (brick_number n at + i))) long) × (result ≤ 64 * long) }
     ensures filled { Filled (mask_at n cells.now) (brick_number n at) (brick_number n at + long) masks.old masks.new }
@@ -205,8 +205,8 @@ pub fn fill_masks(n: Counts, cells: &[u8], masks: &mut [u64], at: Slot, long: us
 
 // Puts the masks of all bricks into the front of the lent memory, row by row; answers their ones.
 fn fill_all(n: Counts, cells: &[u8], masks: &mut [u64]) -> u64
-    requires cells_value { shape n (length cells.now) ≡ Verdict.Fine }
-    requires n_in_bounds { size (bricks n) ≤ length masks.old }
+    requires shaped { shape n (length cells.now) ≡ Verdict.Fine }
+    requires room { size (bricks n) ≤ length masks.old }
     ensures value { result ≡ sum (λ k. ones (mask_at n cells.now k)) (size (bricks n)) }
     ensures filled { Filled (mask_at n cells.now) 0 (size (bricks n)) masks.old masks.new }
 {

@@ -63,7 +63,7 @@ fn largest_in(cells: &[u8], rows: Three, x: usize) -> u8
 
 // Puts three rows into the window, in place of what was there.
 fn set_rows(window: &mut [u8], cells: &[u8], nx: usize, rows: Three)
-    requires nx_in_bounds { nx < length window.old }
+    requires room { nx < length window.old }
     requires within { Within rows nx (length cells.now) }
     ensures { Shows (in_rows cells.now rows) nx window.old window.new }
 {
@@ -77,7 +77,7 @@ fn set_rows(window: &mut [u8], cells: &[u8], nx: usize, rows: Three)
 
 // Takes three more rows into the window.
 fn raise_rows(window: &mut [u8], cells: &[u8], nx: usize, rows: Three)
-    requires nx_in_bounds { nx < length window.old }
+    requires room { nx < length window.old }
     requires within { Within rows nx (length cells.now) }
     ensures { Shows (λ x. solid (get_or window.old (x + 1) 0) || in_rows cells.now rows x) nx window.old window.new }
 {
@@ -91,8 +91,8 @@ fn raise_rows(window: &mut [u8], cells: &[u8], nx: usize, rows: Three)
 
 // Puts the up to nine rows beside row r into the window.
 fn look(n: Counts, cells: &[u8], r: usize, window: &mut [u8])
-    requires cells_value { shape n (length cells.now) ≡ Verdict.Fine }
-    requires r_bound { (r < n.ny * n.nz) × (n.nx < length window.old) }
+    requires shaped { shape n (length cells.now) ≡ Verdict.Fine }
+    requires row_inside { (r < n.ny * n.nz) × (n.nx < length window.old) }
     ensures { Shows (in_column n cells.now r) n.nx window.old window.new }
 {
     let nx = n.nx as usize;
@@ -140,8 +140,8 @@ fn put(window: &[u8], cells: &mut [u8], nx: usize, from: usize)
 
 // Marks row r.
 fn mark_row(n: Counts, cells: &mut [u8], r: usize, window: &mut [u8])
-    requires cells_value { shape n (length cells.old) ≡ Verdict.Fine }
-    requires r_bound { (r < n.ny * n.nz) × Framed n.nx window.old }
+    requires shaped { shape n (length cells.old) ≡ Verdict.Fine }
+    requires row_inside { (r < n.ny * n.nz) × Framed n.nx window.old }
     ensures filled { Filled (marked_byte 3 n cells.old) (n.nx * r) (n.nx * r + n.nx) cells.old cells.new }
     ensures framed { Framed n.nx window.new }
 {
@@ -186,8 +186,8 @@ fn gap_by(window: &[u8], cells: &[u8], nx: usize, from: usize) -> bool
 
 // Whether a clear cell of row r touches a solid one.
 fn gap_in_row(n: Counts, cells: &[u8], r: usize, window: &mut [u8]) -> bool
-    requires cells_value { shape n (length cells.now) ≡ Verdict.Fine }
-    requires r_bound { (r < n.ny * n.nz) × Framed n.nx window.old }
+    requires shaped { shape n (length cells.now) ≡ Verdict.Fine }
+    requires row_inside { (r < n.ny * n.nz) × Framed n.nx window.old }
     ensures value { result ≡ any (λ x. gap n cells.now (n.nx * r + x)) n.nx }
     ensures framed { Framed n.nx window.new }
 {

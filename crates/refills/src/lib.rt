@@ -142,7 +142,7 @@ fn fill_box(n: Counts, cells: &mut [u8], lo: Slot, hi: Slot, byte: u8)
 
 // Puts the masks of a box of bricks anew, row by row; answers their ones.
 fn fill_brick_box(n: Counts, cells: &[u8], masks: &mut [u64], lo: Slot, hi: Slot) -> u64
-    requires cells_value { shape n (length cells.now) ≡ Verdict.Fine }
+    requires shaped { shape n (length cells.now) ≡ Verdict.Fine }
     requires boxed { Boxed (bricks n) lo hi × (size (bricks n) ≤ length masks.old) }
     ensures value { result ≡ box_sum (bricks n) lo hi (λ k. ones (mask_at n cells.now k)) (rows lo hi) }
     ensures box_filled { BoxFilled (bricks n) lo hi (mask_at n cells.now) (rows lo hi) masks.old masks.new }
@@ -161,7 +161,7 @@ fn fill_brick_box(n: Counts, cells: &[u8], masks: &mut [u64], lo: Slot, hi: Slot
 
 // Whether the masks of `long` bricks in a row along x, the first of them `at`, are those of the bytes; their ones.
 fn same_masks(n: Counts, cells: &[u8], masks: &[u64], at: Slot, long: usize) -> Agreed
-    requires cells_value { shape n (length cells.now) ≡ Verdict.Fine }
+    requires shaped { shape n (length cells.now) ≡ Verdict.Fine }
     requires row_of_bricks { RowOfBricks n at long × (size (bricks n) ≤ length masks.now) }
     ensures { result ≡ row_agreed n (brick_number n at) long cells.now masks.now }
 {
@@ -181,7 +181,7 @@ fn same_masks(n: Counts, cells: &[u8], masks: &[u64], at: Slot, long: usize) -> 
 
 // Whether the masks of a box of bricks are those of the bytes; their ones.
 fn same_box(n: Counts, cells: &[u8], masks: &[u64], lo: Slot, hi: Slot) -> Agreed
-    requires cells_value { shape n (length cells.now) ≡ Verdict.Fine }
+    requires shaped { shape n (length cells.now) ≡ Verdict.Fine }
     requires boxed { Boxed (bricks n) lo hi × (size (bricks n) ≤ length masks.now) }
     ensures { result ≡ box_agreed n lo hi cells.now masks.now }
 {
@@ -223,7 +223,7 @@ fn refill_box(
     hi: Slot,
     byte: u8,
 ) -> Tally
-    requires cells_value { shape n (length cells.old) ≡ Verdict.Fine }
+    requires shaped { shape n (length cells.old) ≡ Verdict.Fine }
     requires boxed { Boxed n lo hi × (size (bricks n) ≤ length masks.old) }
     ensures { Looked n lo hi byte cells.old masks.old total result cells.new masks.new }
 {
@@ -259,7 +259,7 @@ fn with_bit(mask: u64, b: u64, on: bool) -> u64
 
 // Puts a byte at one cell and its bit into the mask of its brick; the total moves as the mask's ones. Refusal 13.
 fn set_cell(n: Counts, cells: &mut [u8], masks: &mut [u64], total: u64, at: Slot, byte: u8) -> Tally
-    requires cells_value { shape n (length cells.old) ≡ Verdict.Fine }
+    requires shaped { shape n (length cells.old) ≡ Verdict.Fine }
     requires boxed { Boxed n at at × (size (bricks n) ≤ length masks.old) }
     ensures { Looked n at at byte cells.old masks.old total result cells.new masks.new }
 {

@@ -34,7 +34,7 @@ fn read_full(rt: &HostRuntime, buf: &mut [u8]) -> (usize, io::Result<()>)
 fn read_frame(rt: &HostRuntime, buf: &mut [u8], most: usize) -> (usize, io::Result<()>)
     requires { length_field + most ≤ length buf.old }
     ensures count { Count result.0 buf.new }
-    ensures buf_after { frame most (take result.0 buf.new) ≡ take result.0 buf.new }
+    ensures one_frame { frame most (take result.0 buf.new) ≡ take result.0 buf.new }
 {
     let (got, came) = read_full(rt, &mut buf[..4]);
     if got < 4 {

@@ -17,7 +17,7 @@ fine : (c : In-Fine) → let a = c.args in bricks_check a.n (length a.cells.now)
 fine c = sym c.check_bricks.ensures ∙ c.in-Fine.is
 
 pub fill_all-requires : goal.fill_all-requires
-fill_all-requires c = let e = fine ((goal.at.fill_all-requires c).In-Fine) in record { cells_value = shape_fine _ _ _ e; n_in_bounds = masks_lent _ _ _ e }
+fill_all-requires c = let e = fine ((goal.at.fill_all-requires c).In-Fine) in record { shaped = shape_fine _ _ _ e; room = masks_lent _ _ _ e }
 
 pub returns-in-Refused : goal.returns-in-Refused
 returns-in-Refused c =

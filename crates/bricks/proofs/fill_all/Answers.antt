@@ -20,10 +20,10 @@ use Rattle.bricks.proofs.fill_all.Goals.{In-loop-r, Start}
 
 -- the bricks make a grid
 few : (c : Start) → Shaped (bricks c.args.n) (size (bricks c.args.n))
-few c = bricks_shaped c.args.n _ (shaped _ _ c.requires.cells_value)
+few c = bricks_shaped c.args.n _ (shaped _ _ c.requires.shaped)
 
 pub bricks_of-b-requires : goal.bricks_of-b-requires
-bricks_of-b-requires c = let s = shaped _ _ c.requires.cells_value in record { x = s.x; y = s.y; z = s.z }
+bricks_of-b-requires c = let s = shaped _ _ c.requires.shaped in record { x = s.x; y = s.y; z = s.z }
 
 pub overflow_cast-wide : goal.overflow_cast-wide
 overflow_cast-wide c = omega arith
@@ -63,27 +63,27 @@ within c =
 
 -- few are
 counted : (c : In-loop-r) → c.loop-r.r < 1048576
-counted c = let s = bricks_shaped c.args.n _ (shaped _ _ c.requires.cells_value) in let lt = within c in omega (arith, s.rows_most)
+counted c = let s = bricks_shaped c.args.n _ (shaped _ _ c.requires.shaped) in let lt = within c in omega (arith, s.rows_most)
 
 narrow : (c : In-loop-r) → c.bricks_of-b.result.nx ≤ 1024
-narrow c = rw c.bricks_of-b.ensures (bricks_shaped c.args.n _ (shaped _ _ c.requires.cells_value)).x.most
+narrow c = rw c.bricks_of-b.ensures (bricks_shaped c.args.n _ (shaped _ _ c.requires.shaped)).x.most
 
 -- the number of its first brick
 starts : (c : In-loop-r) → let k = c.bricks_of-b.result in
     brick_number c.args.n
     (record { x = 0; y = c.loop-r.r % k.ny; z = c.loop-r.r / k.ny }) ≡ k.nx * c.loop-r.r
 starts c =
-    rw c.bricks_of-b.ensures (row_first c.args.n _ (shaped _ _ c.requires.cells_value) c.loop-r.r
+    rw c.bricks_of-b.ensures (row_first c.args.n _ (shaped _ _ c.requires.shaped) c.loop-r.r
     (within c))
 
 pub fill_masks-found-requires : goal.fill_masks-found-requires
 fill_masks-found-requires c =
     let a = c.args in
     let e = c.bricks_of-b.ensures in
-    let there = row_there a.n _ (shaped _ _ c.requires.cells_value) c.loop-r.r (within ((goal.at.fill_masks-found-requires c).In-loop-r)) in
+    let there = row_there a.n _ (shaped _ _ c.requires.shaped) c.loop-r.r (within ((goal.at.fill_masks-found-requires c).In-loop-r)) in
     record {
-      cells_value = c.requires.cells_value;
-      row_of_bricks = (rw e there, omega (arith, c.loop-r.invariant.1.long, c.requires.n_in_bounds));
+      shaped = c.requires.shaped;
+      row_of_bricks = (rw e there, omega (arith, c.loop-r.invariant.1.long, c.requires.room));
     }
 
 pub overflow_add-found : goal.overflow_add-found

@@ -27,14 +27,14 @@ numbered :
 numbered c =
     let a = c.args in
     let k = row_number_below a.n a.at a.long c.requires.row_of_bricks.0 _ (c.index_in-from.ensures ∙ rw c.bricks_of.ensures) c.loop-d.d (omega arith) in
-    (k, omega (arith, (bricks_shaped a.n _ (shaped _ _ c.requires.cells_value)).size_most))
+    (k, omega (arith, (bricks_shaped a.n _ (shaped _ _ c.requires.shaped)).size_most))
 
 pub bricks_of-requires : goal.bricks_of-requires
-bricks_of-requires c = let s = shaped _ _ c.requires.cells_value in record { x = s.x; y = s.y; z = s.z }
+bricks_of-requires c = let s = shaped _ _ c.requires.shaped in record { x = s.x; y = s.y; z = s.z }
 
 pub index_in-from-requires : goal.index_in-from-requires
 index_in-from-requires c =
-    let s = bricks_shaped c.args.n _ (shaped _ _ c.requires.cells_value) in
+    let s = bricks_shaped c.args.n _ (shaped _ _ c.requires.shaped) in
     let row = c.requires.row_of_bricks.0 in
     rw c.bricks_of.ensures (omega (arith, s.x.most, s.y.most, s.z.most, row.x, row.some, row.y, row.z))
 
@@ -43,14 +43,14 @@ loop-d-init c = (omega arith, filled_none _ _ _ _ (omega arith), sym (sum_none _
 
 pub overflow_add-at : goal.overflow_add-at
 overflow_add-at c =
-    let s = bricks_shaped c.args.n _ (shaped _ _ c.requires.cells_value) in
+    let s = bricks_shaped c.args.n _ (shaped _ _ c.requires.shaped) in
     omega (arith, s.x.most, c.requires.row_of_bricks.0.x)
 
 pub mask_of-mask-requires : goal.mask_of-mask-requires
 mask_of-mask-requires c =
     let a = c.args in record {
-      cells_value = c.requires.cells_value;
-      bx_bound = row_starts a.n a.at a.long c.requires.row_of_bricks.0 _ (first ((goal.at.mask_of-mask-requires c).After-index_in-from)) c.loop-d.d
+      shaped = c.requires.shaped;
+      starts_inside = row_starts a.n a.at a.long c.requires.row_of_bricks.0 _ (first ((goal.at.mask_of-mask-requires c).After-index_in-from)) c.loop-d.d
           (omega arith);
     }
 
@@ -66,7 +66,7 @@ bounds-masks-from c =
 
 pub overflow_add-found : goal.overflow_add-found
 overflow_add-found c =
-    let s = bricks_shaped c.args.n _ (shaped _ _ c.requires.cells_value) in
+    let s = bricks_shaped c.args.n _ (shaped _ _ c.requires.shaped) in
     omega (arith, c.loop-d.invariant.3, c.ones-found.ensures.1, s.x.most, c.requires.row_of_bricks.0.x)
 
 pub overflow_add-d : goal.overflow_add-d

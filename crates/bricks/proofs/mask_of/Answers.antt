@@ -18,24 +18,24 @@ whole c = c.is_whole.ensures c.if-is_whole.true
 
 pub is_whole-requires : goal.is_whole-requires
 is_whole-requires c =
-    let s = shaped _ _ c.requires.cells_value in
-    record { bx_bound = c.requires.bx_bound; counted = record { x = s.x; y = s.y; z = s.z } }
+    let s = shaped _ _ c.requires.shaped in
+    record { starts_inside = c.requires.starts_inside; counted = record { x = s.x; y = s.y; z = s.z } }
 
 pub index_in-requires : goal.index_in-requires
 index_in-requires c =
-    let s = shaped _ _ c.requires.cells_value in record {
-      nx_bound = omega (arith, s.x.most, s.y.most, s.z.most);
-      x_lt_nx = c.requires.bx_bound;
+    let s = shaped _ _ c.requires.shaped in record {
+      small = omega (arith, s.x.most, s.y.most, s.z.most);
+      inside = c.requires.starts_inside;
     }
 
 pub overflow_mul-row : goal.overflow_mul-row
-overflow_mul-row c = let s = shaped _ _ c.requires.cells_value in omega (arith, s.layer_most)
+overflow_mul-row c = let s = shaped _ _ c.requires.shaped in omega (arith, s.layer_most)
 
 pub whole_mask-requires : goal.whole_mask-requires
 whole_mask-requires c =
     let a = c.args in
     let h = whole c in
-    let fits = whole_fits a.n _ a.bx a.by a.bz (shaped _ _ c.requires.cells_value) h.0 h.1 h.2 in
+    let fits = whole_fits a.n _ a.bx a.by a.bz (shaped _ _ c.requires.shaped) h.0 h.1 h.2 in
     omega (arith, c.index_in.ensures, fits)
 
 pub returns-then-is_whole : goal.returns-then-is_whole

@@ -28,7 +28,7 @@ pub overflow_add-bz : goal.overflow_add-bz
 overflow_add-bz c = omega arith
 
 pub row_bits-requires : goal.row_bits-requires
-row_bits-requires c = record { cells_value = c.requires.cells_value; x_lt_nx = c.requires.bx_bound.0 }
+row_bits-requires c = record { shaped = c.requires.shaped; inside = c.requires.starts_inside.0 }
 
 pub overflow_mul-mask : goal.overflow_mul-mask
 overflow_mul-mask c = omega arith

@@ -22,7 +22,7 @@ returns-then-n-z c =
 within : (c : Else-n-z) → let a = c.args in RowBounds a.n (length a.cells.now) a.y a.z
 within c =
     let a = c.args in
-    row_bounds a.n (length a.cells.now) a.y a.z (shaped _ _ c.requires.cells_value) c.if-ny-y.false c.if-n-z.false
+    row_bounds a.n (length a.cells.now) a.y a.z (shaped _ _ c.requires.shaped) c.if-ny-y.false c.if-n-z.false
 
 pub overflow_mul-from : goal.overflow_mul-from
 overflow_mul-from c = let b = within c in omega arith

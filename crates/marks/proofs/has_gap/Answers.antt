@@ -18,7 +18,7 @@ loop-r-init c = (omega arith, λ k h. absurd (omega arith), c.requires.1, refl)
 
 pub gap_in_row-requires : goal.gap_in_row-requires
 gap_in_row-requires c =
-    record { cells_value = c.requires.0; r_bound = (c.loop-r-test.true, c.loop-r.invariant.2) }
+    record { shaped = c.requires.0; row_inside = (c.loop-r-test.true, c.loop-r.invariant.2) }
 
 pub shape_of-window-then-gap_in_row : goal.shape_of-window-then-gap_in_row
 shape_of-window-then-gap_in_row c = c.gap_in_row.auto.window ∙ c.loop-r.invariant.3

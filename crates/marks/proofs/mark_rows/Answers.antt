@@ -21,7 +21,7 @@ loop-r-init c = (omega arith, filled_none _ _ _ _ (omega arith), c.requires.1, r
 
 pub mark_row-requires : goal.mark_row-requires
 mark_row-requires c =
-    record { cells_value = rw c.loop-r.invariant.1.long c.requires.0; r_bound = (c.loop-r-test.true, c.loop-r.invariant.2) }
+    record { shaped = rw c.loop-r.invariant.1.long c.requires.0; row_inside = (c.loop-r-test.true, c.loop-r.invariant.2) }
 
 pub overflow_add-r : goal.overflow_add-r
 overflow_add-r c =

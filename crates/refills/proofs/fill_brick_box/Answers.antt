@@ -42,7 +42,7 @@ pub fill_masks-found-requires : goal.fill_masks-found-requires
 fill_masks-found-requires c =
     let a = c.args in
     let there = row_of_box a.n a.lo a.hi c.requires.boxed.0 c.loop-r.r (within ((goal.at.fill_masks-found-requires c).In-loop-r)) in record {
-      cells_value = c.requires.cells_value;
+      shaped = c.requires.shaped;
       row_of_bricks = (
         rw (c.row_slot-at.ensures, c.row_width-wide.ensures) there,
         omega (arith, c.loop-r.invariant.1.long, c.requires.boxed.1),

@@ -29,7 +29,7 @@ refill_box-requires c =
     let a = c.args in
     let e = fine ((goal.at.refill_box-requires c).In-Fine) in
     let f = bricks_fine a.n (length a.cells.now) (length a.masks.now) a.low a.high e in record {
-      cells_value = shape_fine _ _ _ f;
+      shaped = shape_fine _ _ _ f;
       boxed = (
         rw (c.corner_of-lo.ensures, c.corner_of-hi.ensures) (boxed a.n (length a.cells.now) (length a.masks.now) a.low a.high e),
         masks_lent _ _ _ f,

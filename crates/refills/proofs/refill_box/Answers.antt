@@ -28,7 +28,7 @@ judged : (c : After-bad_total) →
     let a = c.args in c.bad_total.result ≡ bad_total
     a.total c.in-Ones.old (size a.n)
 judged c =
-    c.bad_total.ensures ∙ ap (λ (k : ℕ). bad_total c.args.total c.in-Ones.old k) (shaped _ _ c.requires.cells_value).bytes_are
+    c.bad_total.ensures ∙ ap (λ (k : ℕ). bad_total c.args.total c.in-Ones.old k) (shaped _ _ c.requires.shaped).bytes_are
 
 -- the masks agree, and the ones are those of the masks
 agree :
@@ -46,13 +46,13 @@ fits : (c : Else-bad_total) → let a = c.args in
     (c.in-Ones.old ≤ a.total) × (a.total ≤ size a.n)
 fits c =
     let is : c.bad_total.result ≡ bad_total c.args.total c.in-Ones.old (size c.args.n) =
-    c.bad_total.ensures ∙ ap (λ (k : ℕ). bad_total c.args.total c.in-Ones.old k) (shaped _ _ c.requires.cells_value).bytes_are in
+    c.bad_total.ensures ∙ ap (λ (k : ℕ). bad_total c.args.total c.in-Ones.old k) (shaped _ _ c.requires.shaped).bytes_are in
     total_fits _ _ _ (sym is ∙ c.if-bad_total.false)
 
 pub same_box-requires : goal.same_box-requires
 same_box-requires c =
     let a = c.args in record {
-      cells_value = c.requires.cells_value;
+      shaped = c.requires.shaped;
       boxed = (
         rw (c.brick_of-first.ensures, c.brick_of-last.ensures) (boxed_bricks a.n a.lo a.hi
             c.requires.boxed.0),
@@ -75,12 +75,12 @@ returns-then-bad_total c =
 
 pub fill_box-requires : goal.fill_box-requires
 fill_box-requires c =
-    (c.requires.boxed.0, (shaped _ _ c.requires.cells_value).bytes_are)
+    (c.requires.boxed.0, (shaped _ _ c.requires.shaped).bytes_are)
 
 pub fill_brick_box-new-requires : goal.fill_brick_box-new-requires
 fill_brick_box-new-requires c =
     let a = c.args in record {
-      cells_value = rw c.fill_box.ensures.long c.requires.cells_value;
+      shaped = rw c.fill_box.ensures.long c.requires.shaped;
       boxed = (
         rw (c.brick_of-first.ensures, c.brick_of-last.ensures) (boxed_bricks a.n a.lo
             a.hi c.requires.boxed.0),
@@ -104,7 +104,7 @@ overflow_sub-result c = (fits ((goal.at.overflow_sub-result c).Else-bad_total)).
 pub overflow_add-result : goal.overflow_add-result
 overflow_add-result c =
     let a = c.args in
-    let s = shaped _ _ c.requires.cells_value in
+    let s = shaped _ _ c.requires.shaped in
     let most = sum_of_most a.n a.lo a.hi c.requires.boxed.0 c.fill_box.new.cells in
     let few = fits ((goal.at.overflow_add-result c).Else-bad_total) in
     omega (arith, summed c, most, few.1, s.size_most)

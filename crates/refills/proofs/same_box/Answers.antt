@@ -44,7 +44,7 @@ same_masks-requires c =
     let a = c.args in
     let there = row_of_box a.n a.lo a.hi c.requires.boxed.0 c.loop-r.r (within ((goal.at.same_masks-requires c).In-loop-r)) in
     record {
-      cells_value = c.requires.cells_value;
+      shaped = c.requires.shaped;
       row_of_bricks = (rw (c.row_slot-at.ensures, c.row_width-wide.ensures) there, c.requires.boxed.1);
     }
 

@@ -22,7 +22,7 @@ set_cell-requires c =
     let a = c.args in
     let e = fine ((goal.at.set_cell-requires c).In-Fine) in
     let f = bricks_fine a.n (length a.cells.now) (length a.masks.now) a.cell a.cell e in record {
-      cells_value = shape_fine _ _ _ f;
+      shaped = shape_fine _ _ _ f;
       boxed = (
         rw c.corner_of-at.ensures (boxed a.n (length a.cells.now) (length a.masks.now) a.cell
             a.cell e),

@@ -32,12 +32,12 @@ lent : (c : After-mask_of-mask) → let a = c.args in
 lent c =
     let a = c.args in
     let below = there_below a.n a.at c.requires.boxed.0 in
-    let few = (bricks_shaped a.n _ (shaped _ _ c.requires.cells_value)).size_most in
+    let few = (bricks_shaped a.n _ (shaped _ _ c.requires.shaped)).size_most in
     let number = numbered c in
     (omega (arith, c.requires.boxed.1), omega arith)
 
 pub bricks_of-requires : goal.bricks_of-requires
-bricks_of-requires c = let s = shaped _ _ c.requires.cells_value in record { x = s.x; y = s.y; z = s.z }
+bricks_of-requires c = let s = shaped _ _ c.requires.shaped in record { x = s.x; y = s.y; z = s.z }
 
 pub index_in-k-requires : goal.index_in-k-requires
 index_in-k-requires c =
@@ -47,7 +47,7 @@ index_in-k-requires c =
 pub mask_of-mask-requires : goal.mask_of-mask-requires
 mask_of-mask-requires c =
     let box = c.requires.boxed.0 in
-    record { cells_value = c.requires.cells_value; bx_bound = rw c.brick_of-b.ensures (omega (arith, box.x, box.y, box.z)) }
+    record { shaped = c.requires.shaped; starts_inside = rw c.brick_of-b.ensures (omega (arith, box.x, box.y, box.z)) }
 
 pub offset_bounds-masks-k : goal.offset_bounds-masks-k
 offset_bounds-masks-k c = omega (arith, (lent c).1)
@@ -60,7 +60,7 @@ returns-then-masks-k c =
     let earlier = goal.at.returns-then-masks-k c in
     let a = c.args in
     refused_mask a.n a.at a.at a.byte a.cells.now a.masks.now a.total
-    (cell_differs a.n a.at c.requires.boxed.0 a.cells.now a.masks.now (shaped _ _ c.requires.cells_value) _ _ (numbered earlier.After-mask_of-mask) (masked earlier.After-mask_of-mask)
+    (cell_differs a.n a.at c.requires.boxed.0 a.cells.now a.masks.now (shaped _ _ c.requires.shaped) _ _ (numbered earlier.After-mask_of-mask) (masked earlier.After-mask_of-mask)
     c.if-masks-k.true)
 
 -- what the test of the total answered, by the number of cells
@@ -68,14 +68,14 @@ judged : (c : After-bad_total) →
     let a = c.args in c.bad_total.result ≡ bad_total
     a.total c.ones-old.result (size a.n)
 judged c =
-    c.bad_total.ensures ∙ ap (λ (k : ℕ). bad_total c.args.total c.ones-old.result k) (shaped _ _ c.requires.cells_value).bytes_are
+    c.bad_total.ensures ∙ ap (λ (k : ℕ). bad_total c.args.total c.ones-old.result k) (shaped _ _ c.requires.shaped).bytes_are
 
 pub returns-then-bad_total : goal.returns-then-bad_total
 returns-then-bad_total c =
     let earlier = goal.at.returns-then-bad_total c in
     let a = c.args in
     refused_total a.n a.at a.at a.byte a.cells.now a.masks.now a.total _
-    (cell_ones a.n a.at c.requires.boxed.0 a.cells.now a.masks.now (shaped _ _ c.requires.cells_value) _ _ (numbered earlier.After-mask_of-mask) (masked earlier.After-mask_of-mask)
+    (cell_ones a.n a.at c.requires.boxed.0 a.cells.now a.masks.now (shaped _ _ c.requires.shaped) _ _ (numbered earlier.After-mask_of-mask) (masked earlier.After-mask_of-mask)
     c.if-masks-k.false _
     c.ones-old.ensures.0) (sym (judged earlier.After-bad_total) ∙ c.if-bad_total.true)
 
@@ -84,21 +84,21 @@ fits : (c : Else-bad_total) → let a = c.args in
     (c.ones-old.result ≤ a.total) × (a.total ≤ size a.n)
 fits c =
     let is : c.bad_total.result ≡ bad_total c.args.total c.ones-old.result (size c.args.n) =
-    c.bad_total.ensures ∙ ap (λ (k : ℕ). bad_total c.args.total c.ones-old.result k) (shaped _ _ c.requires.cells_value).bytes_are in
+    c.bad_total.ensures ∙ ap (λ (k : ℕ). bad_total c.args.total c.ones-old.result k) (shaped _ _ c.requires.shaped).bytes_are in
     total_fits _ _ _ (sym is ∙ c.if-bad_total.false)
 
 pub index_in-i-requires : goal.index_in-i-requires
 index_in-i-requires c =
     let box = c.requires.boxed.0 in
-    let s = shaped _ _ c.requires.cells_value in record {
-      nx_bound = omega (arith, s.x.most, s.y.most, s.z.most);
-      x_lt_nx = omega (arith, box.x, box.y, box.z);
+    let s = shaped _ _ c.requires.shaped in record {
+      small = omega (arith, s.x.most, s.y.most, s.z.most);
+      inside = omega (arith, box.x, box.y, box.z);
     }
 
 pub bounds-cells-i : goal.bounds-cells-i
 bounds-cells-i c =
     let a = c.args in
-    omega (arith, c.index_in-i.ensures, cell_below a.n a.at c.requires.boxed.0 a.cells.now (shaped _ _ c.requires.cells_value))
+    omega (arith, c.index_in-i.ensures, cell_below a.n a.at c.requires.boxed.0 a.cells.now (shaped _ _ c.requires.shaped))
 
 pub offset_bounds-masks-k-2 : goal.offset_bounds-masks-k-2
 offset_bounds-masks-k-2 c = omega (arith, (lent ((goal.at.offset_bounds-masks-k-2 c).After-mask_of-mask)).1)
@@ -111,14 +111,14 @@ overflow_sub-result c = (fits ((goal.at.overflow_sub-result c).Else-bad_total)).
 
 pub overflow_add-result : goal.overflow_add-result
 overflow_add-result c =
-    let s = shaped _ _ c.requires.cells_value in
+    let s = shaped _ _ c.requires.shaped in
     omega (arith, (fits ((goal.at.overflow_add-result c).Else-bad_total)).1, s.size_most, c.ones.ensures.1)
 
 pub returns : goal.returns
 returns c =
     let earlier = goal.at.returns c in
     let a = c.args in
-    cell_set a.n a.at c.requires.boxed.0 a.cells.now a.masks.now (shaped _ _ c.requires.cells_value) _ _ (numbered earlier.After-mask_of-mask) (masked earlier.After-mask_of-mask)
+    cell_set a.n a.at c.requires.boxed.0 a.cells.now a.masks.now (shaped _ _ c.requires.shaped) _ _ (numbered earlier.After-mask_of-mask) (masked earlier.After-mask_of-mask)
     c.if-masks-k.false
     a.byte a.total _ _ _ _ _ c.requires.boxed.1 c.index_in-i.ensures c.bit_in_brick.ensures.0
     c.with_bit-turned.ensures

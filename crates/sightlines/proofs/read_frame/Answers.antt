@@ -30,11 +30,11 @@ fits most l enough within =
 no_more : {i a : ℕ} (l z : List ℕ) → length z ≡ length (take (4 + i - 4) l) → i ≡ a → length z ≤ a
 no_more {i} l z e is = omega (arith, length-take (4 + i - 4) l)
 
-pub returns-then-got-lt4-clause-buf_after : goal.returns-then-got-lt4-clause-buf_after
-returns-then-got-lt4-clause-buf_after c = short_frame c.args.most c.read_full-got.result.0 (held c.read_full-got.new.buf c.args.buf.now) (omega (arith, c.if-got-lt4.true))
+pub returns-then-got-lt4-clause-one_frame : goal.returns-then-got-lt4-clause-one_frame
+returns-then-got-lt4-clause-one_frame c = short_frame c.args.most c.read_full-got.result.0 (held c.read_full-got.new.buf c.args.buf.now) (omega (arith, c.if-got-lt4.true))
 
-pub returns-then-beyond-clause-buf_after : goal.returns-then-beyond-clause-buf_after
-returns-then-beyond-clause-buf_after c = short_frame c.args.most 4 (held c.read_full-got.new.buf c.args.buf.now) (omega arith)
+pub returns-then-beyond-clause-one_frame : goal.returns-then-beyond-clause-one_frame
+returns-then-beyond-clause-one_frame c = short_frame c.args.most 4 (held c.read_full-got.new.buf c.args.buf.now) (omega arith)
 
 pub slice_bounds-read_full-end-3 : goal.slice_bounds-read_full-end-3
 slice_bounds-read_full-end-3 c =
@@ -44,8 +44,8 @@ slice_bounds-read_full-end-3 c =
     let within : beyond c.args.most (take 4 read) ≡ false = sym c.beyond.ensures ∙ c.if-beyond.false in
     omega (arith, c.four_at-end.ensures.0, fits c.args.most read (omega arith) within)
 
-pub returns-clause-buf_after : goal.returns-clause-buf_after
-returns-clause-buf_after c =
+pub returns-clause-one_frame : goal.returns-clause-one_frame
+returns-clause-one_frame c =
     let room = c.requires in
     let most = c.args.most in
     let read = held c.read_full-got.new.buf c.args.buf.now in
