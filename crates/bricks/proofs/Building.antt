@@ -1,4 +1,5 @@
 -- What a fine verdict on bricks says, and what a build leaves. Assumes nothing.
+use Rattle.std.specs.Prelude.{Ok}
 use Prim.Native.Nat.{ℕ, ◌≤◌, ◌<◌}
 use native.Mathlib.Nat.{lt_of_lt_of_le}
 use native.Mathlib.Omega.{arith}
@@ -9,7 +10,6 @@ use lib.Dec.{ltb}
 use lib.ListN.{length, get_or}
 use borrow.Author.Tests.{lt-ltb, le-ltb, ltb-true, ltb-false}
 use Rattle.cells.specs.declared.Counts.{Counts}
-use Rattle.cells.specs.declared.Verdict.TheVariants.{Fine}
 use Rattle.cells.specs.Fills.{Filled}
 use Rattle.cells.proofs.Checks.{fine_first, fine_rest, passed}
 use Rattle.cells.proofs.Tabulate.{tabulate_length, tabulate_at, is_tabulate}
@@ -18,8 +18,8 @@ use Rattle.bricks.specs.Bricks.{bricks, mask_at, solids}
 use Rattle.bricks.specs.Builds.{bricks_check, built}
 use Rattle.bricks.specs.Kept.{Kept}
 
-module _ (n : Counts) (bytes lent : ℕ) (e : bricks_check n bytes lent ≡ Fine) where
-  pub shape_fine : shape n bytes ≡ Fine
+module _ (n : Counts) (bytes lent : ℕ) (e : bricks_check n bytes lent ≡ Ok tt) where
+  pub shape_fine : shape n bytes ≡ Ok tt
   unfolding bricks_check
   shape_fine = fine_first (shape n bytes) _ e
 
@@ -57,7 +57,7 @@ module _ (n : Counts) (l m : List ℕ) where
   built_surplus k ge lt = built_at k lt ∙ ap (λ (t : Bool). cond t (mask_at n l k) (get_or m k 0)) (le-ltb k (size (bricks n)) ge)
 
   -- it is what is to be kept
-  pub kept_built : bricks_check n (length l) (length m) ≡ Fine → Kept n l (built n l m) (solids l)
+  pub kept_built : bricks_check n (length l) (length m) ≡ Ok tt → Kept n l (built n l m) (solids l)
   kept_built e =
       let room = masks_lent n (length l) (length m) e in
       record {

@@ -1,4 +1,5 @@
 -- What SCOPE says of a refusal tells which refusal it is: `told` has a left inverse; and so has `told_verdict`. Assumes nothing.
+use Rattle.std.specs.Prelude.{Ok, Err}
 use Prim.Native.Nat.{ℕ}
 use mathlib.Core.Path.{◌≡◌, refl, sym, ap, ◌∙◌}
 use mathlib.Core.Bool.{cond}
@@ -11,8 +12,7 @@ use Rattle.cells.specs.declared.End.{End}
 use Rattle.cells.specs.declared.Refusal.{Refusal}
 use Rattle.cells.specs.declared.Refusal.TheVariants.{Limit, Count, Bytes, Layer, OffGrid, Room, Placement, NotFinite, OffSurvey}
 use Rattle.cells.specs.declared.Refusal.TheVariants.{Record, Version, NoRule, Stale, Corners}
-use Rattle.cells.specs.declared.Verdict.{Verdict}
-use Rattle.cells.specs.declared.Verdict.TheVariants.{Fine, Refused}
+use Rattle.cells.specs.Checks.{Verdict}
 use Rattle.cells.specs.Refusals.{Told, told, told_verdict}
 
 -- a case that says an end and an axis
@@ -78,11 +78,11 @@ told_one = tells_apart told untold told_back
 
 -- and two verdicts
 abbrev untold_verdict : Told ⊎ Unit {0} → Option Verdict
-untold_verdict = untold_by Refused (λ u. Fine)
+untold_verdict = untold_by Err (λ u. (Ok tt))
 
 pub told_verdict_back : (v : Verdict) → untold_verdict (told_verdict v) ≡ some v
-told_verdict_back (Refused r) = ap (map Refused) (told_back r)
-told_verdict_back Fine = refl
+told_verdict_back (Err r) = ap (map Err) (told_back r)
+told_verdict_back (Ok _) = refl
 
 pub told_verdict_one : (a b : Verdict) → told_verdict a ≡ told_verdict b → a ≡ b
 told_verdict_one = tells_apart told_verdict untold_verdict told_verdict_back

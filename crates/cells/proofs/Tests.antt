@@ -1,13 +1,13 @@
 -- Tests in a row, for any row: where each test of a verdict says what its condition says, an answer by that verdict is given by the tests.
 -- Assumes nothing.
+use Rattle.std.specs.Prelude.{Ok, Err}
 use mathlib.Core.Path.{◌≡◌, refl, sym, ap, subst, ◌∙◌}
 use mathlib.Core.Bool.{Bool, true, false, false≢true}
 use mathlib.Core.Logic.{◌↔◌, ◌⊎◌, inl, inr}
 use Prim.Native.Nat.{ℕ}
 use native.Mathlib.Omega.{arith}
 use Rattle.cells.specs.declared.Refusal.{Refusal}
-use Rattle.cells.specs.declared.Verdict.{Verdict}
-use Rattle.cells.specs.declared.Verdict.TheVariants.{Fine, Refused}
+use Rattle.cells.specs.Checks.{Verdict}
 use Rattle.cells.specs.Checks.{refuse_when, ◌then◌}
 use Rattle.cells.specs.Refusals.{Told, told}
 use Rattle.cells.specs.Tests.{Tests, ◌gives◌, ◌else◌, None, First, ByTests}
@@ -44,8 +44,8 @@ accepted_by tests v none is =
 -- ---- a verdict that says what its tests say
 
 abbrev Follows : Tests → Verdict → Type 0
-Follows tests Fine = None tests
-Follows tests (Refused r) = First tests (told r)
+Follows tests (Ok _) = None tests
+Follows tests (Err r) = First tests (told r)
 
 pub record Judges (tests : Tests) (v : Verdict) : Type 0 where
   pub follows : Follows tests v
@@ -59,13 +59,13 @@ when {C} {b} reads r = go b reads
     go false reads = record { follows = λ c. false≢true (reads.1 c) }
 
 -- two rows, the second where the verdict on the first is fine
-pub next_fine : {a b : Tests} {v w : Verdict} → Judges a v → (v ≡ Fine → Judges b w) → Judges (a else b) (v then w)
+pub next_fine : {a b : Tests} {v w : Verdict} → Judges a v → (v ≡ Ok tt → Judges b w) → Judges (a else b) (v then w)
 next_fine {a} {b} {v} {w} h k = go v w h k
   where
-    go : (v w : Verdict) → Judges a v → (v ≡ Fine → Judges b w) → Judges (a else b) (v then w)
-    go (Refused r) w h k = record { follows = inl h.follows }
-    go Fine Fine h k = record { follows = (h.follows, (k refl).follows) }
-    go Fine (Refused r) h k = record { follows = inr (h.follows, (k refl).follows) }
+    go : (v w : Verdict) → Judges a v → (v ≡ Ok tt → Judges b w) → Judges (a else b) (v then w)
+    go (Err r) w h k = record { follows = inl h.follows }
+    go (Ok _) (Ok _) h k = record { follows = (h.follows, (k refl).follows) }
+    go (Ok _) (Err r) h k = record { follows = inr (h.follows, (k refl).follows) }
 
 -- so where no test of the first holds
 pub next_if : {a b : Tests} {v w : Verdict} → Judges a v → (None a → Judges b w) → Judges (a else b) (v then w)
@@ -77,14 +77,14 @@ pub ◌next◌ : {a b : Tests} {v w : Verdict} → Judges a v → Judges b w →
 
 -- ---- an answer by a verdict
 
-module _ {A B : Type 0} (tell : A → Told ⊎ B) (answer : Verdict → A) (refusing : (r : Refusal) → tell (answer (Refused r)) ≡ inl (told r)) where
-  pub answered : {tests : Tests} {v : Verdict} {r : A} → Judges tests v → (v ≡ Fine → (w : B) × (tell (answer Fine) ≡ inr w)) → r ≡ answer v →
+module _ {A B : Type 0} (tell : A → Told ⊎ B) (answer : Verdict → A) (refusing : (r : Refusal) → tell (answer (Err r)) ≡ inl (told r)) where
+  pub answered : {tests : Tests} {v : Verdict} {r : A} → Judges tests v → (v ≡ Ok tt → (w : B) × (tell (answer (Ok tt)) ≡ inr w)) → r ≡ answer v →
       ByTests tests (tell r)
   answered {tests} {v} {r} h fine is = go v h fine is
     where
-      go : (v : Verdict) → Judges tests v → (v ≡ Fine → (w : B) × (tell (answer Fine) ≡ inr w)) → r ≡ answer v → ByTests tests (tell r)
-      go Fine h fine is = let (w, says) = fine refl in accepted_by tests w h.follows (ap tell is ∙ says)
-      go (Refused s) h fine is = refused_by tests (told s) h.follows (ap tell is ∙ refusing s)
+      go : (v : Verdict) → Judges tests v → (v ≡ Ok tt → (w : B) × (tell (answer (Ok tt)) ≡ inr w)) → r ≡ answer v → ByTests tests (tell r)
+      go (Ok _) h fine is = let (w, says) = fine refl in accepted_by tests w h.follows (ap tell is ∙ says)
+      go (Err s) h fine is = refused_by tests (told s) h.follows (ap tell is ∙ refusing s)
 
 -- a part that is empty exactly where its partner refuses is empty exactly where some test holds
 pub empty_by : {B E : Type 0} {tests : Tests} (says : Told ⊎ B) → ByTests tests says → ((t : Told) → says ≡ inl t → E) → ((v : B) → says ≡ inr v → ¬ E) →

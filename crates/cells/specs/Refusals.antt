@@ -1,5 +1,6 @@
 -- SCOPE, R: each refusal's number, and what it says with it: which end, which axis, which of the four parts of a
 -- placement; and each case of a verdict. Assumes nothing.
+use Rattle.std.specs.Prelude.{Ok, Err}
 use Rattle.std.specs.Prelude.{ℕ, ◌⊎◌, ◌≡◌}
 use Rattle.std.proofs.Common.{inl, inr}
 use Rattle.std.proofs.Math.Option.{Option, none, some}
@@ -9,8 +10,7 @@ use Rattle.cells.specs.declared.Part.{Part}
 use Rattle.cells.specs.declared.Refusal.{Refusal}
 use Rattle.cells.specs.declared.Refusal.TheVariants.{Limit, Count, Bytes, Layer, OffGrid, Room, Placement, NotFinite, OffSurvey}
 use Rattle.cells.specs.declared.Refusal.TheVariants.{Record, Version, NoRule, Stale, Corners}
-use Rattle.cells.specs.declared.Verdict.{Verdict}
-use Rattle.cells.specs.declared.Verdict.TheVariants.{Fine, Refused}
+use Rattle.cells.specs.Checks.{Verdict}
 
 -- a refusal as SCOPE has it: the number, and the details that it says
 pub record Told : Type 0 where
@@ -58,5 +58,5 @@ pub record NumberOf (r : Refusal) (n : ℕ) : Type 0 where
 
 -- each case of a verdict: what is said of a refusal, or nothing but that it is fine
 abbrev pub told_verdict : Verdict → Told ⊎ Unit {0}
-told_verdict (Refused r) = inl (told r)
-told_verdict Fine = inr tt
+told_verdict (Err r) = inl (told r)
+told_verdict (Ok _) = inr tt

@@ -2,7 +2,7 @@
 #![tactic(auto)]
 
 ghost use Rattle.std.specs.Prelude.{◌≡◌};
-ghost use Rattle.cells.specs.Manners.{is_tested, usual, rule_of, rule_check};
+ghost use Rattle.cells.specs.Manners.{is_tested, usual, rule_of, rule_check, rule_named};
 ghost use Rattle.cells.specs.Refusals.{NumberOf};
 
 // The three axes.
@@ -26,6 +26,14 @@ pub struct Cell {
     pub x: i32,
     pub y: i32,
     pub z: i32,
+}
+
+// One of something for each axis.
+#[derive(Clone, Copy)]
+pub struct Each<T> {
+    pub x: T,
+    pub y: T,
+    pub z: T,
 }
 
 // The face by which a line came into a cell: none where it starts there, else the axis with the sign of the move.
@@ -86,8 +94,7 @@ impl Manner {
     pub fn tests_start(self) -> bool
         ensures { result ≡ is_tested self.start }
     {
-        let start = self.start;
-        match start {
+        match self.start {
             Start::Untested => false,
             Start::Tested => true,
         }
@@ -136,13 +143,6 @@ pub enum Refusal {
     Corners,
 }
 
-// What the tests of a call's inputs come to.
-#[derive(Clone, Copy)]
-pub enum Verdict {
-    Fine,
-    Refused(Refusal),
-}
-
 // The number of a refusal.
 pub fn number(r: Refusal) -> u32
     ensures { NumberOf r result }
@@ -167,16 +167,13 @@ pub fn number(r: Refusal) -> u32
 
 // Refusal 12 unless the number names a rule.
 #[tactic(auto, unfolding(crate::specs::Manners::rule_check))]
-pub fn check_rule(number: u32) -> Verdict
+pub fn check_rule(number: u32) -> Result<(), Refusal>
     ensures { result ≡ rule_check number }
 {
-    if number == 1 {
-        return Verdict::Fine;
+    match number {
+        1 | 2 => Ok(()),
+        _ => Err(Refusal::NoRule),
     }
-    if number == 2 {
-        return Verdict::Fine;
-    }
-    Verdict::Refused(Refusal::NoRule)
 }
 
 // The rule that a number names.
@@ -185,4 +182,15 @@ pub fn rule_of(number: u32) -> Rule
     ensures { result ≡ rule_of number }
 {
     if number == 2 { Rule::Two } else { Rule::One }
+}
+
+impl TryFrom<u32> for Rule {
+    type Error = Refusal;
+
+    ghost try_from_gives = { λ number r. r ≡ rule_named number };
+
+    fn try_from(number: u32) -> Result<Self, Refusal> {
+        check_rule(number)?;
+        Ok(rule_of(number))
+    }
 }

@@ -1,4 +1,6 @@
 -- The claims about the calls for C, from their contracts. Assumes nothing.
+use Rattle.std.specs.Prelude.{Ok, Err, Result, Option}
+use Rattle.sight.specs.declared.Block.{Block}
 use Prim.Native.Nat.{ℕ}
 use mathlib.Core.Path.{◌≡◌, refl, sym, ap, ◌∙◌}
 use mathlib.Core.List.{List}
@@ -10,17 +12,15 @@ use Rattle.cells.specs.declared.Cell.{Cell}
 use Rattle.cells.specs.declared.Counts.{Counts}
 use Rattle.cells.specs.declared.Refusal.{Refusal}
 use Rattle.cells.specs.declared.Rule.{Rule}
-use Rattle.cells.specs.declared.Verdict.{Verdict}
+use Rattle.cells.specs.Checks.{Verdict}
 use Rattle.cells.specs.Checks.{◌then◌, by_verdict}
 use Rattle.cells.specs.Manners.{rule_of, rule_check}
 use Rattle.lines.specs.Preference.{comes_before, order_of, by_rule}
 use Rattle.lines.specs.Lines.{six_line, line_26}
 use Rattle.lines.specs.Touching.{touching_line}
-use Rattle.lists.specs.declared.Listed.{Listed}
 use Rattle.lists.specs.Lists.{ends_check, list_check, filled, Lists, Line6}
 use Rattle.grids.specs.Grid.{shape, layer_part}
 use Rattle.grids.specs.Marks.{marked, complete, completeness, any}
-use Rattle.bricks.specs.declared.Tally.TheVariants as Tally
 use Rattle.bricks.specs.Sums.{sum}
 use Rattle.bricks.specs.Bricks.{mask_of, solids}
 use Rattle.bricks.specs.Builds.{bricks_check, built}
@@ -34,7 +34,6 @@ use Rattle.grids.specs.Inside.{walk_check}
 use Rattle.trails.specs.Trails.{trail, AdaptiveCells}
 use Rattle.survey.specs.declared.Placement.{Placement}
 use Rattle.survey.specs.declared.Point.{Point}
-use Rattle.sight.specs.declared.Sight.{Sight}
 use Rattle.sight.specs.Sight.{sight, Sees}
 use Rattle.records.specs.Venues.{venue_head}
 use Rattle.records.specs.declared.writing.Written.TheVariants as Written
@@ -80,8 +79,8 @@ flat_one flat says r s = same_flat flat says says
 -- what a call says after a test of its own, by that verdict
 after_call : {A : Type 0} (refused : Refusal → A) {x a : A} {meets : Type 0} (v : Verdict) → (meets → a ≡ x) → After v (λ r. a ≡ refused r) meets →
     a ≡ by_verdict refused x v
-after_call refused Verdict.Fine says h = says h
-after_call refused (Verdict.Refused r) says h = h
+after_call refused (Ok _) says h = says h
+after_call refused (Err r) says h = h
 
 -- a list after the test of its rule, in one verdict: its answer, and the memory
 module _ (rule : ℕ) (line : List Cell) (first : Verdict) (entry : List ℤ) where
@@ -91,9 +90,9 @@ module _ (rule : ℕ) (line : List Cell) (first : Verdict) (entry : List ℤ) wh
   abbrev ByRule : OatListed → List ℤ → Type 0
   ByRule r exit = FlatByRule rule (λ a. Lists line first entry a exit) entry r exit
 
-  list_says : {r : OatListed} (exit : List ℤ) → ByRule r exit → r ≡ flat_listed (by_verdict Listed.Refused (Listed.Cells (length line)) all_checks)
+  list_says : {r : OatListed} (exit : List ℤ) → ByRule r exit → r ≡ flat_listed (by_verdict Err (Ok (length line)) all_checks)
   list_says exit h =
-      h.flat ∙ ap flat_listed (after_says Listed.Refused (Listed.Cells (length line)) (rule_check rule) (list_check first (length line) (length entry))
+      h.flat ∙ ap flat_listed (after_says Err (Ok (length line)) (rule_check rule) (list_check first (length line) (length entry))
       (λ r m. m.0) (λ m. m.says) h.meets)
 
   list_holds : {r : OatListed} (exit : List ℤ) → ByRule r exit → exit ≡ by_verdict (λ r. entry) (filled line entry) all_checks
@@ -104,15 +103,15 @@ module _ (rule : ℕ) (line : List Cell) (first : Verdict) (entry : List ℤ) wh
   list_once r s exit last h k = (one r s (list_says exit h) (list_says last k), one exit last (list_holds exit h) (list_holds last k))
 
 -- a walk and a sight after the test of the rule
-walk_says : (w : Walker) (how : OatManner) (n : Counts) (cells : List ℕ) (p q : Cell) (a : FirstHit) →
-    After (rule_check how.rule) (λ why. a ≡ FirstHit.Refused why) (Finds w (as_manner how) n cells p q a) →
-    a ≡ by_verdict FirstHit.Refused (first_hit w (as_manner how) n cells p q) (rule_check how.rule)
-walk_says w how n cells p q a = after_call FirstHit.Refused (rule_check how.rule) (λ m. m.says)
+walk_says : (w : Walker) (how : OatManner) (n : Counts) (cells : List ℕ) (p q : Cell) (a : Result FirstHit Refusal) →
+    After (rule_check how.rule) (λ why. a ≡ Err why) (Finds w (as_manner how) n cells p q a) →
+    a ≡ by_verdict Err (first_hit w (as_manner how) n cells p q) (rule_check how.rule)
+walk_says w how n cells p q a = after_call Err (rule_check how.rule) (λ m. m.says)
 
-sight_says : (how : OatManner) (n : Counts) (cells : List ℕ) (at : Placement) (camera ball : Point) (a : Sight) →
-    After (rule_check how.rule) (λ why. a ≡ Sight.Refused why) (Sees (as_manner how) n cells at camera ball a) →
-    a ≡ by_verdict Sight.Refused (sight (as_manner how) n cells at camera ball) (rule_check how.rule)
-sight_says how n cells at camera ball a = after_call Sight.Refused (rule_check how.rule) (λ m. m.says)
+sight_says : (how : OatManner) (n : Counts) (cells : List ℕ) (at : Placement) (camera ball : Point) (a : Result (Option Block) Refusal) →
+    After (rule_check how.rule) (λ why. a ≡ Err why) (Sees (as_manner how) n cells at camera ball a) →
+    a ≡ by_verdict Err (sight (as_manner how) n cells at camera ball) (rule_check how.rule)
+sight_says how n cells at camera ball a = after_call Err (rule_check how.rule) (λ m. m.says)
 
 one_refill : (n : Counts) (low high : Cell) (byte : ℕ) (l m : List ℕ) (total : ℕ) → OnePair (FlatRefills n low high byte l m total)
 one_refill n low high byte l m total r s exit last lent left h k = (
@@ -152,10 +151,10 @@ exports_once =
 
 -- a verdict that is not fine leaves the memory; one that is fine is flattened to 0
 untouched : {F M : Type 0} (said : F → OatSaid) (flat : Verdict → F) (after : Verdict → M) {entry : M} →
-    said (flat Verdict.Fine) ≡ accepted → ((x : Refusal) → after (Verdict.Refused x) ≡ entry) → (v : Verdict) {r : F} {exit : M} →
+    said (flat (Ok tt)) ≡ accepted → ((x : Refusal) → after (Err x) ≡ entry) → (v : Verdict) {r : F} {exit : M} →
     r ≡ flat v → exit ≡ after v → ((said r).refusal ≡ 0 → ⊥) → exit ≡ entry
-untouched said flat after fine kept Verdict.Fine e f refused = absurd (refused (ap (λ s. s.refusal) (ap said e ∙ fine)))
-untouched said flat after fine kept (Verdict.Refused x) e f refused = f ∙ kept x
+untouched said flat after fine kept (Ok _) e f refused = absurd (refused (ap (λ s. s.refusal) (ap said e ∙ fine)))
+untouched said flat after fine kept (Err x) e f refused = f ∙ kept x
 
 refill_untouched : (n : Counts) (low high : Cell) (byte : ℕ) (l m : List ℕ) (total : ℕ) → BothUntouched (FlatRefills n low high byte l m total) l m
 refill_untouched n low high byte l m total r l' m' h refused =
@@ -164,22 +163,22 @@ refill_untouched n low high byte l m total r l' m' h refused =
     let bytes = refilled n lo hi byte l in
     let anew = remasked n lo hi bytes m in
     let v = box_check n (length l) (length m) low high then stale_check n lo hi l m total in
-    let flat : Verdict → OatTally = λ u. flat_tally (by_verdict Tally.Refused (Tally.Total (moved n lo hi m anew total)) u) in
+    let flat : Verdict → OatTally = λ u. flat_tally (by_verdict Err (Ok (moved n lo hi m anew total)) u) in
     let is : r ≡ flat v = h.flat ∙ ap flat_tally h.meets.says in (
       untouched (λ f. f.said) flat (by_verdict (λ x. l) bytes) refl (λ x. refl) v is h.meets.bytes refused,
       untouched (λ f. f.said) flat (by_verdict (λ x. m) anew) refl (λ x. refl) v is h.meets.masks refused,
     )
 
 -- of any list
-list_untouched : (l : List Cell) (first : Verdict) (entry exit : List ℤ) (r : OatListed) (a : Listed) → r ≡ flat_listed a → Lists l first entry a exit →
+list_untouched : (l : List Cell) (first : Verdict) (entry exit : List ℤ) (r : OatListed) (a : Result ℕ Refusal) → r ≡ flat_listed a → Lists l first entry a exit →
     (r.said.refusal ≡ 0 → ⊥) → exit ≡ entry
 list_untouched l first entry exit r a flat meets =
-    untouched (λ f. f.said) (λ v. flat_listed (by_verdict Listed.Refused (Listed.Cells (length l)) v)) (by_verdict (λ x. entry) (filled l entry)) refl
+    untouched (λ f. f.said) (λ v. flat_listed (by_verdict Err (Ok (length l)) v)) (by_verdict (λ x. entry) (filled l entry)) refl
     (λ x. refl) (list_check first (length l) (length entry)) (flat ∙ ap flat_listed meets.says) meets.holds
 
 by_rule_untouched : (rule : ℕ) (l : List Cell) (first : Verdict) (entry : List ℤ) → Untouched (λ f. f.said) (ByRule rule l first entry) entry
 by_rule_untouched rule l first entry r exit h =
-    untouched (λ f. f.said) (λ v. flat_listed (by_verdict Listed.Refused (Listed.Cells (length l)) v)) (by_verdict (λ x. entry) (filled l entry)) refl
+    untouched (λ f. f.said) (λ v. flat_listed (by_verdict Err (Ok (length l)) v)) (by_verdict (λ x. entry) (filled l entry)) refl
     (λ x. refl) (all_checks rule l first entry) (list_says rule l first entry exit h) (list_holds rule l first entry exit h)
 
 pub refused_untouched : RefusedUntouched
@@ -193,13 +192,13 @@ refused_untouched =
           untouched (λ f. f.said) flat_verdict (by_verdict (λ x. entry) (marked 3 n entry)) refl (λ x. refl) (shape n (length entry))
           (h.flat ∙ ap flat_verdict h.meets.says) h.meets.holds;
       build = λ n cells entry r exit h.
-          untouched (λ f. f.said) (λ v. flat_tally (by_verdict Tally.Refused (Tally.Total (solids cells)) v)) (by_verdict (λ x. entry)
+          untouched (λ f. f.said) (λ v. flat_tally (by_verdict Err (Ok (solids cells)) v)) (by_verdict (λ x. entry)
           (built n cells entry))
           refl (λ x. refl) (bricks_check n (length cells) (length entry)) (h.flat ∙ ap flat_tally h.meets.says) h.meets.holds;
       set = λ n cell. refill_untouched n cell cell;
       refill = refill_untouched;
       written = λ n cells entry r exit h.
-          untouched (λ f. f.said) (λ v. flat_written (by_verdict Written.Refused (Written.Wrote (record_length n)) v))
+          untouched (λ f. f.said) (λ v. flat_written (by_verdict Err (Ok (record_length n)) v))
           (by_verdict (λ x. entry) (after_writing n cells entry)) refl (λ x. refl)
           (write_check n (length cells) (length entry)) (h.flat ∙ ap flat_written h.meets.says) h.meets.holds;
     }
@@ -243,28 +242,28 @@ wrong_exports =
 -- where the number names a rule there is nothing before the call
 module _ (p q : Cell) where
   line6_is : (rule : Rule) (entry exit : List ℤ) (r : OatListed) → FlatLine6 (rule_number rule) p q entry r exit →
-      (a : Listed) × Line6 rule p q entry a exit × (r ≡ flat_listed a)
+      (a : Result ℕ Refusal) × Line6 rule p q entry a exit × (r ≡ flat_listed a)
   unfolding rule_check rule_of
   line6_is Rule.One entry exit r h = (h.answer, h.meets, h.flat)
   line6_is Rule.Two entry exit r h = (h.answer, h.meets, h.flat)
 
   trail_is : (rule : Rule) (s : ℕ) (n : Counts) (cells : List ℕ) (entry exit : List ℤ) (r : OatListed) →
       FlatAdaptiveCells (record { start = s; rule = rule_number rule }) n cells p q entry r exit →
-      (a : Listed) × AdaptiveCells (record { start = as_start s; rule = rule }) n cells p q entry a exit × (r ≡ flat_listed a)
+      (a : Result ℕ Refusal) × AdaptiveCells (record { start = as_start s; rule = rule }) n cells p q entry a exit × (r ≡ flat_listed a)
   unfolding rule_check rule_of
   trail_is Rule.One s n cells entry exit r h = (h.answer, h.meets, h.flat)
   trail_is Rule.Two s n cells entry exit r h = (h.answer, h.meets, h.flat)
 
   walk_is : (rule : Rule) (w : Walker) (s : ℕ) (n : Counts) (cells : List ℕ) (r : OatHit) →
       FlatFinds w (record { start = s; rule = rule_number rule }) n cells p q r →
-      (a : FirstHit) × Finds w (record { start = as_start s; rule = rule }) n cells p q a × (r ≡ flat_hit a)
+      (a : Result FirstHit Refusal) × Finds w (record { start = as_start s; rule = rule }) n cells p q a × (r ≡ flat_hit a)
   unfolding rule_check rule_of
   walk_is Rule.One w s n cells r h = (h.answer, h.meets, h.flat)
   walk_is Rule.Two w s n cells r h = (h.answer, h.meets, h.flat)
 
 sight_is : (rule : Rule) (s : ℕ) (n : Counts) (cells : List ℕ) (at : Placement) (camera ball : Point) (r : OatSight) →
     FlatSees (record { start = s; rule = rule_number rule }) n cells at camera ball r →
-    (a : Sight) × Sees (record { start = as_start s; rule = rule }) n cells at camera ball a × (r ≡ flat_sight a)
+    (a : Result (Option Block) Refusal) × Sees (record { start = as_start s; rule = rule }) n cells at camera ball a × (r ≡ flat_sight a)
 unfolding rule_check rule_of
 sight_is Rule.One s n cells at camera ball r h = (h.answer, h.meets, h.flat)
 sight_is Rule.Two s n cells at camera ball r h = (h.answer, h.meets, h.flat)
@@ -302,11 +301,11 @@ no_such_rule number =
       walks = λ not-1 not-2 w s n cells p q r h.
           let how : OatManner = record { start = s; rule = number } in
           h.flat ∙ ap flat_hit (walk_says w how n cells p q h.answer h.meets
-          ∙ ap (by_verdict FirstHit.Refused (first_hit w (as_manner how) n cells p q)) (input_rows.no_rule number not-1 not-2));
+          ∙ ap (by_verdict Err (first_hit w (as_manner how) n cells p q)) (input_rows.no_rule number not-1 not-2));
       seen = λ not-1 not-2 s n cells at camera ball r h.
           let how : OatManner = record { start = s; rule = number } in
           h.flat ∙ ap flat_sight (sight_says how n cells at camera ball h.answer h.meets
-          ∙ ap (by_verdict Sight.Refused (sight (as_manner how) n cells at camera ball)) (input_rows.no_rule number not-1 not-2));
+          ∙ ap (by_verdict Err (sight (as_manner how) n cells at camera ball)) (input_rows.no_rule number not-1 not-2));
     }
   where
     none_listed : (line : List Cell) (first : Verdict) → (number ≡ 1 → ⊥) → (number ≡ 2 → ⊥) → (entry exit : List ℤ) (r : OatListed) →
@@ -314,6 +313,6 @@ no_such_rule number =
     none_listed line first not-1 not-2 entry exit r h =
         let none = input_rows.no_rule number not-1 not-2 in
         let rest = list_check first (length line) (length entry) in (
-          list_says number line first entry exit h ∙ ap (λ v. flat_listed (by_verdict Listed.Refused (Listed.Cells (length line)) (v then rest))) none,
+          list_says number line first entry exit h ∙ ap (λ v. flat_listed (by_verdict Err (Ok (length line)) (v then rest))) none,
           list_holds number line first entry exit h ∙ ap (λ v. by_verdict (λ r. entry) (filled line entry) (v then rest)) none,
         )

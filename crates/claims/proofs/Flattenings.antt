@@ -1,4 +1,6 @@
 -- The claims about the structs for C, from one law over an answer and its struct. Assumes nothing.
+use Rattle.std.specs.Prelude.{Ok, Err, Result, Some, None}
+use Rattle.cells.specs.declared.Cell.{Cell}
 use Prim.Native.Nat.{ℕ, zero, suc}
 use mathlib.Core.Path.{◌≡◌, refl, sym, ap, ◌∙◌}
 use mathlib.Core.Bool.{true, false, cond}
@@ -22,15 +24,13 @@ use Rattle.cells.specs.declared.Rule.TheVariants.{One, Two}
 use Rattle.cells.specs.declared.Start.TheVariants.{Untested, Tested}
 use Rattle.cells.specs.declared.Refusal.TheVariants.{Limit, Count, Bytes, Layer, OffGrid, Room, Placement, NotFinite, OffSurvey}
 use Rattle.cells.specs.declared.Refusal.TheVariants.{Record, Version, NoRule, Stale, Corners}
-use Rattle.cells.specs.declared.Verdict.{Verdict}
+use Rattle.cells.specs.Checks.{Verdict}
 use Rattle.cells.specs.Manners.{rule_of, rule_check}
 use Rattle.cells.specs.Refusals.{Told, told, told_verdict}
 use Rattle.cells.proofs.Refusals.{numbered_of, untold, told_back, tells_apart}
-use Rattle.lists.specs.declared.Listed.{Listed}
 use Rattle.lists.specs.Lists.{told_listed}
 use Rattle.grids.specs.declared.LayerPart.{LayerPart}
-use Rattle.grids.specs.declared.Completeness.{Completeness}
-use Rattle.grids.specs.Grid.{shape, told_part}
+use Rattle.grids.specs.Grid.{part_at, shape, told_part}
 use Rattle.grids.specs.Inside.{walk_check}
 use Rattle.grids.specs.Marks.{told_completeness}
 use Rattle.walks.specs.declared.Walker.TheVariants.{Plain}
@@ -38,10 +38,8 @@ use Rattle.walks.specs.declared.Hit.{Hit}
 use Rattle.walks.specs.declared.FirstHit.{FirstHit}
 use Rattle.walks.specs.Answers as walk
 use Rattle.walks.specs.Answers.{first_hit, told_hit}
-use Rattle.survey.specs.declared.Lookup.{Lookup}
 use Rattle.survey.specs.Survey.{told_lookup}
 use Rattle.sight.specs.declared.Block.{Block}
-use Rattle.sight.specs.declared.Sight.{Sight}
 use Rattle.sight.specs.Sight as sights
 use Rattle.sight.specs.Sight.{told_sight}
 use Rattle.records.specs.declared.venues.VenueRead.{VenueRead}
@@ -65,7 +63,6 @@ use Rattle.structs.specs.Refusals.{end_number, axis_number, part_number, accepte
 use Rattle.structs.specs.Faces.{face_number}
 use Rattle.structs.specs.LineAnswers.{flat_listed}
 use Rattle.structs.specs.GridAnswers.{flat_verdict, flat_complete, flat_part}
-use Rattle.bricks.specs.declared.Tally.{Tally}
 use Rattle.bricks.specs.Builds.{told_tally}
 use Rattle.structs.specs.declared.brick_answers.OatTally.{OatTally}
 use Rattle.structs.specs.BrickAnswers.{flat_tally}
@@ -229,41 +226,41 @@ module _ {A B F : Type 0} {says : A → Told ⊎ B} {flat : A → F} {said : F �
         apart = tells_apart flat (λ f. answer_in refuses (values f) (said f)) (λ a. answer_back a (case a));
       }
 
-abbrev listed_values : OatListed → Listed
-listed_values f = Listed.Cells f.count
+abbrev listed_values : OatListed → Result ℕ Refusal
+listed_values f = Ok f.count
 
-listed_case : (a : Listed) → Case told_listed flat_listed (λ f. f.said) Listed.Refused listed_values a
-listed_case (Listed.Cells n) = fine n refl refl refl
-listed_case (Listed.Refused r) = refused r refl refl refl
+listed_case : (a : Result ℕ Refusal) → Case told_listed flat_listed (λ f. f.said) Err listed_values a
+listed_case (Ok n) = fine n refl refl refl
+listed_case (Err r) = refused r refl refl refl
 
 abbrev verdict_values : OatVerdict → Verdict
-verdict_values f = Verdict.Fine
+verdict_values f = Ok tt
 
-verdict_case : (a : Verdict) → Case told_verdict flat_verdict (λ f. f.said) Verdict.Refused verdict_values a
-verdict_case Verdict.Fine = fine tt refl refl refl
-verdict_case (Verdict.Refused r) = refused r refl refl refl
+verdict_case : (a : Verdict) → Case told_verdict flat_verdict (λ f. f.said) Err verdict_values a
+verdict_case (Ok _) = fine tt refl refl refl
+verdict_case (Err r) = refused r refl refl refl
 
-abbrev complete_values : OatComplete → Completeness
-complete_values f = cond (eqb f.yes 1) Completeness.Yes Completeness.No
+abbrev complete_values : OatComplete → Result Bool Refusal
+complete_values f = cond (eqb f.yes 1) (Ok true) (Ok false)
 
-complete_case : (a : Completeness) → Case told_completeness flat_complete (λ f. f.said) Completeness.Refused complete_values a
-complete_case Completeness.Yes = fine true refl refl refl
-complete_case Completeness.No = fine false refl refl refl
-complete_case (Completeness.Refused r) = refused r refl refl refl
+complete_case : (a : Result Bool Refusal) → Case told_completeness flat_complete (λ f. f.said) Err complete_values a
+complete_case (Ok true) = fine true refl refl refl
+complete_case (Ok false) = fine false refl refl refl
+complete_case (Err r) = refused r refl refl refl
 
-abbrev part_values : OatPart → LayerPart
-part_values f = LayerPart.Part f.offset f.length
+abbrev part_values : OatPart → Result LayerPart Refusal
+part_values f = Ok (part_at f.offset f.length)
 
-part_case : (a : LayerPart) → Case told_part flat_part (λ f. f.said) LayerPart.Refused part_values a
-part_case (LayerPart.Part start many) = fine (start, many) refl refl refl
-part_case (LayerPart.Refused r) = refused r refl refl refl
+part_case : (a : Result LayerPart Refusal) → Case told_part flat_part (λ f. f.said) Err part_values a
+part_case (Ok (part_at start many)) = fine (start, many) refl refl refl
+part_case (Err r) = refused r refl refl refl
 
-abbrev tally_values : OatTally → Tally
-tally_values f = Tally.Total f.total
+abbrev tally_values : OatTally → Result ℕ Refusal
+tally_values f = Ok f.total
 
-tally_case : (a : Tally) → Case told_tally flat_tally (λ f. f.said) Tally.Refused tally_values a
-tally_case (Tally.Total many) = fine many refl refl refl
-tally_case (Tally.Refused r) = refused r refl refl refl
+tally_case : (a : Result ℕ Refusal) → Case told_tally flat_tally (λ f. f.said) Err tally_values a
+tally_case (Ok many) = fine many refl refl refl
+tally_case (Err r) = refused r refl refl refl
 
 -- the face that a number means
 abbrev face_of : ℤ → Face
@@ -293,28 +290,28 @@ hit_values f =
       reads = f.reads;
     }
 
-abbrev walk_values : OatHit → FirstHit
-walk_values f = cond (eqb f.hit 1) (FirstHit.Hit (hit_values f)) (FirstHit.Clear f.reads)
+abbrev walk_values : OatHit → Result FirstHit Refusal
+walk_values f = cond (eqb f.hit 1) (Ok (FirstHit.Hit (hit_values f))) (Ok (FirstHit.Clear f.reads))
 
-hit_case : (a : FirstHit) → Case told_hit flat_hit (λ f. f.said) FirstHit.Refused walk_values a
-hit_case (FirstHit.Clear reads) = fine (walk.clear reads) refl refl refl
-hit_case (FirstHit.Hit h) =
+hit_case : (a : Result FirstHit Refusal) → Case told_hit flat_hit (λ f. f.said) Err walk_values a
+hit_case (Ok (FirstHit.Clear reads)) = fine (walk.clear reads) refl refl refl
+hit_case (Ok (FirstHit.Hit h)) =
     fine (walk.hit h)
-    (λ i. FirstHit.Hit (record {
+    (λ i. FIXMEokhit (record {
       cell = h.cell;
       code = h.code;
       place = record { num = h.place.num; den = h.place.den; face = face_back h.place.face i };
       reads = h.reads;
     }))
     refl refl
-hit_case (FirstHit.Refused r) = refused r refl refl refl
+hit_case (Err r) = refused r refl refl refl
 
-abbrev found_values : OatFound → Lookup
-found_values f = Lookup.Cell (record { x = f.x; y = f.y; z = f.z })
+abbrev found_values : OatFound → Result Cell Refusal
+found_values f = Ok (record { x = f.x; y = f.y; z = f.z })
 
-found_case : (a : Lookup) → Case told_lookup flat_found (λ f. f.said) Lookup.Refused found_values a
-found_case (Lookup.Cell c) = fine c refl refl refl
-found_case (Lookup.Refused r) = refused r refl refl refl
+found_case : (a : Result Cell Refusal) → Case told_lookup flat_found (λ f. f.said) Err found_values a
+found_case (Ok c) = fine c refl refl refl
+found_case (Err r) = refused r refl refl refl
 
 abbrev block_values : OatSight → Block
 block_values f =
@@ -326,48 +323,48 @@ block_values f =
       face = face_of f.face;
     }
 
-abbrev sight_values : OatSight → Sight
-sight_values f = cond (eqb f.blocked 1) (Sight.Blocked (block_values f)) Sight.Clear
+abbrev sight_values : OatSight → Result (Option Block) Refusal
+sight_values f = cond (eqb f.blocked 1) (Ok (Some (block_values f))) (Ok None)
 
-sight_case : (a : Sight) → Case told_sight flat_sight (λ f. f.said) Sight.Refused sight_values a
-sight_case Sight.Clear = fine sights.clear refl refl refl
-sight_case (Sight.Blocked b) =
+sight_case : (a : Result (Option Block) Refusal) → Case told_sight flat_sight (λ f. f.said) Err sight_values a
+sight_case (Ok None) = fine sights.clear refl refl refl
+sight_case (Ok (Some b)) =
     fine (sights.blocked b)
-    (λ i. Sight.Blocked (record { share = b.share; cell = b.cell; code = b.code; reads = b.reads; face = face_back b.face i }))
+    (λ i. Ok (Some (record { share = b.share; cell = b.cell; code = b.code; reads = b.reads; face = face_back b.face i })))
     refl refl
-sight_case (Sight.Refused r) = refused r refl refl refl
+sight_case (Err r) = refused r refl refl refl
 
 abbrev venue_values : OatVenue → VenueRead
-venue_values f = VenueRead.Read (record { counts = record { nx = f.nx; ny = f.ny; nz = f.nz }; start = f.offset; long = f.length })
+venue_values f = Ok (record { counts = record { nx = f.nx; ny = f.ny; nz = f.nz }; start = f.offset; long = f.length })
 
-venue_case : (a : VenueRead) → Case told_venue flat_venue (λ f. f.said) VenueRead.Refused venue_values a
-venue_case (VenueRead.Read v) = fine (v.counts, v.start, v.long) refl refl refl
-venue_case (VenueRead.Refused r) = refused r refl refl refl
+venue_case : (a : VenueRead) → Case told_venue flat_venue (λ f. f.said) Err venue_values a
+venue_case (Ok v) = fine (v.counts, v.start, v.long) refl refl refl
+venue_case (Err r) = refused r refl refl refl
 
-named_rule : (rule : Rule) → (rule_check (rule_number rule) ≡ Verdict.Fine) × (rule_of (rule_number rule) ≡ rule)
+named_rule : (rule : Rule) → (rule_check (rule_number rule) ≡ Ok tt) × (rule_of (rule_number rule) ≡ rule)
 unfolding rule_check rule_of
 named_rule One = (refl, refl)
 named_rule Two = (refl, refl)
 
 abbrev pair_values : OatPair → PairRead
 pair_values f =
-    PairRead.Read (record {
+    Ok (record {
       p = record { x = f.px; y = f.py; z = f.pz };
       q = record { x = f.qx; y = f.qy; z = f.qz };
       rule = rule_of f.rule;
     })
 
-pair_case : (a : PairRead) → Case told_pair flat_pair (λ f. f.said) PairRead.Refused pair_values a
-pair_case (PairRead.Read e) =
-    fine (e.p, e.q, e.rule) (λ i. PairRead.Read (record { p = e.p; q = e.q; rule = (named_rule e.rule).1 i })) refl refl
-pair_case (PairRead.Refused r) = refused r refl refl refl
+pair_case : (a : PairRead) → Case told_pair flat_pair (λ f. f.said) Err pair_values a
+pair_case (Ok e) =
+    fine (e.p, e.q, e.rule) (λ i. Ok (record { p = e.p; q = e.q; rule = (named_rule e.rule).1 i })) refl refl
+pair_case (Err r) = refused r refl refl refl
 
 abbrev written_values : OatWritten → Written
-written_values f = Written.Wrote f.written
+written_values f = Ok f.written
 
-written_case : (a : Written) → Case told_written flat_written (λ f. f.said) Written.Refused written_values a
-written_case (Written.Wrote many) = fine many refl refl refl
-written_case (Written.Refused r) = refused r refl refl refl
+written_case : (a : Written) → Case told_written flat_written (λ f. f.said) Err written_values a
+written_case (Ok many) = fine many refl refl refl
+written_case (Err r) = refused r refl refl refl
 
 pub flattenings : Flattenings
 flattenings =

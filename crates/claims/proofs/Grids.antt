@@ -1,4 +1,6 @@
 -- The claims about the grid, each from its law. Assumes nothing.
+use Rattle.std.specs.Prelude.{Ok, Err, Result}
+use Rattle.cells.specs.declared.Refusal.{Refusal}
 use Prim.Native.Nat.{ℕ, suc, ◌+◌, ◌*◌, ◌/◌, ◌%◌, ◌≤◌, ◌<◌}
 use native.Mathlib.Nat.{mul_comm, mul_assoc, mul-add, mul-suc, mul-le-mul_left}
 use native.Mathlib.Omega.{arith}
@@ -12,16 +14,14 @@ use borrow.Author.Tests.{ltb-true, lt-ltb, eqb-true}
 use denote.Ref.{Bor}
 use Rattle.cells.specs.Parts.{StartsAt}
 use Rattle.cells.specs.declared.Counts.{Counts}
-use Rattle.cells.specs.declared.Verdict.{Verdict}
-use Rattle.cells.specs.declared.Verdict.TheVariants.{Fine, Refused}
+use Rattle.cells.specs.Checks.{Verdict}
 use Rattle.cells.specs.Checks.{by_verdict}
 use Rattle.cells.specs.Touching.{touching, Touches}
 use Rattle.cells.proofs.Checks.{by_fine}
 use Rattle.cells.proofs.Touching.{and_both, touching_iff}
 use Rattle.grids.specs.declared.LayerPart.{LayerPart}
-use Rattle.grids.specs.declared.Completeness.{Completeness}
-use Rattle.grids.specs.Grid.{shape, index, cell_at, solid, layer_check, layer_start, layer_length, layer_part, layer, start_of, GivesLayerPart}
-use Rattle.grids.specs.Marks.{touches_solid, marked, complete, yes_or_no, completeness, Marks, Completes}
+use Rattle.grids.specs.Grid.{part_at, shape, index, cell_at, solid, layer_check, layer_start, layer_length, layer_part, layer, start_of, GivesLayerPart}
+use Rattle.grids.specs.Marks.{touches_solid, marked, complete, completeness, Marks, Completes}
 use Rattle.grids.specs.Inside.{Shaped}
 use Rattle.grids.proofs.Shapes.{shaped}
 use Rattle.grids.proofs.Layers.{layer_empty, layer_long, layer_own}
@@ -49,7 +49,7 @@ one_answer =
       by_mark = λ n l r s a b p q. (one r s p.says q.says, one a b p.holds q.holds);
     }
 
-numbered : (n : Counts) (bytes : ℕ) → shape n bytes ≡ Fine → BytePlaces n bytes
+numbered : (n : Counts) (bytes : ℕ) → shape n bytes ≡ Ok tt → BytePlaces n bytes
 numbered n bytes fine =
     record {
       counts = (s.x.some, s.x.most, s.y.some, s.y.most, s.z.some, s.z.most);
@@ -79,11 +79,11 @@ pub places : (n : Counts) (bytes : ℕ) → Places n bytes
 places n bytes = record { numbered = numbered n bytes }
 
 -- where the partner's part lies, and how long it is
-named_from : (n : Counts) (bytes : ℕ) (z : ℤ) (start many : ℕ) → GivesLayerPart n bytes z (LayerPart.Part start many) →
-    (layer_check n bytes z ≡ Fine) × (start ≡ nat_abs z * (n.nx * n.ny)) × (many ≡ n.nx * n.ny)
+named_from : (n : Counts) (bytes : ℕ) (z : ℤ) (start many : ℕ) → GivesLayerPart n bytes z (Ok (part_at start many)) →
+    (layer_check n bytes z ≡ Ok tt) × (start ≡ nat_abs z * (n.nx * n.ny)) × (many ≡ n.nx * n.ny)
 unfolding layer_part
 named_from n bytes z start many named =
-    let (fine, same) = by_fine LayerPart.Refused (layer_check n bytes z) (LayerPart.Part (layer_start n z) (layer_length n))
+    let (fine, same) = by_fine Err (layer_check n bytes z) (Ok (part_at (layer_start n z) (layer_length n)))
     (λ r no. let z : ◌≡◌ {A = ℕ} 0 1 = cc no in omega arith) (sym named.says) in
     let a : layer_start n z ≡ start = cc same in
     let b : layer_length n ≡ many = cc same in
@@ -94,7 +94,7 @@ index_there : (n : Counts) (x y z : ℕ) → z * (n.nx * n.ny) + (x + n.nx * y) 
 index_there n x y z =
     omega (arith, mul_comm z (n.nx * n.ny), mul_assoc n.nx n.ny z, mul-add n.nx y (n.ny * z))
 
-pub layers : (n : Counts) (z : ℤ) (cells layer : Bor (List ℕ)) (part : LayerPart) → Layers n z cells layer part
+pub layers : (n : Counts) (z : ℤ) (cells layer : Bor (List ℕ)) (part : Result LayerPart Refusal) → Layers n z cells layer part
 layers n z cells layer part =
     record {
       empty = λ named given.
@@ -108,7 +108,7 @@ layers n z cells layer part =
           ap (λ (l : List ℕ). get_or l (x + n.nx * y) 0) given.says ∙ own
           ∙ ap (λ (i : ℕ). get_or cells.now i 0) (ap (λ (s : ℕ). s + (x + n.nx * y)) start_is ∙ index_there n x y (nat_abs z));
       own = λ start many named given.
-          let there = subst (λ (p : LayerPart). StartsAt (start_of p) cells layer) (sym named.says) given.there in (
+          let there = subst (λ (p : Result LayerPart Refusal). StartsAt (start_of p) cells layer) (sym named.says) given.there in (
             there,
             ap length given.says ∙ layer_long n cells.now z start many (sym named.says),
             λ i h. ap (λ (l : List ℕ). get_or l i 0) given.says ∙ layer_own n cells.now z start many (sym named.says) i h,
@@ -160,7 +160,7 @@ pub marked_call : (n : Counts) (l : List ℕ) → MarkedCall n l
 unfolding completeness
 marked_call n l = record { says_yes = yes; refused = λ r a m. m.holds ∙ ap (by_verdict (λ s. l) (marked 3 n l)) (sym m.says) }
   where
-    yes : (r : Verdict) (a : List ℕ) (c : Completeness) → Marks n l r a → r ≡ Fine → Completes n a c → c ≡ Completeness.Yes
+    yes : (r : Verdict) (a : List ℕ) (c : Result Bool Refusal) → Marks n l r a → r ≡ Ok tt → Completes n a c → c ≡ Ok true
     yes r a c m e f =
         let fine = sym m.says ∙ e in
         f.says ∙ ap (completeness n) (m.holds ∙ ap (by_verdict (λ s. l) (marked 3 n l)) fine) ∙ rw (marked_length 3 n l, fine, marked_complete 3 n l)
@@ -169,17 +169,17 @@ pub complete_means : (k : ℕ) (n : Counts) (l : List ℕ) → Complete k n l
 complete_means k n l = record { means = complete_iff k n l }
 
 -- what the call says is what the test says, since a refusal is neither
-which : (b t : Bool) → yes_or_no t ≡ yes_or_no b → b ≡ t
+which : (b t : Bool) → Ok t ≡ Ok b → b ≡ t
 which true true e = refl
 which false false e = refl
 which true false e = absurd (let z : ◌≡◌ {A = ℕ} 0 1 = cc in omega arith)
 which false true e = absurd (let z : ◌≡◌ {A = ℕ} 0 1 = cc in omega arith)
 
-answered : (v : Verdict) (n : Counts) (l : List ℕ) (t : Bool) → yes_or_no t ≡ by_verdict Completeness.Refused (yes_or_no (complete 3 n l)) v →
+answered : (v : Verdict) (n : Counts) (l : List ℕ) (t : Bool) → Ok t ≡ by_verdict Err (Ok (complete 3 n l)) v →
     complete 3 n l ≡ t
-answered Fine n l t e = which (complete 3 n l) t e
-answered (Refused r) n l true e = absurd (let z : ◌≡◌ {A = ℕ} 0 1 = cc in omega arith)
-answered (Refused r) n l false e = absurd (let z : ◌≡◌ {A = ℕ} 0 1 = cc in omega arith)
+answered (Ok _) n l t e = which (complete 3 n l) t e
+answered (Err r) n l true e = absurd (let z : ◌≡◌ {A = ℕ} 0 1 = cc in omega arith)
+answered (Err r) n l false e = absurd (let z : ◌≡◌ {A = ℕ} 0 1 = cc in omega arith)
 
 pub says_complete : (n : Counts) (l : List ℕ) → SaysComplete n l
 unfolding completeness
@@ -193,9 +193,9 @@ shut_out =
       no_shape = λ r c. let e = c.says in let z : ◌≡◌ {A = ℕ} 0 1 = cc in omega arith;
       bytes_first = λ c. let e = c.says in let z : ◌≡◌ {A = ℕ} 0 1 = cc in omega arith;
       marks_nothing = λ r m. let z : ◌≡◌ {A = ℕ} 0 1 = ap (λ (l : List ℕ). get_or l 0 0) m.holds in omega arith;
-      refuses = λ r a m. let e : Refused r ≡ Fine = m.says in let z : ◌≡◌ {A = ℕ} 0 1 = cc in omega arith;
-      complete_always = λ c. let f : Completeness.Yes ≡ Completeness.No = c.says in let z : ◌≡◌ {A = ℕ} 0 1 = cc in omega arith;
-      never_complete = λ c. let f : Completeness.No ≡ Completeness.Yes = c.says in let z : ◌≡◌ {A = ℕ} 0 1 = cc in omega arith;
+      refuses = λ r a m. let e : Err r ≡ Ok tt = m.says in let z : ◌≡◌ {A = ℕ} 0 1 = cc in omega arith;
+      complete_always = λ c. let f : (Ok true) ≡ Ok false = c.says in let z : ◌≡◌ {A = ℕ} 0 1 = cc in omega arith;
+      never_complete = λ c. let f : (Ok false) ≡ Ok true = c.says in let z : ◌≡◌ {A = ℕ} 0 1 = cc in omega arith;
       empty_layer = λ cells r e c none.
           let z : ◌≡◌ {A = ℕ} 0 8 = ap length (sym none ∙ c.says ∙ ap (λ (l : List ℕ). layer example_counts l (pos 0)) e) in
           omega arith;

@@ -1,4 +1,5 @@
 -- Each call's verdict on its inputs says what the call's row of tests says: each of its tests means its condition. Assumes nothing.
+use Rattle.std.specs.Prelude.{Ok}
 use Prim.Native.Nat.{ℕ, ◌+◌, ◌-◌, ◌*◌, ◌<◌}
 use native.Mathlib.Nat.{lt_of_not-le}
 use native.Mathlib.Omega.{arith}
@@ -22,8 +23,7 @@ use Rattle.cells.specs.declared.End.{End}
 use Rattle.cells.specs.declared.End.TheVariants.{P, Q}
 use Rattle.cells.specs.declared.Part.TheVariants.{OriginX, OriginY, OriginZ, Edge}
 use Rattle.cells.specs.declared.Refusal.TheVariants as Refusal
-use Rattle.cells.specs.declared.Verdict.TheVariants.{Fine}
-use Rattle.cells.specs.declared.Verdict.{Verdict}
+use Rattle.cells.specs.Checks.{Verdict}
 use Rattle.cells.specs.Checks.{refuse_when, ◌then◌}
 use Rattle.cells.specs.Refusals.{alone}
 use Rattle.cells.specs.Tests.{Tests, ◌gives◌}
@@ -119,7 +119,7 @@ corners_judged n bytes lent low high =
     bricks_judged n bytes lent next grid_judged P n low next grid_judged Q n high next when (crossed_means low high) Refusal.Corners
 
 -- a mask that differs, in a brick that holds a cell of the box
-module _ (n : Counts) (l m : List ℕ) (low high : cell.Cell) (fine : box_check n (length l) (length m) low high ≡ Fine) where
+module _ (n : Counts) (l m : List ℕ) (low high : cell.Cell) (fine : box_check n (length l) (length m) low high ≡ Ok tt) where
   abbrev holds : ℕ → Bool
   holds k = holds_named n (corner low) (corner high) k
 

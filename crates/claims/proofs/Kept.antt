@@ -1,4 +1,5 @@
 -- The claims about the counts that are kept, each from its laws. Assumes nothing.
+use Rattle.std.specs.Prelude.{Ok, Err}
 use Prim.Native.Nat.{ℕ, ◌+◌, ◌*◌, ◌/◌, ◌%◌, ◌≤◌, ◌<◌}
 use native.Mathlib.Omega.{arith}
 use mathlib.Core.Path.{◌≡◌, refl, sym, subst, ap, ◌∙◌}
@@ -13,7 +14,6 @@ use Rattle.cells.specs.declared.Cell.{Cell}
 use Rattle.cells.specs.declared.Counts.{Counts}
 use Rattle.cells.specs.declared.Refusal.{Refusal}
 use Rattle.cells.specs.declared.Refusal.TheVariants.{Stale}
-use Rattle.cells.specs.declared.Verdict.TheVariants.{Fine}
 use Rattle.cells.specs.Checks.{◌then◌, by_verdict}
 use Rattle.cells.proofs.Checks.{by_fine, by_refusal}
 use Rattle.cells.proofs.Signed.{abs_is, ≤ℤ_is}
@@ -26,7 +26,6 @@ use Rattle.grids.proofs.Marking.{SameSolid}
 use Rattle.grids.proofs.Places.{index_below, index_of_cell}
 use Rattle.grids.proofs.Shapes.{shaped}
 use Rattle.bricks.specs.declared.Slot.{Slot}
-use Rattle.bricks.specs.declared.Tally.{Tally}
 use Rattle.bricks.specs.Sums.{sum}
 use Rattle.bricks.specs.Bricks.{bricks, mask_of, mask_at, solids}
 use Rattle.bricks.specs.Builds.{bricks_check, built, Builds}
@@ -46,10 +45,10 @@ use Rattle.claims.specs.Kept.{KeptOnce, Masks, Built, BuildMeans, Named, HoldsNa
 use Rattle.claims.proofs.Grids.{one}
 
 -- a total is no refusal
-pub not_refused : (t : ℕ) (r : Refusal) → Tally.Refused r ≡ Tally.Total t → ⊥
+pub not_refused : (t : ℕ) (r : Refusal) → Err r ≡ Ok t → ⊥
 not_refused t r e = let z : ◌≡◌ {A = ℕ} 0 1 = cc e in omega arith
 
-pub not_total : (t : ℕ) (r : Refusal) → Tally.Total t ≡ Tally.Refused r → ⊥
+pub not_total : (t : ℕ) (r : Refusal) → Ok t ≡ Err r → ⊥
 not_total t r e = not_refused t r (sym e)
 
 -- ---- one answer
@@ -61,16 +60,16 @@ kept_once =
       refill = λ n low high byte l m total r s l' m' l'' m'' p q.
           (one r s p.says q.says, one l' l'' p.bytes q.bytes, one m' m'' p.masks q.masks);
       build_refused = λ n l m r a c.
-          by_refusal Tally.Refused (bricks_check n (length l) (length m)) (Tally.Total (solids l)) (built n l m) (not_total _ r) (sym c.says)
+          by_refusal Err (bricks_check n (length l) (length m)) (Ok (solids l)) (built n l m) (not_total _ r) (sym c.says)
           c.holds;
       refill_refused = λ n low high byte l m total r l' m' c.
           let lo = corner low in
           let hi = corner high in
           let v = box_check n (length l) (length m) low high then stale_check n lo hi l m total in
           let after = refilled n lo hi byte l in
-          let t = Tally.Total (moved n lo hi m (remasked n lo hi after m) total) in (
-            by_refusal Tally.Refused v t after (not_total _ r) (sym c.says) c.bytes,
-            by_refusal Tally.Refused v t (remasked n lo hi after m) (not_total _ r) (sym c.says) c.masks,
+          let t = Ok (moved n lo hi m (remasked n lo hi after m) total) in (
+            by_refusal Err v t after (not_total _ r) (sym c.says) c.bytes,
+            by_refusal Err v t (remasked n lo hi after m) (not_total _ r) (sym c.says) c.masks,
           );
       set = λ n cell byte l m total r l' m'. (λ c. c, λ c. c);
     }
@@ -93,12 +92,12 @@ masks n l =
 
 -- ---- a build
 
-module _ (n : Counts) (l m : List ℕ) (t : ℕ) (m' : List ℕ) (c : Builds n l m (Tally.Total t) m') where
+module _ (n : Counts) (l m : List ℕ) (t : ℕ) (m' : List ℕ) (c : Builds n l m (Ok t) m') where
   -- what is told of it: its tests are passed, and with them its total and its masks are those of the definition
-  pub build_says : (bricks_check n (length l) (length m) ≡ Fine) × (t ≡ solids l) × (m' ≡ built n l m)
+  pub build_says : (bricks_check n (length l) (length m) ≡ Ok tt) × (t ≡ solids l) × (m' ≡ built n l m)
   build_says =
       let v = bricks_check n (length l) (length m) in
-      let (fine, is) = by_fine Tally.Refused v (Tally.Total (solids l)) (not_refused t) (sym c.says) in
+      let (fine, is) = by_fine Err v (Ok (solids l)) (not_refused t) (sym c.says) in
       (fine, cc is, c.holds ∙ ap (by_verdict (λ r. m) (built n l m)) fine)
 
   build_done : Built n l m t m'
@@ -156,7 +155,7 @@ module _ (n : Counts) (low high : Cell) (lows : InGrid n low) (highs : InGrid n 
   )
 
 -- the bricks that hold a cell of the box
-module _ (n : Counts) (bytes lent : ℕ) (low high : Cell) (e : box_check n bytes lent low high ≡ Fine) where
+module _ (n : Counts) (bytes lent : ℕ) (low high : Cell) (e : box_check n bytes lent low high ≡ Ok tt) where
   lows : InGrid n low
   lows = low_in n bytes lent low high e
 

@@ -1,4 +1,6 @@
 -- The claims about the list calls. Assumes nothing.
+use Rattle.std.specs.Prelude.{Ok, Err, Result}
+use Rattle.cells.specs.declared.Refusal.{Refusal}
 use Prim.Native.Nat.{ℕ, zero, suc, ◌+◌, ◌-◌, ◌*◌, ◌≤◌, ◌<◌}
 use mathlib.Core.Path.{◌≡◌, refl, sym, ap, ◌∙◌, subst}
 use mathlib.Core.Bool.{true}
@@ -13,7 +15,7 @@ use Rattle.cells.specs.declared.Axis.{Axis}
 use Rattle.cells.specs.declared.Axis.TheVariants.{X, Y, Z}
 use Rattle.cells.specs.declared.Cell.{Cell}
 use Rattle.cells.specs.declared.Rule.{Rule}
-use Rattle.cells.specs.declared.Verdict.{Verdict}
+use Rattle.cells.specs.Checks.{Verdict}
 use Rattle.cells.specs.Touching.{on}
 use Rattle.cells.specs.Checks.{by_verdict}
 use Rattle.cells.proofs.Checks.{by_refusal, by_fine, fine_rest, passed}
@@ -21,8 +23,6 @@ use Rattle.lines.specs.Preference.{y_z_x, comes_before, by_rule}
 use Rattle.lines.specs.Lines.{six_line, line_26, in_limit, InLimit}
 use Rattle.lines.proofs.Cells.{limited_difference, six_length, six_numbered, length_26, numbered_26}
 use Rattle.lines.proofs.Mirror.{first_order}
-use Rattle.lists.specs.declared.Listed.{Listed}
-use Rattle.lists.specs.declared.Listed.TheVariants.{Cells, Refused}
 use Rattle.lists.specs.Lists.{ends_check, list_check, numbers, filled, Lists, Line6}
 use Rattle.lists.proofs.Front.{numbers_length}
 use Rattle.claims.specs.Lists.{ListedOnce, three_at, CellsAt, CellsListed, Longest, LongestLists, lowest, highest, WrongLists, room}
@@ -30,9 +30,9 @@ use Rattle.claims.specs.Example.{at}
 use Rattle.claims.proofs.Lines.{six_line_holds, line_26_holds}
 
 -- 1 for an accepted list
-unfoldable pub accepted : Listed → ℕ
-accepted (Cells n) = 1
-accepted (Refused r) = 0
+unfoldable pub accepted : Result ℕ Refusal → ℕ
+accepted (Ok n) = 1
+accepted (Err r) = 0
 
 pub listed_once : (line : List Cell) (first : Verdict) (entry : List ℤ) → ListedOnce line first entry
 unfolding accepted
@@ -41,16 +41,16 @@ listed_once line first entry =
       answer = λ r s exit last h k. h.says ∙ sym k.says;
       memory = λ r s exit last h k. h.holds ∙ sym k.holds;
       untouched = λ r exit h.
-          by_refusal Refused (list_check first (length line) (length entry)) (Cells (length line)) (filled line entry)
+          by_refusal Err (list_check first (length line) (length entry)) (Ok (length line)) (filled line entry)
           (λ e. let z : ◌≡◌ {A = ℕ} 1 0 = ap accepted e in omega arith) (sym h.says) h.holds;
     }
 
 -- ---- the cells of an accepted list
 
 -- how many cells an answer says
-unfoldable pub said : Listed → ℕ
-said (Cells n) = n
-said (Refused r) = 0
+unfoldable pub said : Result ℕ Refusal → ℕ
+said (Ok n) = n
+said (Err r) = 0
 
 -- three numbers further on
 three_on : (c : Cell) (l : List ℤ) (i : ℕ) → three_at (c.x ∷ c.y ∷ c.z ∷ l) (suc (suc (suc i))) ≡ three_at l i
@@ -65,11 +65,11 @@ numbers_at (c ∷ line) l (suc n) d lt =
     ap (three_at (numbers (c ∷ line) ++ l)) e ∙ three_on c (numbers line ++ l) (3 * n) ∙ numbers_at line l n d (omega arith)
 
 -- of any line
-module _ (line : List Cell) (first : Verdict) (entry exit : List ℤ) (k : ℕ) (h : Lists line first entry (Cells k) exit) where
-  pub fits : (list_check first (length line) (length entry) ≡ Verdict.Fine) × (Cells (length line) ≡ Cells k)
+module _ (line : List Cell) (first : Verdict) (entry exit : List ℤ) (k : ℕ) (h : Lists line first entry (Ok k) exit) where
+  pub fits : (list_check first (length line) (length entry) ≡ Ok tt) × (Ok (length line) ≡ Ok k)
   unfolding accepted
   fits =
-      by_fine Refused (list_check first (length line) (length entry)) (Cells (length line))
+      by_fine Err (list_check first (length line) (length entry)) (Ok (length line))
       (λ r e. absurd (let z : ◌≡◌ {A = ℕ} 0 1 = ap accepted e in omega arith)) (sym h.says)
 
   whole : k ≡ length line
@@ -158,7 +158,7 @@ longest_list =
     }
 
 -- from (0,0,0) to (2,1,0) both rules have the order y, z, x
-by_one : (rule : Rule) (r : Listed) (exit : List ℤ) → Line6 rule (at 0 0 0) (at 2 1 0) room r exit →
+by_one : (rule : Rule) (r : Result ℕ Refusal) (exit : List ℤ) → Line6 rule (at 0 0 0) (at 2 1 0) room r exit →
     Lists (six_line y_z_x (at 0 0 0) (at 2 1 0)) (ends_check (at 0 0 0) (at 2 1 0)) room r exit
 unfolding comes_before
 by_one rule r exit = subst (λ v. Lists (six_line v (at 0 0 0) (at 2 1 0)) (ends_check (at 0 0 0) (at 2 1 0)) room r exit) (first_order rule (at 0 0 0) (at 2 1 0) refl)

@@ -1,4 +1,7 @@
 -- The claims about a surveyed point's cell, each from its law; the table's rows by computation. Assumes nothing.
+use Rattle.std.specs.Prelude.{Ok, Result}
+use Rattle.cells.specs.declared.Refusal.{Refusal}
+use Rattle.cells.specs.declared.Cell.{Cell}
 use Prim.Native.Nat.{ℕ, ◌≤◌}
 use mathlib.Core.Path.{◌≡◌, refl, sym, ap, subst, ◌∙◌}
 use mathlib.Core.Bool.{false}
@@ -10,14 +13,11 @@ use Rattle.cells.specs.declared.Cell as cell
 use Rattle.cells.specs.declared.Counts.{Counts}
 use Rattle.cells.specs.declared.End.{End}
 use Rattle.cells.specs.declared.End.TheVariants.{P}
-use Rattle.cells.specs.declared.Verdict.TheVariants.{Fine}
 use Rattle.cells.specs.declared.Axis.{Axis}
 use Rattle.cells.specs.declared.Axis.TheVariants.{X, Y, Z}
 use Rattle.cells.specs.Refusals.{Told, at_end}
 use Rattle.cells.specs.Touching.{on}
 use Rattle.lines.proofs.Cells.{same_cell}
-use Rattle.survey.specs.declared.Lookup.{Lookup}
-use Rattle.survey.specs.declared.Lookup.TheVariants.{Cell}
 use Rattle.survey.specs.declared.Placement.{Placement}
 use Rattle.survey.specs.declared.Point.{Point}
 use Rattle.survey.specs.Quotient.{outside, cell_number}
@@ -84,7 +84,7 @@ pub the_cell : (n : Counts) (at : Placement) (p : Point) → TheCell n at p
 unfolding look_up
 the_cell n at p = record {
   given = given;
-  found = λ c t f i. record { says = sym (cell_found n at p t (fine P c t f i) ∙ ap Cell (sym (is_at c t i))) };
+  found = λ c t f i. record { says = sym (cell_found n at p t (fine P c t f i) ∙ ap Ok (sym (is_at c t i))) };
   end_given = end_given;
   end_found = end_found;
 }
@@ -95,13 +95,13 @@ the_cell n at p = record {
         subst (InItsCell n (quotients at p)) (sym same)
         (record { x = coordinate n.nx _ inside.x; y = coordinate n.ny _ inside.y; z = coordinate n.nz _ inside.z })
 
-    given : (c : cell.Cell) → LooksUp n at p (Cell c) → PlacedGrid n at × InItsCell n (quotients at p) c
+    given : (c : cell.Cell) → LooksUp n at p (Ok c) → PlacedGrid n at × InItsCell n (quotients at p) c
     given c h = let (tested, inside, same) = cell_given n at p c (sym h.says) in (tested, in_it c inside same)
 
-    end_given : (e : End) (c : cell.Cell) → PlacedGrid n at → look_up e n at p ≡ Cell c → InItsCell n (quotients at p) c
+    end_given : (e : End) (c : cell.Cell) → PlacedGrid n at → look_up e n at p ≡ Ok c → InItsCell n (quotients at p) c
     end_given e c t h = let (inside, same) = look_given e n at p c t h in in_it c inside same
 
-    fine : (e : End) (c : cell.Cell) → PlacedGrid n at → Finite p → InItsCell n (quotients at p) c → point_check e n p (quotients at p) ≡ Fine
+    fine : (e : End) (c : cell.Cell) → PlacedGrid n at → Finite p → InItsCell n (quotients at p) c → point_check e n p (quotients at p) ≡ Ok tt
     fine e c t f i =
         let range = counted n t.counts in
         point_fine e n p (quotients at p) f.x f.y f.z (coordinate_inside n.nx _ c.x range.x.most i.x)
@@ -110,8 +110,8 @@ the_cell n at p = record {
     is_at : (c : cell.Cell) → PlacedGrid n at → InItsCell n (quotients at p) c → c ≡ cell_at n (quotients at p)
     is_at c t i = cell_is_at n (quotients at p) c (counted n t.counts) i
 
-    end_found : (e : End) (c : cell.Cell) → PlacedGrid n at → Finite p → InItsCell n (quotients at p) c → look_up e n at p ≡ Cell c
-    end_found e c t f i = rw (fine e c t f i) (ap Cell (sym (is_at c t i)))
+    end_found : (e : End) (c : cell.Cell) → PlacedGrid n at → Finite p → InItsCell n (quotients at p) c → look_up e n at p ≡ Ok c
+    end_found e c t f i = rw (fine e c t f i) (ap Ok (sym (is_at c t i)))
 
 -- ---- outside, and exact conversion
 
@@ -175,7 +175,7 @@ found (inl t) = 0
 found (inr c) = 1
 
 -- an answer that meets the contract says what the definition does
-says : {n : Counts} {at : Placement} {p : Point} {r : Lookup} {t : Told ⊎ cell.Cell} → told_lookup (cell_of n at p) ≡ t → LooksUp n at p r →
+says : {n : Counts} {at : Placement} {p : Point} {r : (Result Cell Refusal)} {t : Told ⊎ cell.Cell} → told_lookup (cell_of n at p) ≡ t → LooksUp n at p r →
     told_lookup r ≡ t
 says is h = ap told_lookup h.says ∙ is
 

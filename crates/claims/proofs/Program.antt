@@ -1,4 +1,6 @@
 -- The program's claims: what a step says of a frame it says of all that is left of the input, so the steps give the whole output. Assumes nothing.
+use Rattle.std.specs.Prelude.{Ok, Err, Result, Some, None, Option}
+use Rattle.cells.specs.declared.Refusal.{Refusal}
 use Prim.Native.Nat.{ℕ, zero, suc, ◌+◌, ◌≤◌}
 use mathlib.Core.Path.{◌≡◌, refl, sym, ap, ap₂, ◌∙◌, subst}
 use mathlib.Core.List.{List, [], ◌∷◌, ◌++◌, append-nil}
@@ -19,8 +21,7 @@ use Rattle.cells.specs.Manners.{tested_by, rule_check}
 use Rattle.cells.specs.declared.End.{End}
 use Rattle.cells.specs.declared.End.TheVariants.{P, Q}
 use Rattle.cells.specs.declared.Refusal.TheVariants.{OffGrid, Record, Version, NoRule}
-use Rattle.cells.specs.declared.Verdict.{Verdict}
-use Rattle.cells.specs.declared.Verdict.TheVariants.{Fine, Refused}
+use Rattle.cells.specs.Checks.{Verdict}
 use Rattle.cells.specs.Checks.{refuse_when, ◌then◌, by_verdict}
 use Rattle.cells.specs.Refusals.{told}
 use Rattle.grids.specs.Grid.{shape}
@@ -42,8 +43,6 @@ use Rattle.records.specs.declared.venues.VenueRead.{VenueRead}
 use Rattle.records.specs.Heads.{length_field, announced, version_of, whole_check}
 use Rattle.records.specs.Venues.{venue_check, venue_read, venue_cells, start_of}
 use Rattle.records.specs.Pairs.{pair_version, pair_length, rule_byte, pair_in, pair_check, pair_read}
-use Rattle.program.specs.declared.Next.{Next}
-use Rattle.program.specs.declared.Next.TheVariants.{On, Over}
 use Rattle.program.specs.declared.Step.{Step}
 use Rattle.program.specs.Program.{Said, venue_most, pair_most, beyond, venue_said, pair_said, then_on, pairs, after_venue, output, frame, frame_length}
 use Rattle.program.specs.Program.{after_frame, Says, text_room, after_refusal, answers, walk_line, walk_lines, said_of_walks, said_of_pair}
@@ -78,22 +77,22 @@ written said = text_of (says_so said)
 
 module _ (n : Counts) (cells : List ℕ) where
   -- nothing left, nothing said
-  nothing_said : (k : ℕ) (s : List ℕ) → length s ≡ 0 → pair_said n cells k s ≡ record { text = []; next = Over }
+  nothing_said : (k : ℕ) (s : List ℕ) → length s ≡ 0 → pair_said n cells k s ≡ record { text = []; next = None }
   unfolding pair_said
   nothing_said k s none = rw (eq-eqb (length s) 0 none)
 
-  last_pair : (turns k : ℕ) (s : List ℕ) → length s ≤ turns → (pair_said n cells k s).next ≡ Over → pairs turns n cells k s ≡ (pair_said n cells k s).text
+  last_pair : (turns k : ℕ) (s : List ℕ) → length s ≤ turns → (pair_said n cells k s).next ≡ None → pairs turns n cells k s ≡ (pair_said n cells k s).text
   unfolding pairs
   last_pair zero k s le stop = rw (nothing_said k s (omega arith))
   last_pair (suc turns) k s le stop = rw stop (append-nil (pair_said n cells k s).text)
 
-  next_pair : (turns k j : ℕ) (s : List ℕ) → (pair_said n cells k s).next ≡ On j
+  next_pair : (turns k j : ℕ) (s : List ℕ) → (pair_said n cells k s).next ≡ Some j
       → pairs (suc turns) n cells k s ≡ (pair_said n cells k s).text ++ pairs turns n cells j (after_frame pair_most s)
   unfolding pairs
   next_pair turns k j s on = let (_, within) = pair_on n cells k s j on in rw (on, after_same pair_most s within)
 
   -- what is left after a pair needs fewer turns
-  fewer : (turns k j : ℕ) (s : List ℕ) → length s ≤ suc turns → (pair_said n cells k s).next ≡ On j → length (after_frame pair_most s) ≤ turns
+  fewer : (turns k j : ℕ) (s : List ℕ) → length s ≤ suc turns → (pair_said n cells k s).next ≡ Some j → length (after_frame pair_most s) ≤ turns
   fewer turns k j s le on =
       let (some, within) = pair_on n cells k s j on in
       let less = less_left s some in
@@ -119,12 +118,12 @@ module _ (n : Counts) (cells : List ℕ) where
     abbrev of_frame : Said
     of_frame = pair_said n cells k (frame pair_most s)
 
-    ends_here : (turns : ℕ) → length s ≤ turns → (pair_said n cells k s).next ≡ Over → Pairs n cells k s (pairs turns n cells k s)
+    ends_here : (turns : ℕ) → length s ≤ turns → (pair_said n cells k s).next ≡ None → Pairs n cells k s (pairs turns n cells k s)
     ends_here turns le stop =
         subst (Pairs n cells k s) (wrote k s (says_so of_frame) ∙ sym (last_pair turns k s le stop))
         (last (says_so of_frame) (sym (goes k s (says_so of_frame)) ∙ stop))
 
-    goes_on : (turns j : ℕ) → (pair_said n cells k s).next ≡ On j → Pairs n cells j (after_frame pair_most s) (pairs turns n cells j (after_frame pair_most s))
+    goes_on : (turns j : ℕ) → (pair_said n cells k s).next ≡ Some j → Pairs n cells j (after_frame pair_most s) (pairs turns n cells j (after_frame pair_most s))
         → Pairs n cells k s (pairs (suc turns) n cells k s)
     goes_on turns j on rest =
         subst (Pairs n cells k s)
@@ -136,9 +135,9 @@ module _ (n : Counts) (cells : List ℕ) where
   some_pairs (suc turns) k s le = by (λ j. some_pairs turns j (after_frame pair_most s)) (pair_said n cells k s).next refl
     where
       by : ((j : ℕ) → length (after_frame pair_most s) ≤ turns → Pairs n cells j (after_frame pair_most s) (pairs turns n cells j (after_frame pair_most s)))
-          → (x : Next) → (pair_said n cells k s).next ≡ x → Pairs n cells k s (pairs (suc turns) n cells k s)
-      by rest Over stop = ends_here k s (suc turns) le stop
-      by rest (On j) on = goes_on k s turns j on (rest j (fewer turns k j s le on))
+          → (x : Option ℕ) → (pair_said n cells k s).next ≡ x → Pairs n cells k s (pairs (suc turns) n cells k s)
+      by rest None stop = ends_here k s (suc turns) le stop
+      by rest (Some j) on = goes_on k s turns j on (rest j (fewer turns k j s le on))
 
 -- ---- the whole run
 
@@ -147,10 +146,10 @@ module _ (s : List ℕ) where
   unfolding output
   output_is = refl
 
-  stops : (venue_said s).next ≡ Over → output s ≡ (venue_said s).text
+  stops : (venue_said s).next ≡ None → output s ≡ (venue_said s).text
   stops stop = output_is ∙ rw stop (append-nil (venue_said s).text)
 
-  begins_with : (k : ℕ) → (venue_said s).next ≡ On k → (v : Venue) → venue_read s ≡ VenueRead.Read v
+  begins_with : (k : ℕ) → (venue_said s).next ≡ Some k → (v : Venue) → venue_read s ≡ Ok v
       → output s ≡ (venue_said s).text ++ pairs (length s) v.counts (venue_cells s) k (after_frame venue_most s)
   begins_with k on v e = output_is ∙ rw (on, e, after_same venue_most s (venue_on s k on))
 
@@ -185,11 +184,11 @@ module _ (s : List ℕ) where
       lent : Bor (List ℕ)
       lent = record { ref_ptr = (0, 0); now = frame venue_most s }
 
-      by : (x : Next) (r : VenueRead) → (venue_said s).next ≡ x → venue_read s ≡ r → Runs s (output s)
-      by Over r stop e =
+      by : (x : Option ℕ) (r : VenueRead) → (venue_said s).next ≡ x → venue_read s ≡ r → Runs s (output s)
+      by None r stop e =
           subst (Runs s) (venue_wrote (says_so venue_frame) ∙ sym (stops stop)) (ends (says_so venue_frame) (sym (venue_goes (says_so venue_frame)) ∙ stop))
-      by (On k) (VenueRead.Refused r) on e = absurd (venue_taken s r k on e)
-      by (On k) (VenueRead.Read v) on e =
+      by (Some k) (Err r) on e = absurd (venue_taken s r k on e)
+      by (Some k) (Ok v) on e =
           let within = venue_on s k on in
           subst (Runs s)
           (ap (λ a. a ++ pairs (length s) v.counts (venue_cells s) k (after_frame venue_most s)) (venue_wrote (says_so venue_frame))
@@ -211,12 +210,12 @@ writes s = record { only = λ out. only_run s; some = some_run s }
 
 -- fine, or refused 5
 abbrev FineOrFive : Verdict → Type 0
-FineOrFive Fine = Unit {0}
-FineOrFive (Refused r) = (told r).number ≡ 5
+FineOrFive (Ok _) = Unit {0}
+FineOrFive (Err r) = (told r).number ≡ 5
 
 five_then : (v w : Verdict) → FineOrFive v → FineOrFive w → FineOrFive (v then w)
-five_then Fine w a b = b
-five_then (Refused r) w a b = a
+five_then (Ok _) w a b = b
+five_then (Err r) w a b = a
 
 five_when : (t : Bool) (e : End) (a : Axis) → FineOrFive (refuse_when t (OffGrid e a))
 five_when true e a = refl
@@ -228,19 +227,19 @@ five_at e n c =
     (five_then (refuse_when (off_axis c.y n.ny) (OffGrid e Y)) _ (five_when (off_axis c.y n.ny) e Y) (five_when (off_axis c.z n.nz) e Z))
 
 -- where the shape is fine, no test is left but those of the ends
-walk_five : (n : Counts) (bytes : ℕ) (p q : Cell) → shape n bytes ≡ Fine → FineOrFive (walk_check n bytes p q)
+walk_five : (n : Counts) (bytes : ℕ) (p q : Cell) → shape n bytes ≡ Ok tt → FineOrFive (walk_check n bytes p q)
 unfolding walk_check
 walk_five n bytes p q fine =
     subst (λ (v : Verdict). FineOrFive (v then grid_check P n p then grid_check Q n q)) (sym fine)
     (five_then (grid_check P n p) _ (five_at P n p) (five_at Q n q))
 
 -- where all tests are passed, a walk is made
-walked : (w : Walker) (how : Manner) (n : Counts) (l : List ℕ) (p q : Cell) → walk_check n (length l) p q ≡ Fine → Walked (first_hit w how n l p q)
+walked : (w : Walker) (how : Manner) (n : Counts) (l : List ℕ) (p q : Cell) → walk_check n (length l) p q ≡ Ok tt → Walked (first_hit w how n l p q)
 walked w how n l p q fine =
     let c : Conduct = conduct how p q in
     subst Walked (sym (first_hit_is how n l p q w)) (rw fine (by (hits_at c n l p q (end_of c n l p q w)) _ _))
   where
-    by : (b : Bool) (h : Hit) (reads : ℕ) → Walked (cond b (FirstHit.Hit h) (FirstHit.Clear reads))
+    by : (b : Bool) (h : Hit) (reads : ℕ) → Walked (cond b (Ok (FirstHit.Hit h)) (Ok (FirstHit.Clear reads)))
     by true h reads = tt
     by false h reads = tt
 
@@ -257,7 +256,7 @@ whole_said n cells k t there long =
     )
 
 -- so is one that is read
-read_said : (n : Counts) (cells : List ℕ) (k : ℕ) (t : List ℕ) (e : Pair) → pair_read t ≡ PairRead.Read e
+read_said : (n : Counts) (cells : List ℕ) (k : ℕ) (t : List ℕ) (e : Pair) → pair_read t ≡ Ok e
     → pair_said n cells k t ≡ said_of_walks k (walk_check n (length cells) e.p e.q) (answers n cells e)
 read_said n cells k t e read =
     let (w, same) = pair_accepted t e read in whole_said n cells k t w.there w.long ∙ ap (said_of_pair n cells k) read
@@ -282,14 +281,14 @@ five_or_lines bytes given t v e =
     q : Cell
     q = e.q
 
-    found : List (ℕ × FirstHit)
+    found : List (ℕ × (Result FirstHit Refusal))
     found = answers n cells e
 
-    by : (k : ℕ) → shape n (length cells) ≡ Fine → {said : Said} → said ≡ said_of_walks k (walk_check n (length cells) p q) found
+    by : (k : ℕ) → shape n (length cells) ≡ Ok tt → {said : Said} → said ≡ said_of_walks k (walk_check n (length cells) p q) found
         → (w : Verdict) → walk_check n (length cells) p q ≡ w
         → (said ≡ going_on k (pair_refused_line k 5)) ⊎ ((said ≡ going_on k (walk_lines k found)) × AllWalked found)
-    by k fine is Fine w = inr (is ∙ ap (λ u. said_of_walks k u found) w, (walked Plain _ n cells p q w, (walked Adaptive _ n cells p q w, tt)))
-    by k fine is (Refused r) w =
+    by k fine is (Ok _) w = inr (is ∙ ap (λ u. said_of_walks k u found) w, (walked Plain _ n cells p q w, (walked Adaptive _ n cells p q w, tt)))
+    by k fine is (Err r) w =
         let five : (told r).number ≡ 5 = subst FineOrFive w (walk_five n (length cells) p q fine) in
         inl (is ∙ ap (λ u. said_of_walks k u found) w ∙ ap (λ number. record { text = pair_refused_line k number; next = after_refusal k number }) five)
 
@@ -308,16 +307,16 @@ head_other t known misfit =
     (not_first 12 (not known) Version _ (λ e. omega (arith, e)) (not_when 12 misfit Record (λ e. omega (arith, e))))
 
 -- so where a pair is refused 12 they are passed
-head_passed : (v w : Verdict) (e : Pair) → NotBy 12 v → by_verdict PairRead.Refused (PairRead.Read e) (v then w) ≡ PairRead.Refused NoRule → v ≡ Fine
-head_passed Fine w e other is = refl
-head_passed (Refused r) w e other is = absurd (let same : r ≡ NoRule = cc in other (ap (λ u. (told u).number) same))
+head_passed : (v w : Verdict) (e : Pair) → NotBy 12 v → by_verdict Err (Ok e) (v then w) ≡ Err NoRule → v ≡ Ok tt
+head_passed (Ok _) w e other is = refl
+head_passed (Err r) w e other is = absurd (let same : r ≡ NoRule = cc in other (ap (λ u. (told u).number) same))
 
 pub twelve_goes_on : (n : Counts) (cells t : List ℕ) → TwelveGoesOn n cells t
 unfolding pair_read
 twelve_goes_on n cells t =
     record {
       goes_on = λ refused k.
-          let is = ap (by_verdict PairRead.Refused (PairRead.Read (pair_in t))) (sym (pair_tests t)) ∙ sym refused.says in
+          let is = ap (by_verdict Err (Ok (pair_in t))) (sym (pair_tests t)) ∙ sym refused.says in
           let known = pair_version (version_of t) in
           let misfit = not (eqb (announced t) (pair_length (version_of t))) in
           let w = head_fits t known misfit (head_passed (pair_head_tests t) (rule_check (rule_byte t)) (pair_in t) (head_other t known misfit) is) in
@@ -334,8 +333,8 @@ pub one_step : (entry : List ℕ) → OneStep entry
 one_step entry = record { venue = λ frame r t x y. one; pair = λ n cells k frame r t x y. one }
 
 -- the end is no number
-over_not_on : (k : ℕ) {next : Next} → next ≡ Over → next ≡ On k → ⊥
-over_not_on k e f = let g : On k ≡ Over = sym f ∙ e in let z : ◌≡◌ {A = ℕ} 0 1 = cc in omega arith
+over_not_on : (k : ℕ) {next : (Option ℕ)} → next ≡ None → next ≡ Some k → ⊥
+over_not_on k e f = let g : Some k ≡ None = sym f ∙ e in let z : ◌≡◌ {A = ℕ} 0 1 = cc in omega arith
 
 pub starts_tested : (n : Counts) (cells : List ℕ) (e : Pair) → TestedStart n cells e
 starts_tested n cells e =

@@ -1,4 +1,5 @@
 -- The claims about venue and pair records, each from its law. Assumes nothing.
+use Rattle.std.specs.Prelude.{Ok, Err}
 use Prim.Native.Nat.{ℕ, ◌+◌, ◌-◌, ◌*◌, ◌≤◌}
 use native.Mathlib.Nat.{mul-le-mul}
 use native.Mathlib.Omega.{arith}
@@ -14,7 +15,6 @@ use Rattle.cells.specs.Parts.{StartsAt}
 use Rattle.cells.specs.declared.Counts.{Counts}
 use Rattle.cells.specs.declared.Rule.{Rule}
 use Rattle.cells.specs.declared.Rule.TheVariants.{One, Two}
-use Rattle.cells.specs.declared.Verdict.TheVariants.{Fine}
 use Rattle.cells.specs.Manners.{rule_of, rule_check}
 use Rattle.cells.proofs.Checks.{passed, by_refusal}
 use Rattle.cells.proofs.Conditions.{or_means, eqb_means}
@@ -40,8 +40,8 @@ use Rattle.claims.proofs.Grids.{one, one_place}
 
 -- 1 where a venue was written
 accepts : Written → ℕ
-accepts (Written.Wrote n) = 1
-accepts (Written.Refused r) = 0
+accepts (Ok n) = 1
+accepts (Err r) = 0
 
 pub one_answer : OneAnswer
 unfolding accepts
@@ -52,7 +52,7 @@ one_answer =
       pair = λ s r t e f. one r t e.says f.says;
       written = λ n cells entry r t x y e f. (one r t e.says f.says, one x y e.holds f.holds);
       untouched = λ n cells entry r x e.
-          by_refusal Written.Refused (write_check n (length cells) (length entry)) (Written.Wrote (record_length n)) (after_writing n cells entry)
+          by_refusal Err (write_check n (length cells) (length entry)) (Ok (record_length n)) (after_writing n cells entry)
           (λ no. let z : ◌≡◌ {A = ℕ} 1 0 = ap accepts no in omega arith) (sym e.says) e.holds;
     }
 
@@ -74,7 +74,7 @@ right : (s : List ℕ) (v : Venue) → venue_read s ≡ Read v → Right s v
 unfolding venue_version venue_head
 right s v e =
     let (w, f) = venue_accepted s v e in
-    let fine : shape v.counts v.long ≡ Fine = subst (λ (u : Venue). shape u.counts u.long ≡ Fine) f w.shaped in
+    let fine : shape v.counts v.long ≡ Ok tt = subst (λ (u : Venue). shape u.counts u.long ≡ Ok tt) f w.shaped in
     let size_is = (shaped v.counts v.long fine).bytes_are in
     let long : announced s - 7 ≡ v.long = ap (λ (u : Venue). u.long) f in
     let head = w.head in
@@ -83,12 +83,12 @@ right s v e =
       version = eqb-true _ _ w.version;
       length_is = omega arith;
       counts_are = sym (ap (λ (u : Venue). u.counts) f);
-      shape_is = subst (λ (k : ℕ). shape v.counts k ≡ Fine) size_is fine;
+      shape_is = subst (λ (k : ℕ). shape v.counts k ≡ Ok tt) size_is fine;
       part = (sym (ap (λ (u : Venue). u.start) f), size_is);
     }
 
 -- the tests that both records begin with, passed
-whole_fine : (s : List ℕ) → 4 + announced s ≤ length s → 1 ≤ announced s → whole_check s ≡ Fine
+whole_fine : (s : List ℕ) → 4 + announced s ≤ length s → 1 ≤ announced s → whole_check s ≡ Ok tt
 unfolding whole_check
 whole_fine s there some =
     rw (
@@ -101,13 +101,13 @@ accepted_venue : (s : List ℕ) (v : Venue) → Right s v → Read v ≡ venue_r
 unfolding venue_version venue_head venue_check venue_read
 accepted_venue s v r =
     let long : announced s - 7 ≡ size v.counts = omega (arith, r.length_is) in
-    let fine : shape (counts_at s 5) (announced s - 7) ≡ Fine =
-    subst (λ (m : Counts). shape m (announced s - 7) ≡ Fine) r.counts_are (subst (λ (k : ℕ). shape v.counts k ≡ Fine) (sym long) r.shape_is) in
+    let fine : shape (counts_at s 5) (announced s - 7) ≡ Ok tt =
+    subst (λ (m : Counts). shape m (announced s - 7) ≡ Ok tt) r.counts_are (subst (λ (k : ℕ). shape v.counts k ≡ Ok tt) (sym long) r.shape_is) in
     rw (whole_fine s r.whole (omega (arith, r.length_is)), r.version, le-ltb (announced s) 7 (omega (arith, r.length_is)), fine)
     (ap Read (λ i. record { counts = r.counts_are i; start = r.part.0 i; long = (r.part.1 ∙ sym long) i }))
 
 -- a number that is not refused 12 names a rule
-ruled : (b : ℕ) → rule_check b ≡ Fine → ((b ≡ 1) × (rule_of b ≡ One)) ⊎ ((b ≡ 2) × (rule_of b ≡ Two))
+ruled : (b : ℕ) → rule_check b ≡ Ok tt → ((b ≡ 1) × (rule_of b ≡ One)) ⊎ ((b ≡ 2) × (rule_of b ≡ Two))
 unfolding rule_check rule_of
 ruled b fine =
     ⊎_elim (λ is. inl (is, ap (λ k. cond (eqb k 2) Two One) is)) (λ is. inr (is, ap (λ k. cond (eqb k 2) Two One) is))
@@ -119,7 +119,7 @@ Versions s rule =
     ((version_of s ≡ 1) × (announced s ≡ 13) × (rule ≡ One))
     ⊎ ((version_of s ≡ 2) × (announced s ≡ 14) × (((get_or s 17 0 ≡ 1) × (rule ≡ One)) ⊎ ((get_or s 17 0 ≡ 2) × (rule ≡ Two))))
 
-right_pair : (s : List ℕ) (e : Pair) → PairRead.Read e ≡ pair_read s → RightPair s e
+right_pair : (s : List ℕ) (e : Pair) → Ok e ≡ pair_read s → RightPair s e
 unfolding pair_version pair_length rule_byte rule_of
 right_pair s e h =
     let (w, same) = pair_accepted s e (sym h) in
@@ -132,7 +132,7 @@ right_pair s e h =
     }
   where
     by : e.rule ≡ rule_of (cond (eqb (version_of s) 2) (get_or s 17 0) 1) → announced s ≡ cond (eqb (version_of s) 2) 14 13 →
-        rule_check (cond (eqb (version_of s) 2) (get_or s 17 0) 1) ≡ Fine → (version_of s ≡ 1) ⊎ (version_of s ≡ 2) → Versions s e.rule
+        rule_check (cond (eqb (version_of s) 2) (get_or s 17 0) 1) ≡ Ok tt → (version_of s ≡ 1) ⊎ (version_of s ≡ 2) → Versions s e.rule
     by rule long fine (inl first) = inl (first, rw first at long, rw first at rule)
     by rule long fine (inr second) =
         let is : e.rule ≡ rule_of (get_or s 17 0) = rw second at rule in
@@ -142,17 +142,17 @@ right_pair s e h =
           ⊎_elim (λ (byte, r). inl (byte, is ∙ r)) (λ (byte, r). inr (byte, is ∙ r)) (ruled (get_or s 17 0) (rw second at fine)),
         )
 
-accepted_pair : (s : List ℕ) (e : Pair) → RightPair s e → PairRead.Read e ≡ pair_read s
+accepted_pair : (s : List ℕ) (e : Pair) → RightPair s e → Ok e ≡ pair_read s
 unfolding pair_read pair_check pair_version pair_length rule_byte rule_check rule_of
 accepted_pair s e r = by r.version
   where
     read : {rule : Rule} → e.rule ≡ rule → e ≡ record { p = (pair_in s).p; q = (pair_in s).q; rule = rule }
     read is = λ i. record { p = r.p_is i; q = r.q_is i; rule = is i }
 
-    by : Versions s e.rule → PairRead.Read e ≡ pair_read s
-    by (inl (first, long, is)) = rw (whole_fine s r.whole (omega (arith, long)), first, long) (ap PairRead.Read (read is))
-    by (inr (second, long, inl (byte, is))) = rw (whole_fine s r.whole (omega (arith, long)), second, long, byte) (ap PairRead.Read (read is))
-    by (inr (second, long, inr (byte, is))) = rw (whole_fine s r.whole (omega (arith, long)), second, long, byte) (ap PairRead.Read (read is))
+    by : Versions s e.rule → Ok e ≡ pair_read s
+    by (inl (first, long, is)) = rw (whole_fine s r.whole (omega (arith, long)), first, long) (ap Ok (read is))
+    by (inr (second, long, inl (byte, is))) = rw (whole_fine s r.whole (omega (arith, long)), second, long, byte) (ap Ok (read is))
+    by (inr (second, long, inr (byte, is))) = rw (whole_fine s r.whole (omega (arith, long)), second, long, byte) (ap Ok (read is))
 
 pub accepted : (s : List ℕ) → Accepted s
 accepted s =
@@ -198,7 +198,7 @@ pub read_back_same : (n : Counts) (cells entry : List ℕ) → ReadBack n cells 
 unfolding venue_head
 read_back_same n cells entry = record { same = same; in_place = in_place }
   where
-    same : (exit : List ℕ) (k : ℕ) → WritesVenue n cells entry (Written.Wrote k) exit → (rest : List ℕ) (bytes part : Bor (List ℕ)) (r : VenueRead) →
+    same : (exit : List ℕ) (k : ℕ) → WritesVenue n cells entry (Ok k) exit → (rest : List ℕ) (bytes part : Bor (List ℕ)) (r : VenueRead) →
         bytes.now ≡ take k exit ++ rest → ReadsVenue bytes.now r → GivesCells bytes part → SameVenue n cells bytes part r
     same exit k c rest bytes part r is reads gives =
         let f = front_written n cells entry exit k c in
@@ -213,7 +213,7 @@ read_back_same n cells entry = record { same = same; in_place = in_place }
           there = subst (λ (a : VenueRead). StartsAt (start_of a) bytes part) back gives.there;
         }
 
-    in_place : (exit : List ℕ) (k : ℕ) → WritesVenue n cells entry (Written.Wrote k) exit → (bytes part : Bor (List ℕ)) (r : VenueRead) →
+    in_place : (exit : List ℕ) (k : ℕ) → WritesVenue n cells entry (Ok k) exit → (bytes part : Bor (List ℕ)) (r : VenueRead) →
         bytes.now ≡ exit → ReadsVenue bytes.now r → GivesCells bytes part → SameVenue n cells bytes part r
     in_place exit k c bytes part r is = same exit k c (drop k exit) bytes part r (is ∙ sym (take-append-drop k exit))
 

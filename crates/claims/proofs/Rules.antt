@@ -1,4 +1,6 @@
 -- The claims about the two rules for ties, from the laws of lines and from the calls' contracts. Assumes nothing.
+use Rattle.std.specs.Prelude.{Ok, Err, Result}
+use Rattle.cells.specs.declared.Refusal.{Refusal}
 use Prim.Native.Nat.{ℕ, ◌+◌, ◌-◌, ◌*◌, ◌≤◌, ◌<◌}
 use mathlib.Core.Path.{◌≡◌, refl, sym, ap, ◌∙◌, subst}
 use mathlib.Core.Bool.{true, false, cond}
@@ -16,7 +18,6 @@ use Rattle.cells.specs.declared.Axis.TheVariants.{Y}
 use Rattle.cells.specs.declared.Rule.TheVariants.{One, Two}
 use Rattle.cells.specs.declared.Start.{Start}
 use Rattle.cells.specs.declared.Start.TheVariants.{Untested, Tested}
-use Rattle.cells.specs.declared.Verdict.TheVariants as Verdict
 use Rattle.cells.specs.Manners.{tested_by}
 use Rattle.cells.proofs.Checks.{fine_first}
 use Rattle.cells.proofs.Conditions.{lt_z_means}
@@ -26,8 +27,6 @@ use Rattle.lines.specs.Lines.{differences, six_cell, six_line}
 use Rattle.lines.proofs.Cells.{six_length}
 use Rattle.lines.proofs.Mirror.{Compared, less, more, equal, compared, Which, p_first, q_first, one, which}
 use Rattle.lines.proofs.Mirror.{rule_1_order, order_from, either_way_total, rule_2_mirror, line_mirror, six_same, line_same}
-use Rattle.lists.specs.declared.Listed.{Listed}
-use Rattle.lists.specs.declared.Listed.TheVariants.{Cells}
 use Rattle.lists.specs.Lists.{ends_check, Line6}
 use Rattle.lists.proofs.Front.{ends_fine, limits_pass}
 use Rattle.grids.specs.Grid.{byte_of, solid}
@@ -124,7 +123,7 @@ module _ (p q : Cell) where
       let e : N - (N - n) ≡ n = omega arith in
       ap (six_cell (by_rule Two q p) q p) (sym e) ∙ rule_2_mirror p q (N - n) (omega arith)
 
-  lists_mirror : (entry exit other last : List ℤ) (k j : ℕ) → Line6 Two p q entry (Cells k) exit → Line6 Two q p other (Cells j) last →
+  lists_mirror : (entry exit other last : List ℤ) (k j : ℕ) → Line6 Two p q entry (Ok k) exit → Line6 Two q p other (Ok j) last →
       (j ≡ k) × ((n : ℕ) → n < k → three_at last (3 * n) ≡ three_at exit (3 * (k - 1 - n)))
   lists_mirror entry exit other last k j h g =
       let there = (cells_listed p q entry exit k).six Two h in
@@ -137,8 +136,8 @@ module _ (p q : Cell) where
             ∙ sym (there.each (k - 1 - n) (omega arith)),
       )
 
-  both_accepted : (entry exit other last : List ℤ) (k : ℕ) (r : Listed) → Line6 Two p q entry (Cells k) exit → length entry ≤ length other →
-      Line6 Two q p other r last → r ≡ Cells k
+  both_accepted : (entry exit other last : List ℤ) (k : ℕ) (r : Result ℕ Refusal) → Line6 Two p q entry (Ok k) exit → length entry ≤ length other →
+      Line6 Two q p other r last → r ≡ Ok k
   both_accepted entry exit other last k r h long-enough g =
       let line = six_line (by_rule Two p q) p q in
       let back = six_line (by_rule Two q p) q p in
@@ -147,7 +146,7 @@ module _ (p q : Cell) where
       let long : length back ≡ length line = six_length (by_rule Two q p) q p
       ∙ ap (λ m. m + 1) (either_way_total p q) ∙ sym (six_length (by_rule Two p q) p q) in
       let room : 3 * length back ≤ length other = omega (arith, roomy line (ends_check p q) entry exit k h) in
-      g.says ∙ rw (limits_pass q p hq hp, le-ltb (length other) (3 * length back) room) (ap Cells long ∙ is)
+      g.says ∙ rw (limits_pass q p hq hp, le-ltb (length other) (3 * length back) room) (ap Ok long ∙ is)
 
 pub mirrored : (p q : Cell) → Mirror p q
 mirrored p q =
@@ -168,15 +167,15 @@ same_line p q =
 -- ---- there and back
 
 -- with the ends exchanged a walk passes its tests too
-back_fine : (n : Counts) (l : List ℕ) (p q : Cell) → walk_check n (length l) p q ≡ Verdict.Fine → walk_check n (length l) q p ≡ Verdict.Fine
+back_fine : (n : Counts) (l : List ℕ) (p q : Cell) → walk_check n (length l) p q ≡ Ok tt → walk_check n (length l) q p ≡ Ok tt
 back_fine n l p q fine =
     let a = accepted n (length l) p q fine in
     walk_fine n (length l) q p (record { shaped = a.shaped; p_in = a.q_in; q_in = a.p_in })
 
 -- a cell of the line back is one of the line there, and so no hit where that is clear
 module _ (n : Counts) (l : List ℕ) (p q : Cell) where
-  none_back : (reads : ℕ) → Finds Plain (tested_by Two) n l p q (FirstHit.Clear reads) → (k : Hit) →
-      Finds Plain (tested_by Two) n l q p (FirstHit.Hit k) → ⊥
+  none_back : (reads : ℕ) → Finds Plain (tested_by Two) n l p q (Ok (FirstHit.Clear reads)) → (k : Hit) →
+      Finds Plain (tested_by Two) n l q p (Ok (FirstHit.Hit k)) → ⊥
   none_back reads h k g =
       let (s, on) = (first_on_line (tested_by Two) n l q p).hit k g in
       let le : s ≤ total (differences p q) = omega (arith, on.most, either_way_total p q) in
@@ -188,35 +187,35 @@ module _ (n : Counts) (l : List ℕ) (p q : Cell) where
       let z : ◌≡◌ {A = ℕ} 0 1 = ap (λ b. cond b 1 0) (sym clear-there ∙ ap (λ c. solid (byte_of n l c)) (sym is) ∙ solid_there) in
       omega arith
 
-  clear_back : (reads : ℕ) (s : FirstHit) → Finds Plain (tested_by Two) n l p q (FirstHit.Clear reads) → Finds Plain (tested_by Two) n l q p s →
-      s ≡ FirstHit.Clear reads
-  clear_back reads (FirstHit.Clear m) h g =
+  clear_back : (reads : ℕ) (s : Result FirstHit Refusal) → Finds Plain (tested_by Two) n l p q (Ok (FirstHit.Clear reads)) → Finds Plain (tested_by Two) n l q p s →
+      s ≡ Ok (FirstHit.Clear reads)
+  clear_back reads (Ok (FirstHit.Clear m)) h g =
       let e : m ≡ reads =
       omega (arith, (reads_hold (tested_by Two) n l p q).plain reads h, (reads_hold (tested_by Two) n l q p).plain m g, either_way_total p q) in
-      ap FirstHit.Clear e
-  clear_back reads (FirstHit.Hit k) h g = absurd (none_back reads h k g)
-  clear_back reads (FirstHit.Refused r) h g =
+      ap Ok (FirstHit.Clear e)
+  clear_back reads (Ok (FirstHit.Hit k)) h g = absurd (none_back reads h k g)
+  clear_back reads (Err r) h g =
       absurd (not_refused (tested_by Two) n l q p Plain (back_fine n l p q (clear_found (tested_by Two) n l p q Plain reads h).0) r g)
 
 -- a walk that is clear there is no hit back
-hit_back : (n : Counts) (l : List ℕ) (p q : Cell) (h : Hit) (s : FirstHit) → Finds Plain (tested_by Two) n l p q (FirstHit.Hit h) →
-    Finds Plain (tested_by Two) n l q p s → (k : Hit) × (s ≡ FirstHit.Hit k)
-hit_back n l p q h (FirstHit.Hit k) a g = (k, refl)
-hit_back n l p q h (FirstHit.Clear m) a g = absurd (none_back n l q p m g h a)
-hit_back n l p q h (FirstHit.Refused r) a g =
+hit_back : (n : Counts) (l : List ℕ) (p q : Cell) (h : Hit) (s : Result FirstHit Refusal) → Finds Plain (tested_by Two) n l p q (Ok (FirstHit.Hit h)) →
+    Finds Plain (tested_by Two) n l q p s → (k : Hit) × (s ≡ Ok (FirstHit.Hit k))
+hit_back n l p q h (Ok (FirstHit.Hit k)) a g = (k, refl)
+hit_back n l p q h (Ok (FirstHit.Clear m)) a g = absurd (none_back n l q p m g h a)
+hit_back n l p q h (Err r) a g =
     absurd (not_refused (tested_by Two) n l q p Plain (back_fine n l p q (hit_found (tested_by Two) n l p q Plain h a).0) r g)
 
 -- of one story both are clear, or both hit
-pub told_clear : {a : FirstHit} {m : ℕ} → SameStory a (FirstHit.Clear m) → (r : ℕ) × (a ≡ FirstHit.Clear r)
+pub told_clear : {a : (Result FirstHit Refusal)} {m : ℕ} → SameStory a (Ok (FirstHit.Clear m)) → (r : ℕ) × (a ≡ Ok (FirstHit.Clear r))
 told_clear (clears {r} le) = (r, refl)
 
-told_hit : {a : FirstHit} {k : Hit} → SameStory a (FirstHit.Hit k) → (h : Hit) × (a ≡ FirstHit.Hit h)
+told_hit : {a : (Result FirstHit Refusal)} {k : Hit} → SameStory a (Ok (FirstHit.Hit k)) → (h : Hit) × (a ≡ Ok (FirstHit.Hit h))
 told_hit (hits {h} _ _ _ _) = (h, refl)
 
-then_clear : {b : FirstHit} {r : ℕ} → SameStory (FirstHit.Clear r) b → (m : ℕ) × (b ≡ FirstHit.Clear m)
+then_clear : {b : (Result FirstHit Refusal)} {r : ℕ} → SameStory (Ok (FirstHit.Clear r)) b → (m : ℕ) × (b ≡ Ok (FirstHit.Clear m))
 then_clear (clears {r} {s} le) = (s, refl)
 
-then_hit : {b : FirstHit} {h : Hit} → SameStory (FirstHit.Hit h) b → (k : Hit) × (b ≡ FirstHit.Hit k)
+then_hit : {b : (Result FirstHit Refusal)} {h : Hit} → SameStory (Ok (FirstHit.Hit h)) b → (k : Hit) × (b ≡ Ok (FirstHit.Hit k))
 then_hit (hits {h} {k} _ _ _ _) = (k, refl)
 
 pub both_ways : (n : Counts) (l : List ℕ) (p q : Cell) → BothWays n l p q

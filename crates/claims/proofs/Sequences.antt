@@ -1,4 +1,6 @@
 -- What calls that keep counts do one after another: each keeps the relation, which gives all that is claimed. Assumes nothing.
+use Rattle.std.specs.Prelude.{Ok, Err, Result}
+use Rattle.cells.specs.declared.Refusal.{Refusal}
 use Prim.Native.Nat.{ℕ}
 use mathlib.Core.Path.{◌≡◌, sym, subst, ap, ◌∙◌}
 use mathlib.Core.List.{List}
@@ -6,13 +8,11 @@ use lib.Count.{ones}
 use Rattle.cells.specs.declared.Cell.{Cell}
 use Rattle.cells.specs.declared.Counts.{Counts}
 use Rattle.cells.specs.declared.Refusal.TheVariants.{Stale}
-use Rattle.cells.specs.declared.Verdict.{Verdict}
-use Rattle.cells.specs.declared.Verdict.TheVariants.{Fine}
+use Rattle.cells.specs.Checks.{Verdict}
 use Rattle.cells.specs.Checks.{by_verdict}
 use Rattle.grids.specs.Grid.{shape}
 use Rattle.grids.specs.Marks.{marked, Marks}
 use Rattle.grids.proofs.Marking.{marked_same}
-use Rattle.bricks.specs.declared.Tally.{Tally}
 use Rattle.bricks.specs.Sums.{bit}
 use Rattle.bricks.specs.Bricks.{brick_there, bit_there}
 use Rattle.bricks.specs.Builds.{built, Builds}
@@ -38,13 +38,13 @@ module _ (n : Counts) (l m : List ℕ) where
         fresh_count = h.fresh;
       }
 
-  kept_by_build : (t : ℕ) (m' : List ℕ) → Builds n l m (Tally.Total t) m' → Kept n l m' t
+  kept_by_build : (t : ℕ) (m' : List ℕ) → Builds n l m (Ok t) m' → Kept n l m' t
   kept_by_build t m' c =
       let (fine, total, there) = build_says n l m t m' c in
       subst (λ (q : List ℕ). Kept n l q t) (sym there) (subst (Kept n l (built n l m)) (sym total) (kept_built n l m fine))
 
   kept_by_refill :
-      (low high : Cell) (byte total t : ℕ) (l' m' : List ℕ) → Kept n l m total → Refills n low high byte l m total (Tally.Total t) l' m' → Kept n l' m' t
+      (low high : Cell) (byte total t : ℕ) (l' m' : List ℕ) → Kept n l m total → Refills n low high byte l m total (Ok t) l' m' → Kept n l' m' t
   kept_by_refill low high byte total t l' m' h c =
       let a = accepted_says n low high byte l m total t l' m' c in
       let lo = corner low in
@@ -60,14 +60,14 @@ module _ (n : Counts) (l m : List ℕ) where
       let same = marked_same 3 n l in
       let is : l' ≡ marked 3 n l = c.holds ∙ ap (by_verdict (λ r. l) (marked 3 n l)) h.grid in
       subst (λ (q : List ℕ). Kept n q m total) (sym is) (record {
-        grid = subst (λ (q : ℕ). shape n q ≡ Fine) (sym same.long) h.grid;
+        grid = subst (λ (q : ℕ). shape n q ≡ Ok tt) (sym same.long) h.grid;
         room = h.room;
         each = λ k lt. h.each k lt ∙ sym (masks_alike n (marked 3 n l) l same k);
         fresh = h.fresh ∙ sym (solids_alike n (marked 3 n l) l same);
       })
 
   kept_never_stale :
-      (low high : Cell) (byte total : ℕ) (l' m' : List ℕ) → Kept n l m total → Refills n low high byte l m total (Tally.Refused Stale) l' m' → ⊥
+      (low high : Cell) (byte total : ℕ) (l' m' : List ℕ) → Kept n l m total → Refills n low high byte l m total (Err Stale) l' m' → ⊥
   kept_never_stale low high byte total l' m' h c = stale_says n low high byte l m total l' m' c (kept_agrees n (corner low) (corner high) l m total h)
 
   pub keeping : Keeping n l m
@@ -80,19 +80,19 @@ KeptIn n s = Kept n s.bytes s.masks s.total
 
 -- a call that is refused leaves the state; one that is accepted keeps it
 kept_step_refill :
-    (n : Counts) (low high : Cell) (byte : ℕ) (s s' : State) (r : Tally) → Refills n low high byte s.bytes s.masks s.total r s'.bytes
+    (n : Counts) (low high : Cell) (byte : ℕ) (s s' : State) (r : Result ℕ Refusal) → Refills n low high byte s.bytes s.masks s.total r s'.bytes
     s'.masks →
     s'.total ≡ handed_on r s.total → KeptIn n s → KeptIn n s'
-kept_step_refill n low high byte s s' (Tally.Total t) c e h =
+kept_step_refill n low high byte s s' (Ok t) c e h =
     rw e (kept_by_refill n s.bytes s.masks low high byte s.total t s'.bytes s'.masks h c)
-kept_step_refill n low high byte s s' (Tally.Refused r) c e h =
+kept_step_refill n low high byte s s' (Err r) c e h =
     let (bytes, lent) = kept_once.refill_refused n low high byte s.bytes s.masks s.total r s'.bytes s'.masks c in rw (e, bytes, lent) h
 
 kept_step_build :
-    (n : Counts) (s s' : State) (r : Tally) → Builds n s.bytes s.masks r s'.masks → s'.bytes ≡ s.bytes → s'.total ≡ handed_on r s.total →
+    (n : Counts) (s s' : State) (r : Result ℕ Refusal) → Builds n s.bytes s.masks r s'.masks → s'.bytes ≡ s.bytes → s'.total ≡ handed_on r s.total →
     KeptIn n s → KeptIn n s'
-kept_step_build n s s' (Tally.Total t) c bytes e h = rw (e, bytes) (kept_by_build n s.bytes s.masks t s'.masks c)
-kept_step_build n s s' (Tally.Refused r) c bytes e h = rw (e, bytes, kept_once.build_refused n s.bytes s.masks r s'.masks c) h
+kept_step_build n s s' (Ok t) c bytes e h = rw (e, bytes) (kept_by_build n s.bytes s.masks t s'.masks c)
+kept_step_build n s s' (Err r) c bytes e h = rw (e, bytes, kept_once.build_refused n s.bytes s.masks r s'.masks c) h
 
 kept_step : (n : Counts) (op : Operation) (s s' : State) → Step n op s s' → KeptIn n s → KeptIn n s'
 kept_step n Build s s' (r, c, bytes, e) h = kept_step_build n s s' r c bytes e h

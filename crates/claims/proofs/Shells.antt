@@ -1,4 +1,6 @@
 -- The claims about shells of marks: over k from the laws, and faces alone by computation on named grids. Assumes nothing.
+use Rattle.std.specs.Prelude.{Ok, Err, Result, None}
+use Rattle.cells.specs.declared.Refusal.{Refusal}
 use Prim.Native.Nat.{ℕ, ◌≤◌}
 use mathlib.Core.Path.{◌≡◌, refl, sym, ap, ◌∙◌, subst, subst₂}
 use mathlib.Core.Bool.{true, false, true≢false}
@@ -17,7 +19,7 @@ use Rattle.cells.specs.declared.Manner.{Manner}
 use Rattle.cells.specs.declared.Rule.TheVariants.{One, Two}
 use Rattle.cells.specs.declared.Start.{Start}
 use Rattle.cells.specs.declared.Start.TheVariants.{Untested, Tested}
-use Rattle.cells.specs.declared.Verdict.{Verdict}
+use Rattle.cells.specs.Checks.{Verdict}
 use Rattle.cells.specs.Checks.{by_verdict}
 use Rattle.cells.specs.Manners.{usual, tested_by}
 use Rattle.lines.specs.Preference.{comes_before}
@@ -37,9 +39,7 @@ use Rattle.walks.specs.Walks.{Conduct, conduct}
 use Rattle.walks.proofs.Modes.{as_usual}
 use Rattle.walks.proofs.MoreClear.{MoreClear, same_hits, plain_alike, clearer_reads}
 use Rattle.walks.proofs.Testing.{hit_solid}
-use Rattle.survey.specs.declared.Lookup.{Lookup}
 use Rattle.survey.specs.Survey.{placement_check, look_up}
-use Rattle.sight.specs.declared.Sight.TheVariants as Sight
 use Rattle.sight.specs.Sight.{Sees}
 use Rattle.claims.proofs.Cases.{on_axes}
 use Rattle.claims.specs.Example.{counts, at, faces_there, faces_back, far_counts, faces_inside}
@@ -75,8 +75,8 @@ module _ (how : Manner) (n : Counts) (p q : Cell) (a b : List ℕ) (clearer : Mo
   C = conduct how p q
 
   -- where the marks of both are complete, from 2 on, the ends lie in the grid and solid cells have one code
-  both_complete : (j k : ℕ) → 2 ≤ j → 2 ≤ k → complete j n a ≡ true → complete k n b ≡ true → walk_check n (length a) p q ≡ Verdict.Fine →
-      walk_check n (length b) p q ≡ Verdict.Fine → ((c : Cell) → solid (byte_of n b c) ≡ true → byte_of n b c ≡ byte_of n a c) →
+  both_complete : (j k : ℕ) → 2 ≤ j → 2 ≤ k → complete j n a ≡ true → complete k n b ≡ true → walk_check n (length a) p q ≡ Ok tt →
+      walk_check n (length b) p q ≡ Ok tt → ((c : Cell) → solid (byte_of n b c) ≡ true → byte_of n b c ≡ byte_of n a c) →
       SameStory (answer_at C n b p q (end_of C n b p q Adaptive) (reads_of C n b p q Adaptive))
       (answer_at C n a p q (end_of C n a p q Adaptive) (reads_of C n a p q Adaptive))
   both_complete j k two-j two-k whole-a whole-b fine-a fine-b codes =
@@ -101,17 +101,17 @@ module _ (how : Manner) (n : Counts) (l : List ℕ) (p q : Cell) (j k : ℕ) (le
       marked_keeps k n l (byte_index n c) e ∙ sym (marked_keeps j n l (byte_index n c) e)
 
   -- the answer over the cells marked at i, by the test of the shape that both share
-  abbrev told_at : ℕ → Verdict → FirstHit
-  told_at i = by_verdict FirstHit.Refused
+  abbrev told_at : ℕ → Verdict → Result FirstHit Refusal
+  told_at i = by_verdict Err
       (answer_at (conduct how p q) n (marked i n l) p q (end_of (conduct how p q) n (marked i n l) p q Adaptive)
       (reads_of (conduct how p q) n (marked i n l) p q Adaptive))
 
-  found_marked : (i : ℕ) {r : FirstHit} → Finds Adaptive how n (marked i n l) p q r → r ≡ told_at i (walk_check n (length l) p q)
+  found_marked : (i : ℕ) {r : (Result FirstHit Refusal)} → Finds Adaptive how n (marked i n l) p q r → r ≡ told_at i (walk_check n (length l) p q)
   found_marked i h = found how n (marked i n l) p q h ∙ ap (λ long. told_at i (walk_check n long p q)) (marked_length i n l)
 
   by_test : 2 ≤ j → (v : Verdict) → walk_check n (length l) p q ≡ v → SameStory (told_at k v) (told_at j v)
-  by_test two (Verdict.Refused r) h = refusals
-  by_test two Verdict.Fine h =
+  by_test two (Err r) h = refusals
+  by_test two (Ok _) h =
       both_complete how n p q (marked j n l) (marked k n l) fewer_marks j k two (omega arith) (marked_complete j n l) (marked_complete k n l)
       (ap (λ long. walk_check n long p q) (marked_length j n l) ∙ h) (ap (λ long. walk_check n long p q) (marked_length k n l) ∙ h) same_code
 
@@ -126,7 +126,7 @@ no_dearer how n l p q =
 -- ---- faces alone
 
 -- a hit and a clear walk are two stories
-two_stories : (h : Hit) (reads : ℕ) → SameStory (FirstHit.Hit h) (FirstHit.Clear reads) → ⊥
+two_stories : (h : Hit) (reads : ℕ) → SameStory (Ok (FirstHit.Hit h)) (Ok (FirstHit.Clear reads)) → ⊥
 unfolding kind
 two_stories h reads s = let (r, e) = told_clear s in let z : ◌≡◌ {A = ℕ} 0 1 = ap kind e in omega arith
 
@@ -135,11 +135,11 @@ as_default : (n : Counts) (l : List ℕ) (p q : Cell) (w : Walker) (how : Manner
     Finds w how n l p q (first_hit w usual n l p q)
 as_default n l p q w how free first = record { says = sym (as_usual n l p q w how free first) }
 
-plain_there : (how : Manner) → Finds Plain how (counts 2 2 2) faces_there (at 0 0 0) (at 1 1 1) (FirstHit.Hit (tie_hit (at 0 1 1) (Face.Plus Z)))
+plain_there : (how : Manner) → Finds Plain how (counts 2 2 2) faces_there (at 0 0 0) (at 1 1 1) (Ok (FirstHit.Hit (tie_hit (at 0 1 1) (Face.Plus Z))))
 unfolding first_hit comes_before
 plain_there how = as_default (counts 2 2 2) faces_there (at 0 0 0) (at 1 1 1) Plain how refl refl
 
-adaptive_there : (how : Manner) → Finds Adaptive how (counts 2 2 2) faces_there (at 0 0 0) (at 1 1 1) (FirstHit.Clear 2)
+adaptive_there : (how : Manner) → Finds Adaptive how (counts 2 2 2) faces_there (at 0 0 0) (at 1 1 1) (Ok (FirstHit.Clear 2))
 unfolding first_hit comes_before
 adaptive_there how = as_default (counts 2 2 2) faces_there (at 0 0 0) (at 1 1 1) Adaptive how refl refl
 
@@ -156,18 +156,18 @@ one_way ways =
     omega arith
 
 plain_back : (start : Start) →
-    Finds Plain (record { start = start; rule = Two }) (counts 2 2 2) faces_back (at 1 1 1) (at 0 0 0) (FirstHit.Hit (tie_hit (at 0 1 0) (Face.Minus Z)))
+    Finds Plain (record { start = start; rule = Two }) (counts 2 2 2) faces_back (at 1 1 1) (at 0 0 0) (Ok (FirstHit.Hit (tie_hit (at 0 1 0) (Face.Minus Z))))
 unfolding first_hit
 plain_back Untested = record { says = refl }
 plain_back Tested = record { says = refl }
 
-adaptive_back : (start : Start) → Finds Adaptive (record { start = start; rule = Two }) (counts 2 2 2) faces_back (at 1 1 1) (at 0 0 0) (FirstHit.Clear 2)
+adaptive_back : (start : Start) → Finds Adaptive (record { start = start; rule = Two }) (counts 2 2 2) faces_back (at 1 1 1) (at 0 0 0) (Ok (FirstHit.Clear 2))
 unfolding first_hit
 adaptive_back Untested = record { says = refl }
 adaptive_back Tested = record { says = refl }
 
 both_clear : (w : Walker) (start : Start) →
-    Finds w (record { start = start; rule = One }) (counts 2 2 2) faces_back (at 1 1 1) (at 0 0 0) (FirstHit.Clear (tie_reads w))
+    Finds w (record { start = start; rule = One }) (counts 2 2 2) faces_back (at 1 1 1) (at 0 0 0) (Ok (FirstHit.Clear (tie_reads w)))
 unfolding first_hit
 both_clear Plain Untested = record { says = refl }
 both_clear Plain Tested = record { says = refl }
@@ -185,11 +185,11 @@ entered =
       upto = on_axes _ (record { lt = tt }) (record { lt = tt }) (record { lt = tt });
     }
 
-plain_inside : (how : Manner) → Finds Plain how far_counts faces_inside (at 0 0 0) (at 3 2 2) (FirstHit.Hit inside_hit)
+plain_inside : (how : Manner) → Finds Plain how far_counts faces_inside (at 0 0 0) (at 3 2 2) (Ok (FirstHit.Hit inside_hit))
 unfolding first_hit comes_before
 plain_inside how = as_default far_counts faces_inside (at 0 0 0) (at 3 2 2) Plain how refl refl
 
-adaptive_inside : (how : Manner) → Finds Adaptive how far_counts faces_inside (at 0 0 0) (at 3 2 2) (FirstHit.Clear 4)
+adaptive_inside : (how : Manner) → Finds Adaptive how far_counts faces_inside (at 0 0 0) (at 3 2 2) (Ok (FirstHit.Clear 4))
 unfolding first_hit comes_before
 adaptive_inside how = as_default far_counts faces_inside (at 0 0 0) (at 3 2 2) Adaptive how refl refl
 
@@ -200,19 +200,19 @@ not_free how from to f t free =
     true≢false (free 19 24 (at 2 2 2) share (subst₂ (λ v w. InOpen v w 19 24 (at 2 2 2)) (sym f) (sym t) entered)
     (λ e. absurd (let z : ◌≡◌ {A = ℕ} 2 0 = ap (λ c. nat_abs c.x) (e ∙ f) in omega arith)))
 
-found_or : Cell → Lookup → Cell
-found_or c (Lookup.Cell found) = found
-found_or c (Lookup.Refused r) = c
+found_or : Cell → Result Cell Refusal → Cell
+found_or c (Ok found) = found
+found_or c (Err r) = c
 
-camera_in : look_up P far_counts one_metre camera_inside ≡ Lookup.Cell (at 0 0 0)
+camera_in : look_up P far_counts one_metre camera_inside ≡ Ok (at 0 0 0)
 unfolding look_up eq le lt of_int div sub
 camera_in = refl
 
-ball_in : look_up Q far_counts one_metre ball_inside ≡ Lookup.Cell (at 3 2 2)
+ball_in : look_up Q far_counts one_metre ball_inside ≡ Ok (at 3 2 2)
 unfolding look_up eq le lt of_int div sub
 ball_in = refl
 
-seen_inside : (how : Manner) → Sees how far_counts faces_inside one_metre camera_inside ball_inside Sight.Clear
+seen_inside : (how : Manner) → Sees how far_counts faces_inside one_metre camera_inside ball_inside (Ok None)
 unfolding shape placement_check eq le lt of_int div sub
 seen_inside how =
     record {

@@ -1,4 +1,6 @@
 -- Every row of the table of starred cases holds: the definitions compute to what SCOPE says. Assumes nothing.
+use Rattle.std.specs.Prelude.{Result}
+use Rattle.cells.specs.declared.Refusal.{Refusal}
 use Prim.Native.Nat.{ℕ}
 use mathlib.Core.Path.{◌≡◌, refl, sym, ap}
 use mathlib.Core.List.{List}
@@ -12,7 +14,6 @@ use Rattle.lines.specs.Lines.{six_line, line_26}
 use lib.Count.{ones}
 use Rattle.grids.specs.Grid.{count_check, shape}
 use Rattle.grids.specs.Marks.{any, touches_solid, marked_byte, marked, complete, completeness}
-use Rattle.bricks.specs.declared.Tally.{Tally}
 use Rattle.bricks.specs.Sums.{sum}
 use Rattle.bricks.specs.Bricks.{mask_of, solids}
 use Rattle.bricks.specs.Builds.{bricks_check, built}
@@ -39,7 +40,7 @@ rows_meant =
       set = λ n cell. refill n cell cell;
     }
   where
-    refill : (n : Counts) (low high : Cell) (byte : ℕ) (l m : List ℕ) (total : ℕ) (r : Tally) (l' m' : List ℕ) →
+    refill : (n : Counts) (low high : Cell) (byte : ℕ) (l m : List ℕ) (total : ℕ) (r : Result ℕ Refusal) (l' m' : List ℕ) →
         Refills n low high byte l m total r l' m' ↔ (after_refill n low high byte l m total ≡ (r, l', m'))
     refill n low high byte l m total r l' m' = (
       λ c. sym (λ i. (c.says i, c.bytes i, c.masks i)),

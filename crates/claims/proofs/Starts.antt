@@ -1,4 +1,5 @@
 -- The claims about the start, from the laws of the test of a cell and of the two modes. Assumes nothing.
+use Rattle.std.specs.Prelude.{Ok, Err, Result}
 use Prim.Native.Nat.{ℕ, zero, suc, ◌<◌}
 use mathlib.Core.Path.{◌≡◌, refl, sym, ap, ◌∙◌, subst}
 use mathlib.Core.Logic.{◌⊎◌, inl, inr}
@@ -11,7 +12,7 @@ use Rattle.cells.specs.declared.Face.TheVariants as Face
 use Rattle.cells.specs.declared.Refusal.{Refusal}
 use Rattle.cells.specs.declared.Rule.{Rule}
 use Rattle.cells.specs.declared.Rule.TheVariants.{One, Two}
-use Rattle.cells.specs.declared.Verdict.{Verdict}
+use Rattle.cells.specs.Checks.{Verdict}
 use Rattle.cells.specs.Checks.{by_verdict}
 use Rattle.cells.specs.Manners.{is_tested, usual, tested_by}
 use Rattle.lines.specs.Preference.{Preference, by_rule}
@@ -41,10 +42,10 @@ start_tests n l p =
     }
 
 -- clear with one read, or refused
-pub one_read : (r : FirstHit) (v : Verdict) → r ≡ by_verdict FirstHit.Refused (FirstHit.Clear 1) v →
-    (r ≡ FirstHit.Clear 1) ⊎ ((e : Refusal) × (r ≡ FirstHit.Refused e))
-one_read r Verdict.Fine h = inl h
-one_read r (Verdict.Refused e) h = inr (e, h)
+pub one_read : (r : Result FirstHit Refusal) (v : Verdict) → r ≡ by_verdict Err (Ok (FirstHit.Clear 1)) v →
+    (r ≡ Ok (FirstHit.Clear 1)) ⊎ ((e : Refusal) × (r ≡ Err e))
+one_read r (Ok _) h = inl h
+one_read r (Err e) h = inr (e, h)
 
 pub two_starts : (n : Counts) (l : List ℕ) (p q : Cell) → TwoStarts n l p q
 two_starts n l p q =

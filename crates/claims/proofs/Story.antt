@@ -1,4 +1,5 @@
 -- Demand 3: the claims about the two first-hit calls, from where their walks end. Assumes nothing.
+use Rattle.std.specs.Prelude.{Ok, Err, Result}
 use Prim.Native.Nat.{ℕ, zero, suc, ◌+◌, ◌-◌, ◌*◌, ◌≤◌, ◌<◌}
 use mathlib.Core.Path.{◌≡◌, refl, sym, ap, ap₂, ◌∙◌, subst, subst₂}
 use mathlib.Core.Bool.{Bool, true, false, cond, ◌||◌, true≢false}
@@ -14,7 +15,7 @@ use Rattle.cells.specs.declared.Counts.{Counts}
 use Rattle.cells.specs.declared.Face.{Face}
 use Rattle.cells.specs.declared.Manner.{Manner}
 use Rattle.cells.specs.declared.Refusal.{Refusal}
-use Rattle.cells.specs.declared.Verdict.{Verdict}
+use Rattle.cells.specs.Checks.{Verdict}
 use Rattle.cells.specs.Checks.{by_verdict}
 use Rattle.cells.specs.Faces.{back_across}
 use Rattle.cells.specs.Manners.{is_tested, usual}
@@ -57,26 +58,26 @@ use Rattle.claims.specs.Example.{at, example_counts, marked_cells}
 use Rattle.claims.proofs.Grids.{says_complete}
 
 -- what an answer carries
-unfoldable pub hit_or : Hit → FirstHit → Hit
-hit_or k (FirstHit.Hit h) = h
-hit_or k (FirstHit.Clear r) = k
-hit_or k (FirstHit.Refused r) = k
+unfoldable pub hit_or : Hit → Result FirstHit Refusal → Hit
+hit_or k (Ok (FirstHit.Hit h)) = h
+hit_or k (Ok (FirstHit.Clear r)) = k
+hit_or k (Err r) = k
 
-unfoldable pub reads_or : ℕ → FirstHit → ℕ
-reads_or k (FirstHit.Hit h) = k
-reads_or k (FirstHit.Clear r) = r
-reads_or k (FirstHit.Refused r) = k
+unfoldable pub reads_or : ℕ → Result FirstHit Refusal → ℕ
+reads_or k (Ok (FirstHit.Hit h)) = k
+reads_or k (Ok (FirstHit.Clear r)) = r
+reads_or k (Err r) = k
 
 -- 0 a hit, 1 clear, 2 refused
-unfoldable pub kind : FirstHit → ℕ
-kind (FirstHit.Hit h) = 0
-kind (FirstHit.Clear r) = 1
-kind (FirstHit.Refused r) = 2
+unfoldable pub kind : Result FirstHit Refusal → ℕ
+kind (Ok (FirstHit.Hit h)) = 0
+kind (Ok (FirstHit.Clear r)) = 1
+kind (Err r) = 2
 
 -- answers at one place of the line say the same where both are hits, with one code, or neither is
 pub told_alike : (t u : Bool) → u ≡ t → (c : Cell) (place : Place) {x y r s : ℕ} → (t ≡ true → x ≡ y) → s ≤ r →
-    SameStory (cond t (FirstHit.Hit (record { cell = c; code = x; place = place; reads = r })) (FirstHit.Clear r))
-    (cond u (FirstHit.Hit (record { cell = c; code = y; place = place; reads = s })) (FirstHit.Clear s))
+    SameStory (cond t (Ok (FirstHit.Hit (record { cell = c; code = x; place = place; reads = r }))) (Ok (FirstHit.Clear r)))
+    (cond u (Ok (FirstHit.Hit (record { cell = c; code = y; place = place; reads = s }))) (Ok (FirstHit.Clear s)))
 told_alike true true e c place code fewer = hits refl (code refl) refl fewer
 told_alike false false e c place code fewer = clears fewer
 told_alike true false e c place code fewer = absurd (true≢false (sym e))
@@ -97,22 +98,22 @@ module _ (how : Manner) (n : Counts) (l : List ℕ) (p q : Cell) where
   abbrev E : Walker → ℕ
   E w = end_of C n l p q w
 
-  abbrev answered : Walker → FirstHit
+  abbrev answered : Walker → Result FirstHit Refusal
   answered w = answer_at C n l p q (E w) (reads_of C n l p q w)
 
-  pub found : {w : Walker} {r : FirstHit} → Finds w how n l p q r → r ≡ by_verdict FirstHit.Refused (answered w) check
+  pub found : {w : Walker} {r : (Result FirstHit Refusal)} → Finds w how n l p q r → r ≡ by_verdict Err (answered w) check
   found {w} h = h.says ∙ first_hit_is how n l p q w
 
   -- where the marks are complete at k, from 2 on, and the ends are in the grid, both walks end at the same number
-  pub alike : (k : ℕ) → 2 ≤ k → check ≡ Verdict.Fine → complete k n l ≡ true → E Adaptive ≡ E Plain
+  pub alike : (k : ℕ) → 2 ≤ k → check ≡ Ok tt → complete k n l ≡ true → E Adaptive ≡ E Plain
   alike k two fine whole =
       let a = accepted n (length l) p q fine in
       ends_alike C n l p q k two a.p_in a.q_in (complete_safe k n l a.shaped whole)
 
   same_answers : (k : ℕ) → 2 ≤ k → complete k n l ≡ true → (v : Verdict) → check ≡ v →
-      SameStory (by_verdict FirstHit.Refused (answered Plain) v) (by_verdict FirstHit.Refused (answered Adaptive) v)
-  same_answers k two whole (Verdict.Refused r) h = refusals
-  same_answers k two whole Verdict.Fine h =
+      SameStory (by_verdict Err (answered Plain) v) (by_verdict Err (answered Adaptive) v)
+  same_answers k two whole (Err r) h = refusals
+  same_answers k two whole (Ok _) h =
       let e = alike k two h whole in
       subst (λ k. SameStory (answered Plain) (answer_at C n l p q k (reads_of C n l p q Adaptive))) (sym e)
       (told_alike (hits_at C n l p q (E Plain)) _ refl _ _ (λ hit. refl) (reads_no_more C n l p q e))
@@ -127,44 +128,44 @@ module _ (how : Manner) (n : Counts) (l : List ℕ) (p q : Cell) where
   hit_of e r = record { cell = six_cell R p q e; code = byte_of n l (six_cell R p q e); place = entered_at R p q e; reads = r }
 
   -- an answer that is a hit is the hit at the walk's end
-  hit_told : (v : Verdict) (k : Hit) (e r : ℕ) → FirstHit.Hit k ≡ by_verdict FirstHit.Refused (answer_at C n l p q e r) v →
-      (v ≡ Verdict.Fine) × (hits_at C n l p q e ≡ true) × (k ≡ hit_of e r)
+  hit_told : (v : Verdict) (k : Hit) (e r : ℕ) → Ok (FirstHit.Hit k) ≡ by_verdict Err (answer_at C n l p q e r) v →
+      (v ≡ Ok tt) × (hits_at C n l p q e ≡ true) × (k ≡ hit_of e r)
   unfolding kind hit_or
-  hit_told (Verdict.Refused x) k e r h = absurd (let z : ◌≡◌ {A = ℕ} 0 2 = ap kind h in omega arith)
-  hit_told Verdict.Fine k e r h = by (hits_at C n l p q e) refl h
+  hit_told (Err x) k e r h = absurd (let z : ◌≡◌ {A = ℕ} 0 2 = ap kind h in omega arith)
+  hit_told (Ok _) k e r h = by (hits_at C n l p q e) refl h
     where
-      by : (b : Bool) → hits_at C n l p q e ≡ b → FirstHit.Hit k ≡ cond b (FirstHit.Hit (hit_of e r)) (FirstHit.Clear r) →
-          (Verdict.Fine ≡ Verdict.Fine) × (hits_at C n l p q e ≡ true) × (k ≡ hit_of e r)
+      by : (b : Bool) → hits_at C n l p q e ≡ b → Ok (FirstHit.Hit k) ≡ cond b (Ok (FirstHit.Hit (hit_of e r))) (Ok (FirstHit.Clear r)) →
+          ((Ok tt) ≡ Ok tt) × (hits_at C n l p q e ≡ true) × (k ≡ hit_of e r)
       by true b h = (refl, b, ap (hit_or k) h)
       by false b h = absurd (let z : ◌≡◌ {A = ℕ} 0 1 = ap kind h in omega arith)
 
-  pub hit_found : (w : Walker) (k : Hit) → Finds w how n l p q (FirstHit.Hit k) →
-      (check ≡ Verdict.Fine) × (hits_at C n l p q (E w) ≡ true) × (k ≡ hit_of (E w) (reads_of C n l p q w))
+  pub hit_found : (w : Walker) (k : Hit) → Finds w how n l p q (Ok (FirstHit.Hit k)) →
+      (check ≡ Ok tt) × (hits_at C n l p q (E w) ≡ true) × (k ≡ hit_of (E w) (reads_of C n l p q w))
   hit_found w k h = hit_told check k (E w) (reads_of C n l p q w) (found h)
 
   -- an answer that is clear is so at the walk's end
-  clear_told : (v : Verdict) (k e r : ℕ) → FirstHit.Clear k ≡ by_verdict FirstHit.Refused (answer_at C n l p q e r) v →
-      (v ≡ Verdict.Fine) × (hits_at C n l p q e ≡ false) × (k ≡ r)
+  clear_told : (v : Verdict) (k e r : ℕ) → Ok (FirstHit.Clear k) ≡ by_verdict Err (answer_at C n l p q e r) v →
+      (v ≡ Ok tt) × (hits_at C n l p q e ≡ false) × (k ≡ r)
   unfolding kind reads_or
-  clear_told (Verdict.Refused x) k e r h = absurd (let z : ◌≡◌ {A = ℕ} 1 2 = ap kind h in omega arith)
-  clear_told Verdict.Fine k e r h = by _ (hits_at C n l p q e) refl h
+  clear_told (Err x) k e r h = absurd (let z : ◌≡◌ {A = ℕ} 1 2 = ap kind h in omega arith)
+  clear_told (Ok _) k e r h = by _ (hits_at C n l p q e) refl h
     where
       by :
-          (there : Hit) (b : Bool) → hits_at C n l p q e ≡ b → FirstHit.Clear k ≡ cond b (FirstHit.Hit there) (FirstHit.Clear r) →
-          (Verdict.Fine ≡ Verdict.Fine) × (hits_at C n l p q e ≡ false) × (k ≡ r)
+          (there : Hit) (b : Bool) → hits_at C n l p q e ≡ b → Ok (FirstHit.Clear k) ≡ cond b (Ok (FirstHit.Hit there)) (Ok (FirstHit.Clear r)) →
+          ((Ok tt) ≡ Ok tt) × (hits_at C n l p q e ≡ false) × (k ≡ r)
       by there true b h = absurd (let z : ◌≡◌ {A = ℕ} 1 0 = ap kind h in omega arith)
       by there false b h = (refl, b, ap (reads_or k) h)
 
-  pub clear_found : (w : Walker) (k : ℕ) → Finds w how n l p q (FirstHit.Clear k) →
-      (check ≡ Verdict.Fine) × (hits_at C n l p q (E w) ≡ false) × (k ≡ reads_of C n l p q w)
+  pub clear_found : (w : Walker) (k : ℕ) → Finds w how n l p q (Ok (FirstHit.Clear k)) →
+      (check ≡ Ok tt) × (hits_at C n l p q (E w) ≡ false) × (k ≡ reads_of C n l p q w)
   clear_found w k h = clear_told check k (E w) (reads_of C n l p q w) (found h)
 
   -- a walk that passed its tests is not refused
-  pub not_refused : (w : Walker) → check ≡ Verdict.Fine → (r : Refusal) → Finds w how n l p q (FirstHit.Refused r) → ⊥
+  pub not_refused : (w : Walker) → check ≡ Ok tt → (r : Refusal) → Finds w how n l p q (Err r) → ⊥
   unfolding kind
-  not_refused w fine r h = by (hits_at C n l p q (E w)) _ _ (found h ∙ ap (by_verdict FirstHit.Refused (answered w)) fine)
+  not_refused w fine r h = by (hits_at C n l p q (E w)) _ _ (found h ∙ ap (by_verdict Err (answered w)) fine)
     where
-      by : (b : Bool) (k : Hit) (m : ℕ) → FirstHit.Refused r ≡ cond b (FirstHit.Hit k) (FirstHit.Clear m) → ⊥
+      by : (b : Bool) (k : Hit) (m : ℕ) → Err r ≡ cond b (Ok (FirstHit.Hit k)) (Ok (FirstHit.Clear m)) → ⊥
       by true k m e = let z : ◌≡◌ {A = ℕ} 2 0 = ap kind e in omega arith
       by false k m e = let z : ◌≡◌ {A = ℕ} 2 1 = ap kind e in omega arith
 
@@ -255,8 +256,8 @@ module _ (how : Manner) (n : Counts) (l : List ℕ) (p q : Cell) where
             let (fine, hit, is) = hit_found Adaptive k ha in
             let there : Hit = hit_of (E Plain) (reads_of C n l p q Plain) in (
               there,
-              found hp ∙ ap (by_verdict FirstHit.Refused (answered Plain)) fine
-                  ∙ ap (λ b. cond b (FirstHit.Hit there) (FirstHit.Clear (reads_of C n l p q Plain))) (not_invented C n l p q hit),
+              found hp ∙ ap (by_verdict Err (answered Plain)) fine
+                  ∙ ap (λ b. cond b (Ok (FirstHit.Hit there)) (Ok (FirstHit.Clear (reads_of C n l p q Plain)))) (not_invented C n l p q hit),
               subst (λ h. there.place.num * h.place.den ≤ h.place.num * there.place.den) (sym is)
                   (never_falls R p q (E Plain) (E Adaptive) (no_earlier C n l p q) (end_below C n l p q Adaptive)),
               record {
@@ -398,13 +399,13 @@ marked_first n l exit = record {
 -- ---- wrong walks
 
 -- what a walk that hits says of the face
-unfoldable pub face_or : FirstHit → Face
-face_or (FirstHit.Hit h) = h.place.face
-face_or (FirstHit.Clear r) = Face.None
-face_or (FirstHit.Refused r) = Face.None
+unfoldable pub face_or : Result FirstHit Refusal → Face
+face_or (Ok (FirstHit.Hit h)) = h.place.face
+face_or (Ok (FirstHit.Clear r)) = Face.None
+face_or (Err r) = Face.None
 
 -- where P is not solid and comes before Q, an answer is the default's
-by_default : {n : Counts} {l : List ℕ} {p q : Cell} {r : FirstHit} (w : Walker) (how : Manner) → solid (byte_of n l p) ≡ false → comes_before q p ≡ false →
+by_default : {n : Counts} {l : List ℕ} {p q : Cell} {r : (Result FirstHit Refusal)} (w : Walker) (how : Manner) → solid (byte_of n l p) ≡ false → comes_before q p ≡ false →
     Finds w how n l p q r → r ≡ first_hit w usual n l p q
 by_default {n} {l} {p} {q} w how free first h = h.says ∙ as_usual n l p q w how free first
 

@@ -1,4 +1,5 @@
 -- The claims about the touching line, its list and the first hit along it. Assumes nothing.
+use Rattle.std.specs.Prelude.{Ok, Err, Result}
 use Prim.Native.Nat.{ℕ, zero, suc, ◌+◌, ◌-◌, ◌*◌, ◌≤◌, ◌<◌}
 use mathlib.Core.Path.{◌≡◌, refl, sym, ap, ◌∙◌, subst, fun_ext}
 use mathlib.Core.Logic.{◌↔◌, ⊎_map}
@@ -16,7 +17,7 @@ use Rattle.cells.specs.declared.Manner.{Manner}
 use Rattle.cells.specs.declared.Refusal.{Refusal}
 use Rattle.cells.specs.declared.Start.{Start}
 use Rattle.cells.specs.declared.Start.TheVariants.{Untested, Tested}
-use Rattle.cells.specs.declared.Verdict.{Verdict}
+use Rattle.cells.specs.Checks.{Verdict}
 use Rattle.cells.specs.Checks.{by_verdict}
 use Rattle.cells.specs.Manners.{is_tested}
 use Rattle.cells.proofs.Checks.{by_fine}
@@ -147,20 +148,20 @@ module _ (from : Start) (n : Counts) (l : List ℕ) (p q : Cell) where
   search = search_of test n l p q (start p q) 0 (visits (crossings p q))
 
   -- what is answered, once the tests of the inputs are passed
-  says : {r : FirstHit} → FindsTouching from n l p q r →
-      r ≡ by_verdict FirstHit.Refused (found_in test n l p q 0 (visits (crossings p q))) (walk_check n (length l) p q)
+  says : {r : (Result FirstHit Refusal)} → FindsTouching from n l p q r →
+      r ≡ by_verdict Err (found_in test n l p q 0 (visits (crossings p q))) (walk_check n (length l) p q)
   unfolding first_touching
   says h = h.says
 
-  passed : {r : FirstHit} → ((e : Refusal) → FirstHit.Refused e ≡ r → ⊥) → FindsTouching from n l p q r →
-      (walk_check n (length l) p q ≡ Verdict.Fine) × (found_in test n l p q 0 (visits (crossings p q)) ≡ r)
-  passed other h = by_fine FirstHit.Refused (walk_check n (length l) p q) (found_in test n l p q 0 (visits (crossings p q))) other (sym (says h))
+  passed : {r : (Result FirstHit Refusal)} → ((e : Refusal) → Err e ≡ r → ⊥) → FindsTouching from n l p q r →
+      (walk_check n (length l) p q ≡ Ok tt) × (found_in test n l p q 0 (visits (crossings p q)) ≡ r)
+  passed other h = by_fine Err (walk_check n (length l) p q) (found_in test n l p q 0 (visits (crossings p q))) other (sym (says h))
 
-  no_refusal : {r : FirstHit} → kind r < 2 → (e : Refusal) → FirstHit.Refused e ≡ r → ⊥
+  no_refusal : {r : (Result FirstHit Refusal)} → kind r < 2 → (e : Refusal) → Err e ≡ r → ⊥
   unfolding kind
   no_refusal lt e is = let z = ap kind is in omega arith
 
-  clear_kind : (m : ℕ) → kind (FirstHit.Clear m) < 2
+  clear_kind : (m : ℕ) → kind (Ok (FirstHit.Clear m)) < 2
   unfolding kind
   clear_kind m = omega arith
 
@@ -255,14 +256,14 @@ module _ (from : Start) (n : Counts) (l : List ℕ) (p q : Cell) where
   unfolding kind hit_or reads_or
   touching_hits = record { hit = λ h f. by_hit h (passed (no_refusal (omega arith)) f).1 search; clear = λ m f. by_clear m (passed (no_refusal (omega arith)) f).1 search }
     where
-      by_hit : (h : Hit) → found_in test n l p q 0 (visits (crossings p q)) ≡ FirstHit.Hit h → Search test n l p q (start p q) 0 (visits (crossings p q)) →
+      by_hit : (h : Hit) → found_in test n l p q 0 (visits (crossings p q)) ≡ Ok (FirstHit.Hit h) → Search test n l p q (start p q) 0 (visits (crossings p q)) →
           FirstTouched from n l p q h
       by_hit h e (found i lt met before is) =
           let k : h ≡ hit_or h (hit_on test n l p q (start p q) (visit p q i) (0 + i + 1)) = ap (hit_or h) (sym e ∙ is) in
           first_touched i lt met before h (ap (λ x. x.cell) k) (ap (λ x. x.code) k) (ap (λ x. x.place) k) (ap (λ x. x.reads) k)
       by_hit h e (none all is) = absurd (let z : ◌≡◌ {A = ℕ} 0 1 = ap kind (sym e ∙ is) in omega arith)
 
-      by_clear : (m : ℕ) → found_in test n l p q 0 (visits (crossings p q)) ≡ FirstHit.Clear m → Search test n l p q (start p q) 0 (visits (crossings p q)) →
+      by_clear : (m : ℕ) → found_in test n l p q 0 (visits (crossings p q)) ≡ Ok (FirstHit.Clear m) → Search test n l p q (start p q) 0 (visits (crossings p q)) →
           (m ≡ length (touching_line p q)) ×
           ((k d : ℕ) (c : Cell) → Share k d → InClosed p q k d c → (c ≡ p → from ≡ Tested) → solid (byte_of n l c) ≡ false)
       by_clear m e (found i lt met before is) = absurd (let z : ◌≡◌ {A = ℕ} 1 0 = ap kind (sym e ∙ is) in omega arith)
@@ -283,7 +284,7 @@ module _ (n : Counts) (l : List ℕ) (p q : Cell) where
   starts_alike : solid (byte_of n l p) ≡ false → (one other : Start) → first_touching one n l p q ≡ first_touching other n l p q
   unfolding first_touching
   starts_alike clear one other =
-      ap (λ test. by_verdict FirstHit.Refused (found_in test n l p q 0 (visits (crossings p q))) (walk_check n (length l) p q))
+      ap (λ test. by_verdict Err (found_in test n l p q 0 (visits (crossings p q))) (walk_check n (length l) p q))
       (fun_ext (starts_test n l p (walking one) (walking other) clear))
 
   -- equal ends have one cell
@@ -295,8 +296,8 @@ module _ (n : Counts) (l : List ℕ) (p q : Cell) where
       some = omega (arith, ap length (touching_parts p p))
 
   equal_found : Search (hit_at (walking Untested) n l p) n l p p (start p p) 0 (visits (crossings p p)) →
-      found_in (hit_at (walking Untested) n l p) n l p p 0 (visits (crossings p p)) ≡ FirstHit.Clear 1
-  equal_found (none all is) = is ∙ ap FirstHit.Clear (omega (arith, one_cell))
+      found_in (hit_at (walking Untested) n l p) n l p p 0 (visits (crossings p p)) ≡ Ok (FirstHit.Clear 1)
+  equal_found (none all is) = is ∙ ap Ok (FirstHit.Clear (omega (arith, one_cell)))
   equal_found (found i lt met before is) =
       absurd (let z : ◌≡◌ {A = ℕ} 0 1 = ap (λ b. cond b 1 0) (sym (exempt_test (walking Untested) n l p refl) ∙ sym at_p ∙ met) in omega arith)
     where
@@ -313,7 +314,7 @@ module _ (n : Counts) (l : List ℕ) (p q : Cell) where
             let z : ◌≡◌ {A = ℕ} 0 1 = ap startcode (((touching_hits Untested n l p q).hit h f).p_tested at_p) in
             omega arith;
         equal_ends = λ r f. one_read r (walk_check n (length l) p p)
-            (says Untested n l p p f ∙ ap (λ a. by_verdict FirstHit.Refused a (walk_check n (length l) p p)) (equal_found (search Untested n l p p)));
+            (says Untested n l p p f ∙ ap (λ a. by_verdict Err a (walk_check n (length l) p p)) (equal_found (search Untested n l p p)));
       }
 
 -- ---- beside the plain walk
@@ -341,7 +342,7 @@ module _ (how : Manner) (n : Counts) (l : List ℕ) (p q : Cell) where
     share : Share h.place.num h.place.den
     there : InClosed p q h.place.num h.place.den h.cell
 
-  plain_hit : (h : Hit) → Finds Plain how n l p q (FirstHit.Hit h) → PlainHit h
+  plain_hit : (h : Hit) → Finds Plain how n l p q (Ok (FirstHit.Hit h)) → PlainHit h
   plain_hit h f =
       let (s, first) = (first_on_line how n l p q).hit h f in
       let (t, on) = (hit_place how n l p q).there Plain h f in
@@ -357,26 +358,26 @@ module _ (how : Manner) (n : Counts) (l : List ℕ) (p q : Cell) where
       }
 
   -- where the inputs passed their tests neither call refuses
-  plain_accepts : (e : Refusal) → walk_check n (length l) p q ≡ Verdict.Fine → Finds Plain how n l p q (FirstHit.Refused e) → ⊥
+  plain_accepts : (e : Refusal) → walk_check n (length l) p q ≡ Ok tt → Finds Plain how n l p q (Err e) → ⊥
   unfolding kind
   plain_accepts e fine f = by _ _ (hits_at (conduct how p q) n l p q (end_of (conduct how p q) n l p q Plain))
-      (f.says ∙ first_hit_is how n l p q Plain ∙ ap (by_verdict FirstHit.Refused _) fine)
+      (f.says ∙ first_hit_is how n l p q Plain ∙ ap (by_verdict Err _) fine)
     where
-      by : (h : Hit) (m : ℕ) (b : Bool) → FirstHit.Refused e ≡ cond b (FirstHit.Hit h) (FirstHit.Clear m) → ⊥
+      by : (h : Hit) (m : ℕ) (b : Bool) → Err e ≡ cond b (Ok (FirstHit.Hit h)) (Ok (FirstHit.Clear m)) → ⊥
       by h m true is = let z : ◌≡◌ {A = ℕ} 2 0 = ap kind is in omega arith
       by h m false is = let z : ◌≡◌ {A = ℕ} 2 1 = ap kind is in omega arith
 
-  touching_accepts : (e : Refusal) → walk_check n (length l) p q ≡ Verdict.Fine → FindsTouching how.start n l p q (FirstHit.Refused e) → ⊥
+  touching_accepts : (e : Refusal) → walk_check n (length l) p q ≡ Ok tt → FindsTouching how.start n l p q (Err e) → ⊥
   unfolding kind
-  touching_accepts e fine t = by (says how.start n l p q t ∙ ap (by_verdict FirstHit.Refused _) fine) (search how.start n l p q)
+  touching_accepts e fine t = by (says how.start n l p q t ∙ ap (by_verdict Err _) fine) (search how.start n l p q)
     where
-      by : FirstHit.Refused e ≡ found_in (hit_at (walking how.start) n l p) n l p q 0 (visits (crossings p q)) →
+      by : Err e ≡ found_in (hit_at (walking how.start) n l p) n l p q 0 (visits (crossings p q)) →
           Search (hit_at (walking how.start) n l p) n l p q (start p q) 0 (visits (crossings p q)) → ⊥
       by is (found i lt met before e) = let z : ◌≡◌ {A = ℕ} 2 0 = ap kind (is ∙ e) in omega arith
       by is (none all e) = let z : ◌≡◌ {A = ℕ} 2 1 = ap kind (is ∙ e) in omega arith
 
   -- so a touching walk that is clear leaves no plain hit
-  no_plain_hit : (m : ℕ) (h : Hit) → FindsTouching how.start n l p q (FirstHit.Clear m) → Finds Plain how n l p q (FirstHit.Hit h) → ⊥
+  no_plain_hit : (m : ℕ) (h : Hit) → FindsTouching how.start n l p q (Ok (FirstHit.Clear m)) → Finds Plain how n l p q (Ok (FirstHit.Hit h)) → ⊥
   no_plain_hit m h t f =
       let k = plain_hit h f in
       let free = ((touching_hits how.start n l p q).clear m t).1 h.place.num h.place.den h.cell k.share k.there
@@ -384,7 +385,7 @@ module _ (how : Manner) (n : Counts) (l : List ℕ) (p q : Cell) where
       let z : ◌≡◌ {A = ℕ} 0 1 = ap (λ b. cond b 1 0) (sym free ∙ (and_both (solid (byte_of n l h.cell)) _ k.is_hit).0) in
       omega arith
 
-  by_fraction : (h k : Hit) → Finds Plain how n l p q (FirstHit.Hit h) → FindsTouching how.start n l p q (FirstHit.Hit k) →
+  by_fraction : (h k : Hit) → Finds Plain how n l p q (Ok (FirstHit.Hit h)) → FindsTouching how.start n l p q (Ok (FirstHit.Hit k)) →
       k.place.num * h.place.den ≤ h.place.num * k.place.den
   by_fraction h k f t =
       let a = plain_hit h f in
@@ -403,33 +404,33 @@ module _ (how : Manner) (n : Counts) (l : List ℕ) (p q : Cell) where
           omega arith
 
   -- one verdict refuses both
-  refused_alike : (e : Refusal) (r s : FirstHit) → Finds Plain how n l p q r → FindsTouching how.start n l p q s →
-      (v : Verdict) → walk_check n (length l) p q ≡ v → (r ≡ FirstHit.Refused e) ↔ (s ≡ FirstHit.Refused e)
-  refused_alike e r s f t Verdict.Fine fine = (
+  refused_alike : (e : Refusal) (r s : Result FirstHit Refusal) → Finds Plain how n l p q r → FindsTouching how.start n l p q s →
+      (v : Verdict) → walk_check n (length l) p q ≡ v → (r ≡ Err e) ↔ (s ≡ Err e)
+  refused_alike e r s f t (Ok _) fine = (
     λ is. absurd (plain_accepts e fine (subst (Finds Plain how n l p q) is f)),
     λ is. absurd (touching_accepts e fine (subst (FindsTouching how.start n l p q) is t)),
   )
-  refused_alike e r s f t (Verdict.Refused x) no-more-tests =
-      let a : r ≡ FirstHit.Refused x = f.says ∙ first_hit_is how n l p q Plain ∙ ap (by_verdict FirstHit.Refused _) no-more-tests in
-      let b : s ≡ FirstHit.Refused x = says how.start n l p q t ∙ ap (by_verdict FirstHit.Refused _) no-more-tests in
+  refused_alike e r s f t (Err x) no-more-tests =
+      let a : r ≡ Err x = f.says ∙ first_hit_is how n l p q Plain ∙ ap (by_verdict Err _) no-more-tests in
+      let b : s ≡ Err x = says how.start n l p q t ∙ ap (by_verdict Err _) no-more-tests in
       (λ is. b ∙ sym a ∙ is, λ is. a ∙ sym b ∙ is)
 
   pub beside_plain : BesidePlain how n l p q
   beside_plain = record { clear_too = λ m r t f. clears m r t f; hits_too = λ h r f t. hits h r f t; refuses_too = λ e r s f t. refused_alike e r s f t _ refl }
     where
-      clears : (m : ℕ) (r : FirstHit) → FindsTouching how.start n l p q (FirstHit.Clear m) → Finds Plain how n l p q r → (k : ℕ) × (r ≡ FirstHit.Clear k)
-      clears m (FirstHit.Hit h) t f = absurd (no_plain_hit m h t f)
-      clears m (FirstHit.Clear k) t f = (k, refl)
-      clears m (FirstHit.Refused e) t f = absurd (plain_accepts e (passed how.start n l p q (clear_not m) t).0 f)
+      clears : (m : ℕ) (r : Result FirstHit Refusal) → FindsTouching how.start n l p q (Ok (FirstHit.Clear m)) → Finds Plain how n l p q r → (k : ℕ) × (r ≡ Ok (FirstHit.Clear k))
+      clears m (Ok (FirstHit.Hit h)) t f = absurd (no_plain_hit m h t f)
+      clears m (Ok (FirstHit.Clear k)) t f = (k, refl)
+      clears m (Err e) t f = absurd (plain_accepts e (passed how.start n l p q (clear_not m) t).0 f)
         where
-          clear_not : (m : ℕ) (e : Refusal) → FirstHit.Refused e ≡ FirstHit.Clear m → ⊥
-          clear_not m = no_refusal how.start n l p q {r = FirstHit.Clear m} (clear_kind how.start n l p q m)
+          clear_not : (m : ℕ) (e : Refusal) → Err e ≡ Ok (FirstHit.Clear m) → ⊥
+          clear_not m = no_refusal how.start n l p q {r = Ok (FirstHit.Clear m)} (clear_kind how.start n l p q m)
 
-      hits : (h : Hit) (r : FirstHit) → Finds Plain how n l p q (FirstHit.Hit h) → FindsTouching how.start n l p q r →
-          (k : Hit) × (r ≡ FirstHit.Hit k) × (k.place.num * h.place.den ≤ h.place.num * k.place.den)
-      hits h (FirstHit.Hit k) f t = (k, refl, by_fraction h k f t)
-      hits h (FirstHit.Clear m) f t = absurd (no_plain_hit m h t f)
-      hits h (FirstHit.Refused e) f t = absurd (touching_accepts e (hit_found how n l p q Plain h f).0 t)
+      hits : (h : Hit) (r : Result FirstHit Refusal) → Finds Plain how n l p q (Ok (FirstHit.Hit h)) → FindsTouching how.start n l p q r →
+          (k : Hit) × (r ≡ Ok (FirstHit.Hit k)) × (k.place.num * h.place.den ≤ h.place.num * k.place.den)
+      hits h (Ok (FirstHit.Hit k)) f t = (k, refl, by_fraction h k f t)
+      hits h (Ok (FirstHit.Clear m)) f t = absurd (no_plain_hit m h t f)
+      hits h (Err e) f t = absurd (touching_accepts e (hit_found how n l p q Plain h f).0 t)
 
 -- ---- worked hits
 
@@ -477,5 +478,5 @@ wrong_touching =
     nowhere = row_hit (record { byte = 0; cell = example.at 0 0 0; face = Face.None; reads = 0 })
 
     side : (from : Start) → first_touching from (example.counts 2 2 2) (one_solid 1) (example.at 0 0 0) (example.at 1 1 1) ≡
-        FirstHit.Hit (row_hit (record { byte = 1; cell = example.at 1 0 0; face = Face.Plus X; reads = 4 }))
+        Ok (FirstHit.Hit (row_hit (record { byte = 1; cell = example.at 1 0 0; face = Face.Plus X; reads = 4 })))
     side = either _ refl refl

@@ -1,4 +1,5 @@
 -- The claims about the trail and its list. Assumes nothing.
+use Rattle.std.specs.Prelude.{Ok, Err, Result}
 use Prim.Native.Nat.{ℕ, suc, ◌-◌, ◌*◌, ◌<◌}
 use native.Mathlib.Omega.{arith}
 use mathlib.Core.Path.{◌≡◌, refl, sym, ap, ◌∙◌}
@@ -9,12 +10,10 @@ use Rattle.cells.specs.declared.Cell.{Cell}
 use Rattle.cells.specs.declared.Counts.{Counts}
 use Rattle.cells.specs.declared.Manner.{Manner}
 use Rattle.cells.specs.declared.Refusal.{Refusal}
-use Rattle.cells.specs.declared.Verdict.{Verdict}
+use Rattle.cells.specs.Checks.{Verdict}
 use Rattle.cells.specs.Checks.{by_verdict}
 use Rattle.cells.specs.Refusals.{told}
 use Rattle.lines.specs.Preference.{order_of, comes_before}
-use Rattle.lists.specs.declared.Listed.{Listed}
-use Rattle.lists.specs.declared.Listed.TheVariants.{Cells, Refused}
 use Rattle.lists.specs.Lists.{list_check}
 use Rattle.grids.specs.Inside.{walk_check}
 use Rattle.walks.specs.declared.Walker.TheVariants.{Adaptive}
@@ -39,7 +38,7 @@ last_at c d (e ∷ f ∷ l) some =
     ap (λ j. get_or (e ∷ f ∷ l) j d) i ∙ last_at e d (f ∷ l) (omega arith)
 
 module _ (how : Manner) (n : Counts) (l : List ℕ) (p q : Cell) (entry exit : List ℤ) (k : ℕ) where
-  listed : AdaptiveCells how n l p q entry (Cells k) exit → CellsAt (length (trail how n l p q)) (trail_cell how n l p q) entry exit k
+  listed : AdaptiveCells how n l p q entry (Ok k) exit → CellsAt (length (trail how n l p q)) (trail_cell how n l p q) entry exit k
   listed h = cells_at (trail how n l p q) (walk_check n (length l) p q) entry exit k h (length (trail how n l p q)) (trail_cell how n l p q) p refl (λ i lt. refl)
 
   some : 0 < length (trail how n l p q)
@@ -56,7 +55,7 @@ module _ (how : Manner) (n : Counts) (l : List ℕ) (p q : Cell) (entry exit : L
       }
 
   -- the last cell that is listed is the trail's
-  ends_at : AdaptiveCells how n l p q entry (Cells k) exit → three_at exit (3 * (k - 1)) ≡ last_of p (trail how n l p q)
+  ends_at : AdaptiveCells how n l p q entry (Ok k) exit → three_at exit (3 * (k - 1)) ≡ last_of p (trail how n l p q)
   ends_at h =
       let c = listed h in
       c.each (k - 1) (omega (arith, some, c.all)) ∙ ap (λ m. trail_cell how n l p q (m - 1)) c.all ∙ last_at p p (trail how n l p q) some
@@ -69,26 +68,26 @@ module _ (how : Manner) (n : Counts) (l : List ℕ) (p q : Cell) (entry exit : L
         refused = λ r h e f. by r e h f (walk_check n (length l) p q) refl;
       }
     where
-      why : Refusal → FirstHit → Refusal
-      why e (FirstHit.Refused x) = x
-      why e (FirstHit.Hit h) = e
-      why e (FirstHit.Clear m) = e
+      why : Refusal → Result FirstHit Refusal → Refusal
+      why e (Err x) = x
+      why e (Ok (FirstHit.Hit h)) = e
+      why e (Ok (FirstHit.Clear m)) = e
 
-      by : (r : Listed) (e : Refusal) → AdaptiveCells how n l p q entry r exit → Finds Adaptive how n l p q (FirstHit.Refused e) →
-          (v : Verdict) → walk_check n (length l) p q ≡ v → r ≡ Refused e
-      by r e h f Verdict.Fine is = absurd (not_refused how n l p q Adaptive is e f)
-      by r e h f (Verdict.Refused x) is =
-          h.says ∙ ap (λ v. by_verdict Refused (Cells (length (trail how n l p q))) (list_check v (length (trail how n l p q)) (length entry))) is
-          ∙ ap Refused (sym (ap (why e) (found how n l p q f ∙ ap (by_verdict FirstHit.Refused _) is)))
+      by : (r : Result ℕ Refusal) (e : Refusal) → AdaptiveCells how n l p q entry r exit → Finds Adaptive how n l p q (Err e) →
+          (v : Verdict) → walk_check n (length l) p q ≡ v → r ≡ Err e
+      by r e h f (Ok _) is = absurd (not_refused how n l p q Adaptive is e f)
+      by r e h f (Err x) is =
+          h.says ∙ ap (λ v. by_verdict Err (Ok (length (trail how n l p q))) (list_check v (length (trail how n l p q)) (length entry))) is
+          ∙ ap Err (sym (ap (why e) (found how n l p q f ∙ ap (by_verdict Err _) is)))
 
 pub trails_worked : TrailRows
 unfolding walk_of order_of comes_before
 trails_worked = record { trails = refl and refl and refl and refl and refl and refl and refl and no_more }
 
 -- the number of a list's refusal
-unfoldable why_not : Listed → ℕ
-why_not (Cells many) = 0
-why_not (Refused r) = (told r).number
+unfoldable why_not : Result ℕ Refusal → ℕ
+why_not (Ok many) = 0
+why_not (Err r) = (told r).number
 
 pub wrong_trails : WrongTrails
 unfolding walk_of order_of comes_before walk_check accepted said why_not

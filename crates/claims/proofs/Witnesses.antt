@@ -1,4 +1,5 @@
 -- The witnesses, by computation. Assumes nothing.
+use Rattle.std.specs.Prelude.{Ok, Err}
 use Prim.Native.Nat.{ℕ, zero, suc, ◌+◌, ◌*◌, ◌<◌}
 use mathlib.Core.Path.{◌≡◌, refl, sym, subst}
 use mathlib.Core.Bool.{Bool, true, false, ◌&&◌}
@@ -12,7 +13,6 @@ use borrow.Author.Tests.{ltb-true}
 use Rattle.cells.specs.declared.Axis.{Axis}
 use Rattle.cells.specs.declared.Axis.TheVariants.{X, Y, Z}
 use Rattle.cells.specs.declared.Refusal.TheVariants.{Bytes, Corners}
-use Rattle.cells.specs.declared.Verdict.TheVariants as Verdict
 use Rattle.lines.specs.Steps.{same}
 use Rattle.lines.specs.Lines.{differences, six_line, line_26}
 use Rattle.lines.specs.Preference.{y_z_x, order_of}
@@ -20,7 +20,6 @@ use Rattle.lines.proofs.Cells.{centre_inside}
 use Rattle.grids.specs.Grid.{count_check, shape, layer_part, layer}
 use Rattle.grids.specs.Marks.{any, touches_solid, marked_byte, marked, complete, completeness}
 use Rattle.cells.specs.Manners.{rule_of, rule_check}
-use Rattle.bricks.specs.declared.Tally.TheVariants as Tally
 use lib.Count.{ones}
 use Rattle.cells.proofs.Signed.{≤ℤ_is}
 use Rattle.bricks.specs.Sums.{sum}
@@ -55,7 +54,6 @@ use Rattle.buffers.specs.Over.{over}
 use Rattle.texts.specs.Text.{decimal}
 use Rattle.touching.specs.Touching.{first_touching}
 use Rattle.lines.specs.Touching.{touching_line}
-use Rattle.grids.specs.declared.Completeness.TheVariants as Completeness
 
 -- from (2,1,0) to (0,0,0) x is crossed at 1 and 3 over 4, y at 1 over 2
 untied : (a b : Axis) (i j : ℕ) → same a b ≡ 0 → i < differences (at 2 1 0) (at 0 0 0) a → j < differences (at 2 1 0) (at 0 0 0) b →
@@ -168,28 +166,28 @@ of_counts =
       no_cell = λ x y z h there b. omega (arith, h.0, h.1, h.2);
       calls =
           then_one {t = record { bytes = marked_cells; masks = 32 ∷ 7 ∷ []; total = 1 }} {op = Mark} (
-            Verdict.Fine,
+            (Ok tt),
             record { says = refl; holds = refl },
             refl,
             refl,
           )
           (then_one {t = record { bytes = set_cells; masks = 33 ∷ 7 ∷ []; total = 2 }} {op = Set (at 0 0 0) 2} (
-            Tally.Total 2,
+            Ok 2,
             record { says = refl; bytes = refl; masks = refl },
             refl,
           )
           (then_one {t = record { bytes = set_cells; masks = 33 ∷ 7 ∷ []; total = 2 }} {op = Refill (at 3 1 0) (at 0 0 0) 2} (
-            Tally.Refused Corners,
+            Err Corners,
             record { says = refl; bytes = refl; masks = refl },
             refl,
           )
           (then_one {t = record { bytes = all_solid; masks = 255 ∷ 7 ∷ []; total = 8 }} {op = Refill (at 0 0 0) (at 3 1 0) 2} (
-            Tally.Total 8,
+            Ok 8,
             record { says = refl; bytes = refl; masks = refl },
             refl,
           )
           (then_one {t = record { bytes = all_solid; masks = 255 ∷ 7 ∷ []; total = 8 }} {op = Build} (
-            Tally.Total 8,
+            Ok 8,
             record { says = refl; holds = refl },
             refl,
             refl,
@@ -262,8 +260,8 @@ pub of_programs : OfPrograms
 unfolding decimal over
 of_programs =
     record {
-      for_c = record { answer = Completeness.Yes; meets = of_grids.says_yes; flat = refl };
-      refused_for_c = record { answer = Verdict.Refused Bytes; meets = of_grids.not_marked; flat = refl };
+      for_c = record { answer = Ok true; meets = of_grids.says_yes; flat = refl };
+      refused_for_c = record { answer = Err Bytes; meets = of_grids.not_marked; flat = refl };
       put = record { says = refl; holds = refl };
       run = subst (Runs example_input) example_writes (writes example_input).some;
     }

@@ -1,16 +1,16 @@
 -- What is claimed of the calls for C, by the contracts of those exports that answer a struct (ExportTies: they are the sources' own). Assumes nothing.
+use Rattle.std.specs.Prelude.{Result, Option}
+use Rattle.cells.specs.declared.Refusal.{Refusal}
+use Rattle.sight.specs.declared.Block.{Block}
 use Rattle.std.specs.Prelude.{ℕ, ◌≤◌, ◌≡◌, List, [], ◌∷◌, ℤ, pos}
 use Rattle.cells.specs.declared.Cell.{Cell}
 use Rattle.cells.specs.declared.Counts.{Counts}
 use Rattle.cells.specs.declared.Rule.{Rule}
-use Rattle.cells.specs.declared.Verdict.{Verdict}
-use Rattle.lists.specs.declared.Listed.{Listed}
+use Rattle.cells.specs.Checks.{Verdict}
 use Rattle.lists.specs.Lists.{Line6, Line26}
 use Rattle.grids.specs.declared.LayerPart.{LayerPart}
-use Rattle.grids.specs.declared.Completeness.{Completeness}
 use Rattle.grids.specs.Grid.{GivesLayerPart}
 use Rattle.grids.specs.Marks.{Marks, Completes}
-use Rattle.bricks.specs.declared.Tally.{Tally}
 use Rattle.bricks.specs.Builds.{Builds}
 use Rattle.refills.specs.Refills.{Refills, Sets}
 use Rattle.walks.specs.declared.Walker.{Walker}
@@ -20,10 +20,8 @@ use Rattle.touching.specs.Touching.{LineTouching, FindsTouching}
 use Rattle.trails.specs.Trails.{AdaptiveCells}
 use Rattle.survey.specs.declared.Placement.{Placement}
 use Rattle.survey.specs.declared.Point.{Point}
-use Rattle.survey.specs.declared.Lookup.{Lookup}
 use Rattle.survey.specs.Quotient.{as_f64}
 use Rattle.survey.specs.Survey.{LooksUp}
-use Rattle.sight.specs.declared.Sight.{Sight}
 use Rattle.sight.specs.Sight.{Sees}
 use Rattle.records.specs.declared.venues.VenueRead.{VenueRead}
 use Rattle.records.specs.declared.pairs.PairRead.{PairRead}
@@ -142,33 +140,33 @@ pub record WrongExports : Type 0 where
 -- oat_adaptive. (What the flattenings hold, and what the start's number means: Flattenings.)
 pub record ExportsAre : Type 0 where
   pub line6 : (rule : Rule) (p q : Cell) (entry exit : List ℤ) (r : OatListed) → FlatLine6 (rule_number rule) p q entry r exit →
-      (a : Listed) × Line6 rule p q entry a exit × (r ≡ flat_listed a)
+      (a : Result ℕ Refusal) × Line6 rule p q entry a exit × (r ≡ flat_listed a)
   pub line26 : (p q : Cell) (entry exit : List ℤ) (r : OatListed) → FlatLine26 p q entry r exit →
-      (a : Listed) × Line26 p q entry a exit × (r ≡ flat_listed a)
+      (a : Result ℕ Refusal) × Line26 p q entry a exit × (r ≡ flat_listed a)
   pub line_touching : (p q : Cell) (entry exit : List ℤ) (r : OatListed) → FlatLineTouching p q entry r exit →
-      (a : Listed) × LineTouching p q entry a exit × (r ≡ flat_listed a)
+      (a : Result ℕ Refusal) × LineTouching p q entry a exit × (r ≡ flat_listed a)
   pub mark : (n : Counts) (entry exit : List ℕ) (r : OatVerdict) → FlatMarks n entry r exit → (a : Verdict) × Marks n entry a exit × (r ≡ flat_verdict a)
-  pub complete : (n : Counts) (cells : List ℕ) (r : OatComplete) → FlatCompletes n cells r → (a : Completeness) × Completes n cells a × (r ≡ flat_complete a)
+  pub complete : (n : Counts) (cells : List ℕ) (r : OatComplete) → FlatCompletes n cells r → (a : Result Bool Refusal) × Completes n cells a × (r ≡ flat_complete a)
   pub layer : (n : Counts) (bytes : ℕ) (z : ℤ) (r : OatPart) → FlatGivesLayerPart n bytes z r →
-      (a : LayerPart) × GivesLayerPart n bytes z a × (r ≡ flat_part a)
+      (a : Result LayerPart Refusal) × GivesLayerPart n bytes z a × (r ≡ flat_part a)
   pub build : (n : Counts) (cells entry exit : List ℕ) (r : OatTally) → FlatBuilds n cells entry r exit →
-      (a : Tally) × Builds n cells entry a exit × (r ≡ flat_tally a)
+      (a : Result ℕ Refusal) × Builds n cells entry a exit × (r ≡ flat_tally a)
   pub set : (n : Counts) (cell : Cell) (byte : ℕ) (l m : List ℕ) (total : ℕ) (l' m' : List ℕ) (r : OatTally) →
-      FlatSets n cell byte l m total r l' m' → (a : Tally) × Sets n cell byte l m total a l' m' × (r ≡ flat_tally a)
+      FlatSets n cell byte l m total r l' m' → (a : Result ℕ Refusal) × Sets n cell byte l m total a l' m' × (r ≡ flat_tally a)
   pub refill : (n : Counts) (low high : Cell) (byte : ℕ) (l m : List ℕ) (total : ℕ) (l' m' : List ℕ) (r : OatTally) →
-      FlatRefills n low high byte l m total r l' m' → (a : Tally) × Refills n low high byte l m total a l' m' × (r ≡ flat_tally a)
+      FlatRefills n low high byte l m total r l' m' → (a : Result ℕ Refusal) × Refills n low high byte l m total a l' m' × (r ≡ flat_tally a)
   pub walks : (w : Walker) (s : ℕ) (rule : Rule) (n : Counts) (cells : List ℕ) (p q : Cell) (r : OatHit) →
       FlatFinds w (record { start = s; rule = rule_number rule }) n cells p q r →
-      (a : FirstHit) × Finds w (record { start = as_start s; rule = rule }) n cells p q a × (r ≡ flat_hit a)
+      (a : Result FirstHit Refusal) × Finds w (record { start = as_start s; rule = rule }) n cells p q a × (r ≡ flat_hit a)
   pub adaptive_cells : (s : ℕ) (rule : Rule) (n : Counts) (cells : List ℕ) (p q : Cell) (entry exit : List ℤ) (r : OatListed) →
       FlatAdaptiveCells (record { start = s; rule = rule_number rule }) n cells p q entry r exit →
-      (a : Listed) × AdaptiveCells (record { start = as_start s; rule = rule }) n cells p q entry a exit × (r ≡ flat_listed a)
+      (a : Result ℕ Refusal) × AdaptiveCells (record { start = as_start s; rule = rule }) n cells p q entry a exit × (r ≡ flat_listed a)
   pub touching : (s : ℕ) (n : Counts) (cells : List ℕ) (p q : Cell) (r : OatHit) → FlatFindsTouching (as_start s) n cells p q r →
-      (a : FirstHit) × FindsTouching (as_start s) n cells p q a × (r ≡ flat_hit a)
-  pub found : (n : Counts) (at : Placement) (p : Point) (r : OatFound) → FlatLooksUp n at p r → (a : Lookup) × LooksUp n at p a × (r ≡ flat_found a)
+      (a : Result FirstHit Refusal) × FindsTouching (as_start s) n cells p q a × (r ≡ flat_hit a)
+  pub found : (n : Counts) (at : Placement) (p : Point) (r : OatFound) → FlatLooksUp n at p r → (a : Result Cell Refusal) × LooksUp n at p a × (r ≡ flat_found a)
   pub seen : (s : ℕ) (rule : Rule) (n : Counts) (cells : List ℕ) (at : Placement) (camera ball : Point) (r : OatSight) →
       FlatSees (record { start = s; rule = rule_number rule }) n cells at camera ball r →
-      (a : Sight) × Sees (record { start = as_start s; rule = rule }) n cells at camera ball a × (r ≡ flat_sight a)
+      (a : Result (Option Block) Refusal) × Sees (record { start = as_start s; rule = rule }) n cells at camera ball a × (r ≡ flat_sight a)
   pub venue : (bytes : List ℕ) (r : OatVenue) → FlatReadsVenue bytes r → (a : VenueRead) × ReadsVenue bytes a × (r ≡ flat_venue a)
   pub pair : (bytes : List ℕ) (r : OatPair) → FlatReadsPair bytes r → (a : PairRead) × ReadsPair bytes a × (r ≡ flat_pair a)
   pub written : (n : Counts) (cells entry exit : List ℕ) (r : OatWritten) → FlatWritesVenue n cells entry r exit →

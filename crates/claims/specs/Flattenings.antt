@@ -1,5 +1,6 @@
 -- What is claimed of the structs that the calls for C answer by: what C reads of an answer is what SCOPE says of it, as numbers; and of those that
 -- the calls take: what they mean. Assumes nothing.
+use Rattle.std.specs.Prelude.{Ok, Err, Some, None}
 use Rattle.std.specs.Prelude.{ℕ, ◌≤◌, ◌≡◌, ◌⊎◌, ◌↔◌, ℤ, pos, negsuc, Float}
 use Rattle.std.proofs.Common.{inr}
 use Rattle.cells.specs.declared.Axis.{Axis}
@@ -13,22 +14,16 @@ use Rattle.cells.specs.declared.Refusal.{Refusal}
 use Rattle.cells.specs.declared.Rule.{Rule}
 use Rattle.cells.specs.declared.Rule.TheVariants.{One, Two}
 use Rattle.cells.specs.declared.Start.TheVariants.{Untested}
-use Rattle.cells.specs.declared.Verdict.TheVariants as Verdict
 use Rattle.cells.specs.Manners.{usual, tested_start, tested_by, rule_of, rule_check}
 use Rattle.cells.specs.Refusals.{Told, told_verdict}
-use Rattle.lists.specs.declared.Listed.TheVariants as Listed
 use Rattle.lists.specs.Lists.{told_listed}
-use Rattle.grids.specs.declared.LayerPart.TheVariants as LayerPart
-use Rattle.grids.specs.declared.Completeness.TheVariants as Completeness
-use Rattle.grids.specs.Grid.{told_part}
+use Rattle.grids.specs.Grid.{part_at, told_part}
 use Rattle.grids.specs.Marks.{told_completeness}
 use Rattle.walks.specs.declared.Walker.TheVariants.{Plain}
 use Rattle.walks.specs.declared.FirstHit.TheVariants as FirstHit
 use Rattle.walks.specs.Answers.{told_hit}
-use Rattle.survey.specs.declared.Lookup.TheVariants as Lookup
 use Rattle.survey.specs.Quotient.{as_f64}
 use Rattle.survey.specs.Survey.{told_lookup}
-use Rattle.sight.specs.declared.Sight.TheVariants as Sight
 use Rattle.sight.specs.Sight.{told_sight}
 use Rattle.records.specs.declared.venues.VenueRead.TheVariants as VenueRead
 use Rattle.records.specs.declared.pairs.PairRead.TheVariants as PairRead
@@ -43,7 +38,6 @@ use Rattle.structs.specs.Faces.{face_number}
 use Rattle.structs.specs.Inputs.{as_cell, as_counts, as_manner, as_placement, as_point}
 use Rattle.structs.specs.LineAnswers.{flat_listed}
 use Rattle.structs.specs.GridAnswers.{flat_verdict, flat_complete, flat_part}
-use Rattle.bricks.specs.declared.Tally.TheVariants as Tally
 use Rattle.bricks.specs.Builds.{told_tally}
 use Rattle.structs.specs.BrickAnswers.{flat_tally}
 use Rattle.structs.specs.WalkAnswers.{flat_hit}
@@ -118,56 +112,56 @@ pub record SaidNumbers : Type 0 where
 -- answer does not speak of. Of a refused one: the refusal's three numbers in `said`, and 0 in every other field.
 pub record FlatRows : Type 0 where
   -- a list: `count` is the number of cells
-  pub listed : (n : ℕ) → flat_listed (Listed.Cells n) ≡ record { said = three 0 0 0; count = n }
-  pub listed_refused : (r : Refusal) → flat_listed (Listed.Refused r) ≡ record { said = flat_refusal r; count = 0 }
+  pub listed : (n : ℕ) → flat_listed (Ok n) ≡ record { said = three 0 0 0; count = n }
+  pub listed_refused : (r : Refusal) → flat_listed (Err r) ≡ record { said = flat_refusal r; count = 0 }
   -- a marking: `said` alone
-  pub verdict : flat_verdict Verdict.Fine ≡ record { said = three 0 0 0 }
-  pub verdict_refused : (r : Refusal) → flat_verdict (Verdict.Refused r) ≡ record { said = flat_refusal r }
+  pub verdict : flat_verdict (Ok tt) ≡ record { said = three 0 0 0 }
+  pub verdict_refused : (r : Refusal) → flat_verdict (Err r) ≡ record { said = flat_refusal r }
   -- completeness: `yes` is 1 for yes, 0 for no
-  pub yes : flat_complete Completeness.Yes ≡ record { said = three 0 0 0; yes = 1 }
-  pub no : flat_complete Completeness.No ≡ record { said = three 0 0 0; yes = 0 }
-  pub complete_refused : (r : Refusal) → flat_complete (Completeness.Refused r) ≡ record { said = flat_refusal r; yes = 0 }
+  pub yes : flat_complete (Ok true) ≡ record { said = three 0 0 0; yes = 1 }
+  pub no : flat_complete (Ok false) ≡ record { said = three 0 0 0; yes = 0 }
+  pub complete_refused : (r : Refusal) → flat_complete (Err r) ≡ record { said = flat_refusal r; yes = 0 }
   -- a layer's part: `offset` is where it starts, `length` how long it is
-  pub part : (start many : ℕ) → flat_part (LayerPart.Part start many) ≡ record { said = three 0 0 0; offset = start; length = many }
-  pub part_refused : (r : Refusal) → flat_part (LayerPart.Refused r) ≡ record { said = flat_refusal r; offset = 0; length = 0 }
+  pub part : (start many : ℕ) → flat_part (Ok (part_at start many)) ≡ record { said = three 0 0 0; offset = start; length = many }
+  pub part_refused : (r : Refusal) → flat_part (Err r) ≡ record { said = flat_refusal r; offset = 0; length = 0 }
   -- a build, a set or a refill: `total` is the number of solid cells
-  pub tally : (many : ℕ) → flat_tally (Tally.Total many) ≡ record { said = three 0 0 0; total = many }
-  pub tally_refused : (r : Refusal) → flat_tally (Tally.Refused r) ≡ record { said = flat_refusal r; total = 0 }
+  pub tally : (many : ℕ) → flat_tally (Ok many) ≡ record { said = three 0 0 0; total = many }
+  pub tally_refused : (r : Refusal) → flat_tally (Err r) ≡ record { said = flat_refusal r; total = 0 }
   -- a walk: `hit` is 1 where it hit, with the cell, its code, the place num over den, the face, and the reads; 0 where it is clear, with the reads
   pub hit : (x y z : ℤ) (code num den : ℕ) (f : Face) (reads : ℕ) →
-      flat_hit (FirstHit.Hit
+      flat_hit ((λ x. Ok (FirstHit.Hit x))
       (record { cell = record { x = x; y = y; z = z }; code = code; place = record { num = num; den = den; face = f }; reads = reads })) ≡
       record { said = three 0 0 0; hit = 1; x = x; y = y; z = z; code = code; num = num; den = den; face = face_number f; reads = reads }
-  pub walk_clear : (reads : ℕ) → flat_hit (FirstHit.Clear reads) ≡
+  pub walk_clear : (reads : ℕ) → flat_hit (Ok (FirstHit.Clear reads)) ≡
       record { said = three 0 0 0; hit = 0; x = pos 0; y = pos 0; z = pos 0; code = 0; num = 0; den = 0; face = pos 0; reads = reads }
-  pub walk_refused : (r : Refusal) → flat_hit (FirstHit.Refused r) ≡
+  pub walk_refused : (r : Refusal) → flat_hit (Err r) ≡
       record { said = flat_refusal r; hit = 0; x = pos 0; y = pos 0; z = pos 0; code = 0; num = 0; den = 0; face = pos 0; reads = 0 }
   -- a point's cell: its x, y and z
-  pub found : (x y z : ℤ) → flat_found (Lookup.Cell (record { x = x; y = y; z = z })) ≡ record { said = three 0 0 0; x = x; y = y; z = z }
-  pub found_refused : (r : Refusal) → flat_found (Lookup.Refused r) ≡ record { said = flat_refusal r; x = pos 0; y = pos 0; z = pos 0 }
+  pub found : (x y z : ℤ) → flat_found (Ok (record { x = x; y = y; z = z })) ≡ record { said = three 0 0 0; x = x; y = y; z = z }
+  pub found_refused : (r : Refusal) → flat_found (Err r) ≡ record { said = flat_refusal r; x = pos 0; y = pos 0; z = pos 0 }
   -- a sight: `blocked` is 1 where a cell is in the way, with the share of the way, the cell, its code, the reads, and the face; 0 where it is clear
   pub blocked : (share : Float) (x y z : ℤ) (code reads : ℕ) (f : Face) →
-      flat_sight (Sight.Blocked (record { share = share; cell = record { x = x; y = y; z = z }; code = code; reads = reads; face = f })) ≡
+      flat_sight (Ok (Some (record { share = share; cell = record { x = x; y = y; z = z }; code = code; reads = reads; face = f }))) ≡
       record { said = three 0 0 0; blocked = 1; share = share; x = x; y = y; z = z; code = code; reads = reads; face = face_number f }
-  pub sight_clear : flat_sight Sight.Clear ≡
+  pub sight_clear : flat_sight (Ok None) ≡
       record { said = three 0 0 0; blocked = 0; share = as_f64 0; x = pos 0; y = pos 0; z = pos 0; code = 0; reads = 0; face = pos 0 }
-  pub sight_refused : (r : Refusal) → flat_sight (Sight.Refused r) ≡
+  pub sight_refused : (r : Refusal) → flat_sight (Err r) ≡
       record { said = flat_refusal r; blocked = 0; share = as_f64 0; x = pos 0; y = pos 0; z = pos 0; code = 0; reads = 0; face = pos 0 }
   -- a venue's record: the three counts; `offset` is where its cells start, `length` how many they are
   pub venue : (nx ny nz start long : ℕ) →
-      flat_venue (VenueRead.Read (record { counts = record { nx = nx; ny = ny; nz = nz }; start = start; long = long })) ≡
+      flat_venue (Ok (record { counts = record { nx = nx; ny = ny; nz = nz }; start = start; long = long })) ≡
       record { said = three 0 0 0; nx = nx; ny = ny; nz = nz; offset = start; length = long }
-  pub venue_refused : (r : Refusal) → flat_venue (VenueRead.Refused r) ≡
+  pub venue_refused : (r : Refusal) → flat_venue (Err r) ≡
       record { said = flat_refusal r; nx = 0; ny = 0; nz = 0; offset = 0; length = 0 }
   -- a pair's record: px, py, pz are those of P, qx, qy, qz those of Q, and `rule` is the rule's number
   pub pair : (px py pz qx qy qz : ℤ) (rule : Rule) →
-      flat_pair (PairRead.Read (record { p = record { x = px; y = py; z = pz }; q = record { x = qx; y = qy; z = qz }; rule = rule })) ≡
+      flat_pair (Ok (record { p = record { x = px; y = py; z = pz }; q = record { x = qx; y = qy; z = qz }; rule = rule })) ≡
       record { said = three 0 0 0; px = px; py = py; pz = pz; qx = qx; qy = qy; qz = qz; rule = rule_number rule }
-  pub pair_refused : (r : Refusal) → flat_pair (PairRead.Refused r) ≡
+  pub pair_refused : (r : Refusal) → flat_pair (Err r) ≡
       record { said = flat_refusal r; px = pos 0; py = pos 0; pz = pos 0; qx = pos 0; qy = pos 0; qz = pos 0; rule = 0 }
   -- a venue's record that was written: `written` is the number of bytes
-  pub written : (many : ℕ) → flat_written (Written.Wrote many) ≡ record { said = three 0 0 0; written = many }
-  pub written_refused : (r : Refusal) → flat_written (Written.Refused r) ≡ record { said = flat_refusal r; written = 0 }
+  pub written : (many : ℕ) → flat_written (Ok many) ≡ record { said = three 0 0 0; written = many }
+  pub written_refused : (r : Refusal) → flat_written (Err r) ≡ record { said = flat_refusal r; written = 0 }
 
 -- 4. What the structs that the calls take mean, for all values: the cell, counts, placement and point with the same value under each name; of a manner
 -- the start 0 is one that is not tested, and any other number one that is; the rules 1 and 2 are named by their numbers, and any other number names none,
@@ -179,8 +173,8 @@ pub record InputRows : Type 0 where
   pub untested_two : as_manner (record { start = 0; rule = 2 }) ≡ record { start = Untested; rule = Two }
   pub tested : (number : ℕ) → (number ≡ 0 → ⊥) → as_manner (record { start = number; rule = 1 }) ≡ tested_start
   pub tested_two : (number : ℕ) → (number ≡ 0 → ⊥) → as_manner (record { start = number; rule = 2 }) ≡ tested_by Two
-  pub named_rule : (rule : Rule) → (rule_check (rule_number rule) ≡ Verdict.Fine) × (rule_of (rule_number rule) ≡ rule)
-  pub no_rule : (number : ℕ) → (number ≡ 1 → ⊥) → (number ≡ 2 → ⊥) → rule_check number ≡ Verdict.Refused Refusal.NoRule
+  pub named_rule : (rule : Rule) → (rule_check (rule_number rule) ≡ Ok tt) × (rule_of (rule_number rule) ≡ rule)
+  pub no_rule : (number : ℕ) → (number ≡ 1 → ⊥) → (number ≡ 2 → ⊥) → rule_check number ≡ Err Refusal.NoRule
   pub placement : (ox oy oz edge : Float) →
       as_placement (record { ox = ox; oy = oy; oz = oz; edge = edge }) ≡ record { ox = ox; oy = oy; oz = oz; edge = edge }
   pub point : (x y z : Float) → as_point (record { x = x; y = y; z = z }) ≡ record { x = x; y = y; z = z }

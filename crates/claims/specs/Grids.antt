@@ -1,28 +1,26 @@
 -- What is claimed of the grid: its layers, near marks and their completeness (SCOPE, G and N). Marks and completeness are claimed over
 -- the number k of touching: 2 is by face or edge, 3 by face, edge or corner. Assumes nothing.
+use Rattle.std.specs.Prelude.{Ok, Err, Result}
 use Rattle.std.specs.Prelude.{ℕ, ◌+◌, ◌*◌, ◌≤◌, ◌<◌, ◌≡◌, ◌⊎◌, ◌↔◌, true, false, List, [], ◌∷◌, ℤ, pos, nat_abs, length, get_or}
 use Rattle.std.specs.Borrow.{Bor}
 use Rattle.cells.specs.declared.Counts.{Counts}
 use Rattle.cells.specs.declared.Refusal.{Refusal}
 use Rattle.cells.specs.declared.Refusal.TheVariants.{Bytes}
-use Rattle.cells.specs.declared.Verdict.{Verdict}
-use Rattle.cells.specs.declared.Verdict.TheVariants.{Fine, Refused}
+use Rattle.cells.specs.Checks.{Verdict}
 use Rattle.cells.specs.Parts.{StartsAt}
 use Rattle.cells.specs.Touching.{Touches}
 use Rattle.grids.specs.declared.LayerPart.{LayerPart}
-use Rattle.grids.specs.declared.Completeness.{Completeness}
-use Rattle.grids.specs.declared.Completeness.TheVariants.{Yes, No}
-use Rattle.grids.specs.Grid.{size, shape, Shapes, index, cell_at, byte_of, clear, solid, GivesLayerPart, GivesLayer}
+use Rattle.grids.specs.Grid.{part_at, size, shape, Shapes, index, cell_at, byte_of, clear, solid, GivesLayerPart, GivesLayer}
 use Rattle.grids.specs.Marks.{marked, complete, Completes, Marks}
 use Rattle.claims.specs.Example.{at, example_counts, example_cells, marked_cells}
 
 -- 1. Each call's contract admits one answer, and marking one final memory, for each input; of a returned layer the bytes and where they lie.
 pub record OneAnswer : Type 0 where
   pub by_shape : (n : Counts) (bytes : ℕ) (r s : Verdict) → Shapes n bytes r → Shapes n bytes s → r ≡ s
-  pub by_layer_part : (n : Counts) (bytes : ℕ) (z : ℤ) (r s : LayerPart) → GivesLayerPart n bytes z r → GivesLayerPart n bytes z s → r ≡ s
+  pub by_layer_part : (n : Counts) (bytes : ℕ) (z : ℤ) (r s : Result LayerPart Refusal) → GivesLayerPart n bytes z r → GivesLayerPart n bytes z s → r ≡ s
   pub by_layer : (n : Counts) (cells : Bor (List ℕ)) (z : ℤ) (r s : Bor (List ℕ)) → GivesLayer n cells z r → GivesLayer n cells z s →
       (r.now ≡ s.now) × (r.ref_ptr ≡ s.ref_ptr)
-  pub by_complete : (n : Counts) (l : List ℕ) (r s : Completeness) → Completes n l r → Completes n l s → r ≡ s
+  pub by_complete : (n : Counts) (l : List ℕ) (r s : Result Bool Refusal) → Completes n l r → Completes n l s → r ≡ s
   pub by_mark : (n : Counts) (l : List ℕ) (r s : Verdict) (a b : List ℕ) → Marks n l r a → Marks n l s b → (r ≡ s) × (a ≡ b)
 
 -- the cell (x, y, z) lies inside the grid
@@ -44,17 +42,17 @@ pub record BytePlaces (n : Counts) (bytes : ℕ) : Type 0 where
   pub every : (x y z : ℕ) → Inside n x y z → (index n x y z < bytes) × (cell_at n (index n x y z) ≡ at x y z)
 
 pub record Places (n : Counts) (bytes : ℕ) : Type 0 where
-  pub numbered : shape n bytes ≡ Fine → BytePlaces n bytes
+  pub numbered : shape n bytes ≡ Ok tt → BytePlaces n bytes
 
 -- 4. The layer is the caller's own bytes where the partner says, nx·ny of them from z·nx·ny on: byte x + nx·y is that of cell (x, y, z). It is empty
 -- exactly when the partner refuses.
-pub record Layers (n : Counts) (z : ℤ) (cells layer : Bor (List ℕ)) (part : LayerPart) : Type 0 where
-  pub empty : GivesLayerPart n (length cells.now) z part → GivesLayer n cells z layer → (layer.now ≡ []) ↔ ((r : Refusal) × (part ≡ LayerPart.Refused r))
-  pub from : (start many : ℕ) → GivesLayerPart n (length cells.now) z (LayerPart.Part start many) →
+pub record Layers (n : Counts) (z : ℤ) (cells layer : Bor (List ℕ)) (part : Result LayerPart Refusal) : Type 0 where
+  pub empty : GivesLayerPart n (length cells.now) z part → GivesLayer n cells z layer → (layer.now ≡ []) ↔ ((r : Refusal) × (part ≡ Err r))
+  pub from : (start many : ℕ) → GivesLayerPart n (length cells.now) z (Ok (part_at start many)) →
       (start ≡ nat_abs z * (n.nx * n.ny)) × (many ≡ n.nx * n.ny)
-  pub of_cells : (start many : ℕ) → GivesLayerPart n (length cells.now) z (LayerPart.Part start many) → GivesLayer n cells z layer →
+  pub of_cells : (start many : ℕ) → GivesLayerPart n (length cells.now) z (Ok (part_at start many)) → GivesLayer n cells z layer →
       (x y : ℕ) → x < n.nx → y < n.ny → get_or layer.now (x + n.nx * y) 0 ≡ byte_of n cells.now (at x y (nat_abs z))
-  pub own : (start many : ℕ) → GivesLayerPart n (length cells.now) z (LayerPart.Part start many) → GivesLayer n cells z layer →
+  pub own : (start many : ℕ) → GivesLayerPart n (length cells.now) z (Ok (part_at start many)) → GivesLayer n cells z layer →
       StartsAt start cells layer × (length layer.now ≡ many) × ((i : ℕ) → i < many → get_or layer.now i 0 ≡ get_or cells.now (start + i) 0)
 
 -- 5. Marking changes no solid byte and no cell's solidity; any other byte becomes 1 exactly where its cell touches a solid one, else 0. It makes the
@@ -71,8 +69,8 @@ pub record Marking (k : ℕ) (n : Counts) (l : List ℕ) : Type 0 where
 
 -- 6. So the completeness call says yes of what a marking call left, unless it was refused.
 pub record MarkedCall (n : Counts) (l : List ℕ) : Type 0 where
-  pub says_yes : (r : Verdict) (a : List ℕ) (c : Completeness) → Marks n l r a → r ≡ Fine → Completes n a c → c ≡ Yes
-  pub refused : (r : Refusal) (a : List ℕ) → Marks n l (Refused r) a → a ≡ l
+  pub says_yes : (r : Verdict) (a : List ℕ) (c : Result Bool Refusal) → Marks n l r a → r ≡ Ok tt → Completes n a c → c ≡ Ok true
+  pub refused : (r : Refusal) (a : List ℕ) → Marks n l (Err r) a → a ≡ l
 
 -- 7. Complete: no clear cell touches a solid one; and that is what the completeness call says.
 pub record Complete (k : ℕ) (n : Counts) (l : List ℕ) : Type 0 where
@@ -80,8 +78,8 @@ pub record Complete (k : ℕ) (n : Counts) (l : List ℕ) : Type 0 where
       ↔ ((i j : ℕ) → i < length l → j < length l → clear (get_or l i 0) ≡ true → solid (get_or l j 0) ≡ true → Touches k (cell_at n i) (cell_at n j) → ⊥)
 
 pub record SaysComplete (n : Counts) (l : List ℕ) : Type 0 where
-  pub yes : Completes n l Yes → complete 3 n l ≡ true
-  pub no : Completes n l No → complete 3 n l ≡ false
+  pub yes : Completes n l (Ok true) → complete 3 n l ≡ true
+  pub no : Completes n l (Ok false) → complete 3 n l ≡ false
 
 -- 8. What the contracts shut out, on the program's venue and on grids of two layers: a shape of one byte short, none, or one whose bytes are
 -- tested before its counts; a marker that touches nothing, one that refuses; complete always, or never; a layer that is empty, or always the
@@ -90,15 +88,15 @@ abbrev pub two_layers : Counts
 two_layers = record { nx = 2; ny = 1; nz = 2 }
 
 pub record ShutOut : Type 0 where
-  pub one_byte_short : Shapes example_counts 7 Fine → ⊥
-  pub no_shape : (r : Refusal) → Shapes example_counts 8 (Refused r) → ⊥
+  pub one_byte_short : Shapes example_counts 7 (Ok tt) → ⊥
+  pub no_shape : (r : Refusal) → Shapes example_counts 8 (Err r) → ⊥
   -- 2 and 3 both apply
-  pub bytes_first : Shapes (record { nx = 0; ny = 2; nz = 1 }) 8 (Refused Bytes) → ⊥
+  pub bytes_first : Shapes (record { nx = 0; ny = 2; nz = 1 }) 8 (Err Bytes) → ⊥
   pub marks_nothing : (r : Verdict) → Marks example_counts example_cells r example_cells → ⊥
-  pub refuses : (r : Refusal) (a : List ℕ) → Marks example_counts example_cells (Refused r) a → ⊥
-  pub complete_always : Completes example_counts example_cells Yes → ⊥
-  pub never_complete : Completes example_counts marked_cells No → ⊥
+  pub refuses : (r : Refusal) (a : List ℕ) → Marks example_counts example_cells (Err r) a → ⊥
+  pub complete_always : Completes example_counts example_cells (Ok true) → ⊥
+  pub never_complete : Completes example_counts marked_cells (Ok false) → ⊥
   pub empty_layer : (cells r : Bor (List ℕ)) → cells.now ≡ example_cells → GivesLayer example_counts cells (pos 0) r → r.now ≡ [] → ⊥
   pub first_layer : (cells r : Bor (List ℕ)) → cells.now ≡ 0 ∷ 0 ∷ 0 ∷ 0 ∷ [] → GivesLayer two_layers cells (pos 1) r → r.ref_ptr ≡ cells.ref_ptr → ⊥
-  pub first_part : GivesLayerPart two_layers 4 (pos 1) (LayerPart.Part 0 2) → ⊥
-  pub no_part : (r : Refusal) → GivesLayerPart two_layers 4 (pos 1) (LayerPart.Refused r) → ⊥
+  pub first_part : GivesLayerPart two_layers 4 (pos 1) (Ok (part_at 0 2)) → ⊥
+  pub no_part : (r : Refusal) → GivesLayerPart two_layers 4 (pos 1) (Err r) → ⊥

@@ -1,5 +1,6 @@
 -- The users' three demands, the kept counts and the touching line, a record each, in the words of the calls' contracts. A tester may read this page alone; each name leads to its file.
 -- Assumes nothing.
+use Rattle.std.specs.Prelude.{Ok, Result, None}
 use Rattle.std.specs.Prelude.{ℕ, ◌≤◌, ◌≡◌, List, ◌++◌, ℤ, take}
 use Rattle.std.specs.Borrow.{Bor}
 use Rattle.cells.specs.declared.Cell.{Cell}
@@ -8,13 +9,11 @@ use Rattle.cells.specs.declared.Manner.{Manner}
 use Rattle.cells.specs.declared.Refusal.{Refusal}
 use Rattle.cells.specs.declared.Rule.{Rule}
 use Rattle.cells.specs.declared.Start.{Start}
-use Rattle.cells.specs.declared.Verdict.{Verdict}
+use Rattle.cells.specs.Checks.{Verdict}
 use Rattle.lines.specs.Steps.{total}
 use Rattle.lines.specs.Preference.{by_rule}
 use Rattle.lines.specs.Lines.{differences, six_cell}
 use Rattle.lines.specs.Segment.{Share, InOpen, InClosed}
-use Rattle.lists.specs.declared.Listed.{Listed}
-use Rattle.grids.specs.declared.Completeness.TheVariants.{Yes}
 use Rattle.grids.specs.Marks.{Completes}
 use Rattle.walks.specs.declared.Walker.TheVariants.{Plain, Adaptive}
 use Rattle.walks.specs.declared.Hit.{Hit}
@@ -22,7 +21,6 @@ use Rattle.walks.specs.declared.FirstHit.{FirstHit}
 use Rattle.walks.specs.Answers.{Finds}
 use Rattle.survey.specs.declared.Placement.{Placement}
 use Rattle.survey.specs.declared.Point.{Point}
-use Rattle.sight.specs.declared.Sight.TheVariants as Sight
 use Rattle.sight.specs.Sight.{Sees}
 use Rattle.records.specs.declared.venues.VenueRead.{VenueRead}
 use Rattle.records.specs.declared.writing.Written.TheVariants.{Wrote}
@@ -65,8 +63,8 @@ pub record TakesAnything : Type 1 where
   pub cells : (n : Counts) (at : Placement) (p : Point) → points.OneAnswer n at p
   pub sights : (how : Manner) (n : Counts) (l : List ℕ) (at : Placement) (camera ball : Point) → SeenOnce how n l at camera ball
   pub record_calls : records.OneAnswer
-  pub list_refusals : (p q : Cell) (entry exit : List ℤ) (r : Listed) → LinesTold p q entry exit r
-  pub trail_refusals : (how : Manner) (n : Counts) (l : List ℕ) (p q : Cell) (entry exit : List ℤ) (r : Listed) → TrailsTold how n l p q entry exit r
+  pub list_refusals : (p q : Cell) (entry exit : List ℤ) (r : Result ℕ Refusal) → LinesTold p q entry exit r
+  pub trail_refusals : (how : Manner) (n : Counts) (l : List ℕ) (p q : Cell) (entry exit : List ℤ) (r : Result ℕ Refusal) → TrailsTold how n l p q entry exit r
   pub grid_refusals : (n : Counts) (l : List ℕ) → GridsTold n l
   pub count_refusals : (n : Counts) (l m : List ℕ) → TalliesTold n l m
   pub point_refusals : (n : Counts) (at : Placement) → PointsTold n at
@@ -111,17 +109,17 @@ pub record AreThePapers : Type 0 where
 -- walks from P to Q and from Q to P are both clear or both hit, and so are the adaptive ones where the marks are complete in the thin shell.
 pub record TellOneStory : Type 0 where
   -- at 3, by the completeness call's yes: two instances of `shells.full`
-  pub same : (how : Manner) (n : Counts) (l : List ℕ) (p q : Cell) → Completes n l Yes → (plain adaptive : FirstHit) →
+  pub same : (how : Manner) (n : Counts) (l : List ℕ) (p q : Cell) → Completes n l (Ok true) → (plain adaptive : Result FirstHit Refusal) →
       Finds Plain how n l p q plain → Finds Adaptive how n l p q adaptive → SameStory plain adaptive
-  pub clear : (how : Manner) (n : Counts) (l : List ℕ) (at : Placement) (camera ball : Point) → Completes n l Yes →
-      Sees how n l at camera ball Sight.Clear → OpenWay how n l at camera ball
+  pub clear : (how : Manner) (n : Counts) (l : List ℕ) (at : Placement) (camera ball : Point) → Completes n l (Ok true) →
+      Sees how n l at camera ball (Ok None) → OpenWay how n l at camera ball
   pub shells : Shells
   pub faces_alone : FacesAlone
   pub less : (n : Counts) (l : List ℕ) → AsksLess n l
   pub no_dearer : (how : Manner) (n : Counts) (l : List ℕ) (p q : Cell) → NoDearer how n l p q
-  pub never_invented : (how : Manner) (n : Counts) (l : List ℕ) (p q : Cell) (k : Hit) (plain : FirstHit) → Finds Adaptive how n l p q (FirstHit.Hit k) →
+  pub never_invented : (how : Manner) (n : Counts) (l : List ℕ) (p q : Cell) (k : Hit) (plain : Result FirstHit Refusal) → Finds Adaptive how n l p q (Ok (FirstHit.Hit k)) →
       Finds Plain how n l p q plain →
-      (h : Hit) × (plain ≡ FirstHit.Hit h) × NoLater (by_rule how.rule p q) p q h.cell k.cell
+      (h : Hit) × (plain ≡ Ok (FirstHit.Hit h)) × NoLater (by_rule how.rule p q) p q h.cell k.cell
   pub faces : (how : Manner) (n : Counts) (l : List ℕ) (p q : Cell) → HitFace how n l p q
   pub starts : (n : Counts) (l : List ℕ) (p q : Cell) → TwoStarts n l p q
   pub both_ways : (n : Counts) (l : List ℕ) (p q : Cell) → BothWays n l p q

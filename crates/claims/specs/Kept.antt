@@ -1,13 +1,12 @@
 -- What is claimed of the solid counts that are kept (SCOPE, K), call by call: masks, ones and totals, the build, a cell set, a box refilled. What holds
 -- from a build on is in Sequences. Assumes nothing.
+use Rattle.std.specs.Prelude.{Ok, Err, Result}
 use Rattle.std.specs.Prelude.{ℕ, ◌+◌, ◌*◌, ◌/◌, ◌^◌, ◌≤◌, ◌<◌, ◌≡◌, true, false, List, [], ◌∷◌, ◌↔◌, pos, length, get_or, set, ◌≤ℤ◌}
 use Rattle.std.specs.Int.Count.{ones}
 use Rattle.cells.specs.declared.Cell.{Cell}
 use Rattle.cells.specs.declared.Counts.{Counts}
 use Rattle.cells.specs.declared.Refusal.{Refusal}
-use Rattle.cells.specs.declared.Verdict.TheVariants.{Fine}
 use Rattle.grids.specs.Grid.{shape, size, index, byte_index, solid}
-use Rattle.bricks.specs.declared.Tally.{Tally}
 use Rattle.bricks.specs.Sums.{sum, count, bit}
 use Rattle.bricks.specs.Bricks.{bricks, mask_at, solids, brick_there, bit_there, solids_in}
 use Rattle.bricks.specs.Builds.{Builds}
@@ -18,14 +17,14 @@ use Rattle.claims.specs.Grids.{Inside}
 
 -- 1. Each call's contract admits one answer and one final memory, of bytes and masks, for each input; a refusal leaves both as they were.
 pub record KeptOnce : Type 0 where
-  pub build : (n : Counts) (l m : List ℕ) (r s : Tally) (a b : List ℕ) → Builds n l m r a → Builds n l m s b → (r ≡ s) × (a ≡ b)
-  pub refill : (n : Counts) (low high : Cell) (byte : ℕ) (l m : List ℕ) (total : ℕ) (r s : Tally) (l' m' l'' m'' : List ℕ) →
+  pub build : (n : Counts) (l m : List ℕ) (r s : Result ℕ Refusal) (a b : List ℕ) → Builds n l m r a → Builds n l m s b → (r ≡ s) × (a ≡ b)
+  pub refill : (n : Counts) (low high : Cell) (byte : ℕ) (l m : List ℕ) (total : ℕ) (r s : Result ℕ Refusal) (l' m' l'' m'' : List ℕ) →
       Refills n low high byte l m total r l' m' → Refills n low high byte l m total s l'' m'' → (r ≡ s) × (l' ≡ l'') × (m' ≡ m'')
-  pub build_refused : (n : Counts) (l m : List ℕ) (r : Refusal) (a : List ℕ) → Builds n l m (Tally.Refused r) a → a ≡ m
+  pub build_refused : (n : Counts) (l m : List ℕ) (r : Refusal) (a : List ℕ) → Builds n l m (Err r) a → a ≡ m
   pub refill_refused : (n : Counts) (low high : Cell) (byte : ℕ) (l m : List ℕ) (total : ℕ) (r : Refusal) (l' m' : List ℕ) →
-      Refills n low high byte l m total (Tally.Refused r) l' m' → (l' ≡ l) × (m' ≡ m)
+      Refills n low high byte l m total (Err r) l' m' → (l' ≡ l) × (m' ≡ m)
   -- a set is the refill of the box that has its cell alone
-  pub set : (n : Counts) (cell : Cell) (byte : ℕ) (l m : List ℕ) (total : ℕ) (r : Tally) (l' m' : List ℕ) →
+  pub set : (n : Counts) (cell : Cell) (byte : ℕ) (l m : List ℕ) (total : ℕ) (r : Result ℕ Refusal) (l' m' : List ℕ) →
       Sets n cell byte l m total r l' m' ↔ Refills n cell cell byte l m total r l' m'
 
 -- ---- masks
@@ -43,8 +42,8 @@ pub record Masks (n : Counts) (l : List ℕ) : Type 0 where
       bit (mask_at n l k) b ≡ false
   pub small : (k : ℕ) → mask_at n l k < 2 ^ 64
   pub ones_are : (k : ℕ) → ones (mask_at n l k) ≡ count (bit (mask_at n l k)) 64
-  pub each_brick : shape n (length l) ≡ Fine → (k : ℕ) → k < size (bricks n) → ones (mask_at n l k) ≡ solids_in n l k
-  pub altogether : shape n (length l) ≡ Fine → sum (λ k. ones (mask_at n l k)) (size (bricks n)) ≡ solids l
+  pub each_brick : shape n (length l) ≡ Ok tt → (k : ℕ) → k < size (bricks n) → ones (mask_at n l k) ≡ solids_in n l k
+  pub altogether : shape n (length l) ≡ Ok tt → sum (λ k. ones (mask_at n l k)) (size (bricks n)) ≡ solids l
   pub decided : (l'' : List ℕ) → length l'' ≡ length l → ((i : ℕ) → solid (get_or l'' i 0) ≡ solid (get_or l i 0)) →
       ((k : ℕ) → mask_at n l'' k ≡ mask_at n l k) × (solids l'' ≡ solids l)
 
@@ -61,7 +60,7 @@ pub record Built (n : Counts) (l m : List ℕ) (t : ℕ) (m' : List ℕ) : Type 
   pub by_ones : t ≡ sum (λ k. ones (get_or m' k 0)) (size (bricks n))
 
 pub record BuildMeans (n : Counts) (l m : List ℕ) (t : ℕ) (m' : List ℕ) : Type 0 where
-  pub accepted : Builds n l m (Tally.Total t) m' → Built n l m t m'
+  pub accepted : Builds n l m (Ok t) m' → Built n l m t m'
 
 -- ---- what a refill changes
 
@@ -93,14 +92,14 @@ pub record Refilled (n : Counts) (low high : Cell) (byte : ℕ) (l m : List ℕ)
   pub same_kind : ((x y z : ℕ) → Inside n x y z → Named low high x y z → solid byte ≡ solid (get_or l (index n x y z) 0)) → (m' ≡ m) × (t ≡ total)
 
 pub record RefillMeans (n : Counts) (low high : Cell) (byte : ℕ) (l m : List ℕ) (total t : ℕ) (l' m' : List ℕ) : Type 0 where
-  pub accepted : Refills n low high byte l m total (Tally.Total t) l' m' → Refilled n low high byte l m total t l' m'
+  pub accepted : Refills n low high byte l m total (Ok t) l' m' → Refilled n low high byte l m total t l' m'
 
 -- 5. An accepted set changes one byte. Where the new byte is solid and the old one is, or neither is, no mask moves, nor the total; so the byte that is
 -- there already changes nothing.
 pub record SetMeans (n : Counts) (cell : Cell) (byte : ℕ) (l m : List ℕ) (total t : ℕ) (l' m' : List ℕ) : Type 0 where
-  pub one_byte : Sets n cell byte l m total (Tally.Total t) l' m' → l' ≡ set l (byte_index n cell) byte
-  pub same_kind : Sets n cell byte l m total (Tally.Total t) l' m' → solid byte ≡ solid (get_or l (byte_index n cell) 0) → (m' ≡ m) × (t ≡ total)
-  pub same_byte : Sets n cell byte l m total (Tally.Total t) l' m' → byte ≡ get_or l (byte_index n cell) 0 → (l' ≡ l) × (m' ≡ m) × (t ≡ total)
+  pub one_byte : Sets n cell byte l m total (Ok t) l' m' → l' ≡ set l (byte_index n cell) byte
+  pub same_kind : Sets n cell byte l m total (Ok t) l' m' → solid byte ≡ solid (get_or l (byte_index n cell) 0) → (m' ≡ m) × (t ≡ total)
+  pub same_byte : Sets n cell byte l m total (Ok t) l' m' → byte ≡ get_or l (byte_index n cell) 0 → (l' ≡ l) × (m' ≡ m) × (t ≡ total)
 
 -- ---- wrong answers
 
@@ -111,17 +110,17 @@ abbrev pub two_cells : Counts
 two_cells = counts 2 1 1
 
 pub record WrongCounts : Type 0 where
-  pub near_counted : (m' : List ℕ) → Builds example_counts marked_cells (0 ∷ []) (Tally.Total 6) m' → ⊥
-  pub surplus_cleared : (r : Tally) → Builds two_cells (2 ∷ 0 ∷ []) (7 ∷ 7 ∷ []) r (1 ∷ 0 ∷ []) → ⊥
+  pub near_counted : (m' : List ℕ) → Builds example_counts marked_cells (0 ∷ []) (Ok 6) m' → ⊥
+  pub surplus_cleared : (r : Result ℕ Refusal) → Builds two_cells (2 ∷ 0 ∷ []) (7 ∷ 7 ∷ []) r (1 ∷ 0 ∷ []) → ⊥
   -- one clear cell, its mask right, the total 1 too high
-  pub recounted : (l' m' : List ℕ) → Sets (counts 1 1 1) (at 0 0 0) 2 (0 ∷ []) (0 ∷ []) 1 (Tally.Total 1) l' m' → ⊥
-  pub left_standing : (l' m' : List ℕ) → Sets (counts 1 1 1) (at 0 0 0) 2 (0 ∷ []) (0 ∷ []) 0 (Tally.Total 0) l' m' → ⊥
-  pub wrong_way : (l' m' : List ℕ) → Sets two_cells (at 0 0 0) 0 (2 ∷ 0 ∷ []) (1 ∷ []) 1 (Tally.Total 2) l' m' → ⊥
-  pub refused_kept : (r : Refusal) (l' m' : List ℕ) → Sets two_cells (at 0 0 0) 0 (2 ∷ 0 ∷ []) (1 ∷ []) 1 (Tally.Refused r) l' m' → ⊥
-  pub high_corner_left_out : (r : Tally) (m' : List ℕ) → Refills two_cells (at 0 0 0) (at 1 0 0) 2 (0 ∷ 0 ∷ []) (0 ∷ []) 0 r (2 ∷ 0 ∷ []) m' → ⊥
+  pub recounted : (l' m' : List ℕ) → Sets (counts 1 1 1) (at 0 0 0) 2 (0 ∷ []) (0 ∷ []) 1 (Ok 1) l' m' → ⊥
+  pub left_standing : (l' m' : List ℕ) → Sets (counts 1 1 1) (at 0 0 0) 2 (0 ∷ []) (0 ∷ []) 0 (Ok 0) l' m' → ⊥
+  pub wrong_way : (l' m' : List ℕ) → Sets two_cells (at 0 0 0) 0 (2 ∷ 0 ∷ []) (1 ∷ []) 1 (Ok 2) l' m' → ⊥
+  pub refused_kept : (r : Refusal) (l' m' : List ℕ) → Sets two_cells (at 0 0 0) 0 (2 ∷ 0 ∷ []) (1 ∷ []) 1 (Err r) l' m' → ⊥
+  pub high_corner_left_out : (r : Result ℕ Refusal) (m' : List ℕ) → Refills two_cells (at 0 0 0) (at 1 0 0) 2 (0 ∷ 0 ∷ []) (0 ∷ []) 0 r (2 ∷ 0 ∷ []) m' → ⊥
   -- the cell's own bit is right, its neighbour's is not; and a bit of no cell
-  pub one_bit_compared : (t : ℕ) (l' m' : List ℕ) → Sets two_cells (at 0 0 0) 0 (2 ∷ 0 ∷ []) (3 ∷ []) 2 (Tally.Total t) l' m' → ⊥
-  pub beyond_the_grid : (t : ℕ) (l' m' : List ℕ) → Sets two_cells (at 0 0 0) 0 (2 ∷ 0 ∷ []) (5 ∷ []) 2 (Tally.Total t) l' m' → ⊥
+  pub one_bit_compared : (t : ℕ) (l' m' : List ℕ) → Sets two_cells (at 0 0 0) 0 (2 ∷ 0 ∷ []) (3 ∷ []) 2 (Ok t) l' m' → ⊥
+  pub beyond_the_grid : (t : ℕ) (l' m' : List ℕ) → Sets two_cells (at 0 0 0) 0 (2 ∷ 0 ∷ []) (5 ∷ []) 2 (Ok t) l' m' → ⊥
   -- a stale mask of a brick that holds no named cell is not looked at
   pub elsewhere_refused : (r : Refusal) (l' m' : List ℕ) →
-      Sets (counts 5 1 1) (at 0 0 0) 2 (0 ∷ 0 ∷ 0 ∷ 0 ∷ 0 ∷ []) (0 ∷ 9 ∷ []) 0 (Tally.Refused r) l' m' → ⊥
+      Sets (counts 5 1 1) (at 0 0 0) 2 (0 ∷ 0 ∷ 0 ∷ 0 ∷ 0 ∷ []) (0 ∷ 9 ∷ []) 0 (Err r) l' m' → ⊥

@@ -1,22 +1,21 @@
 -- What is claimed of the list calls besides their contracts. Assumes nothing.
+use Rattle.std.specs.Prelude.{Ok, Err, Result}
 use Rattle.std.specs.Prelude.{ℕ, ◌+◌, ◌*◌, ◌≤◌, ◌<◌, ◌≡◌, List, [], ◌∷◌, ◌++◌, ℤ, pos, negsuc, length, get_or}
 use Rattle.cells.specs.declared.Cell.{Cell}
 use Rattle.cells.specs.declared.Refusal.{Refusal}
 use Rattle.cells.specs.declared.Rule.{Rule}
-use Rattle.cells.specs.declared.Verdict.{Verdict}
+use Rattle.cells.specs.Checks.{Verdict}
 use Rattle.lines.specs.Steps.{total}
 use Rattle.lines.specs.Preference.{by_rule}
 use Rattle.lines.specs.Lines.{differences, longest, six_cell, six_line, cell_26, line_26, InLimit}
-use Rattle.lists.specs.declared.Listed.{Listed}
-use Rattle.lists.specs.declared.Listed.TheVariants.{Cells, Refused}
 use Rattle.lists.specs.Lists.{Lists, Line6, Line26, numbers}
 use Rattle.claims.specs.Example.{at, sevens}
 
 -- one answer and one final memory for each input: of every list call, whatever it lists and tests first; a refusal writes nothing
 pub record ListedOnce (line : List Cell) (first : Verdict) (entry : List ℤ) : Type 0 where
-  pub answer : (r s : Listed) (exit last : List ℤ) → Lists line first entry r exit → Lists line first entry s last → r ≡ s
-  pub memory : (r s : Listed) (exit last : List ℤ) → Lists line first entry r exit → Lists line first entry s last → exit ≡ last
-  pub untouched : (r : Refusal) (exit : List ℤ) → Lists line first entry (Refused r) exit → exit ≡ entry
+  pub answer : (r s : Result ℕ Refusal) (exit last : List ℤ) → Lists line first entry r exit → Lists line first entry s last → r ≡ s
+  pub memory : (r s : Result ℕ Refusal) (exit last : List ℤ) → Lists line first entry r exit → Lists line first entry s last → exit ≡ last
+  pub untouched : (r : Refusal) (exit : List ℤ) → Lists line first entry (Err r) exit → exit ≡ entry
 
 -- the numbers at i, i+1 and i+2 as x, y and z of a cell
 abbrev pub three_at : List ℤ → ℕ → Cell
@@ -36,9 +35,9 @@ pub record CellsAt (many : ℕ) (cell : ℕ → Cell) (entry exit : List ℤ) (k
 -- SCOPE A2: what an accepted list answers and writes, cell by cell
 pub record CellsListed (p q : Cell) (entry exit : List ℤ) (k : ℕ) : Type 0 where
   -- an accepted list of the 6-line has its A+B+C+1 cells, those of its rule
-  pub six : (rule : Rule) → Line6 rule p q entry (Cells k) exit → CellsAt (total (differences p q) + 1) (six_cell (by_rule rule p q) p q) entry exit k
+  pub six : (rule : Rule) → Line6 rule p q entry (Ok k) exit → CellsAt (total (differences p q) + 1) (six_cell (by_rule rule p q) p q) entry exit k
   -- an accepted list of the 26-line has its M+1 cells
-  pub twenty_six : Line26 p q entry (Cells k) exit → CellsAt (longest (differences p q) + 1) (cell_26 p q) entry exit k
+  pub twenty_six : Line26 p q entry (Ok k) exit → CellsAt (longest (differences p q) + 1) (cell_26 p q) entry exit k
 
 -- the corners of the coordinate limit
 abbrev pub lowest : Cell
@@ -69,6 +68,6 @@ then_q = numbers (at 0 0 0 ∷ at 1 0 0 ∷ at 2 1 0 ∷ at 2 1 0 ∷ []) ++ pos
 
 -- wrong answers that the contracts shut out, on named inputs
 pub record WrongLists : Type 0 where
-  pub repeats_q : (rule : Rule) (r : Listed) → Line6 rule (at 0 0 0) (at 2 1 0) room r then_q → ⊥
-  pub refuses_6 : (rule : Rule) (r : Refusal) (exit : List ℤ) → Line6 rule (at 0 0 0) (at 2 1 0) room (Refused r) exit → ⊥
-  pub refuses_26 : (r : Refusal) (exit : List ℤ) → Line26 (at 0 0 0) (at 2 1 0) room (Refused r) exit → ⊥
+  pub repeats_q : (rule : Rule) (r : Result ℕ Refusal) → Line6 rule (at 0 0 0) (at 2 1 0) room r then_q → ⊥
+  pub refuses_6 : (rule : Rule) (r : Refusal) (exit : List ℤ) → Line6 rule (at 0 0 0) (at 2 1 0) room (Err r) exit → ⊥
+  pub refuses_26 : (r : Refusal) (exit : List ℤ) → Line26 (at 0 0 0) (at 2 1 0) room (Err r) exit → ⊥

@@ -1,4 +1,6 @@
 -- What is claimed of a surveyed point's cell (SCOPE, S), for every counts, placement and point. Assumes nothing.
+use Rattle.std.specs.Prelude.{Ok, Err, Result}
+use Rattle.cells.specs.declared.Cell.{Cell}
 use Rattle.std.specs.Prelude.{ℕ, ◌+◌, ◌-◌, ◌^◌, ◌≤◌, ◌<◌, ◌≡◌, true, false, ◌↔◌, ◌⊎◌, List, [], ◌∷◌, ℤ, pos, negsuc, Float}
 use Rattle.std.proofs.Common.{inl, inr}
 use Rattle.std.specs.Float.{nan, inf, fin, binary64}
@@ -15,8 +17,6 @@ use Rattle.cells.specs.declared.Part.{Part}
 use Rattle.cells.specs.declared.Part.TheVariants.{OriginX, Edge}
 use Rattle.cells.specs.declared.Axis.{Axis}
 use Rattle.cells.specs.Refusals.{Told, at_axis, at_part, at_end}
-use Rattle.survey.specs.declared.Lookup.{Lookup}
-use Rattle.survey.specs.declared.Lookup.TheVariants.{Cell, Refused}
 use Rattle.survey.specs.declared.Placement.{Placement}
 use Rattle.survey.specs.declared.Point.{Point}
 use Rattle.survey.specs.Quotient.{as_f64, outside, in_cell, on_far_face, Has}
@@ -27,7 +27,7 @@ use Rattle.claims.specs.Tables.{EachRow}
 
 -- 1. One answer for each input.
 pub record OneAnswer (n : Counts) (at : Placement) (p : Point) : Type 0 where
-  pub alone : (r s : Lookup) → LooksUp n at p r → LooksUp n at p s → r ≡ s
+  pub alone : (r s : Result Cell Refusal) → LooksUp n at p r → LooksUp n at p s → r ≡ s
 
 -- 2. On one axis: the coordinate z is a whole number below the count whose cell has q: z ≤ q < z+1, or q equals the count and z is the last.
 pub record Coordinate (count : ℕ) (q : Float) (z : ℤ) : Type 0 where
@@ -65,10 +65,10 @@ pub record Finite (p : Point) : Type 0 where
 -- 3. An answer that is a cell is the one that has the point's quotients; and where there is such a cell, it is the answer. Of the call, and of
 -- the lookups that a sight makes, of the camera as P and of the ball as Q.
 pub record TheCell (n : Counts) (at : Placement) (p : Point) : Type 0 where
-  pub given : (c : cell.Cell) → LooksUp n at p (Cell c) → PlacedGrid n at × InItsCell n (quotients at p) c
-  pub found : (c : cell.Cell) → PlacedGrid n at → Finite p → InItsCell n (quotients at p) c → LooksUp n at p (Cell c)
-  pub end_given : (e : End) (c : cell.Cell) → PlacedGrid n at → look_up e n at p ≡ Cell c → InItsCell n (quotients at p) c
-  pub end_found : (e : End) (c : cell.Cell) → PlacedGrid n at → Finite p → InItsCell n (quotients at p) c → look_up e n at p ≡ Cell c
+  pub given : (c : cell.Cell) → LooksUp n at p (Ok c) → PlacedGrid n at × InItsCell n (quotients at p) c
+  pub found : (c : cell.Cell) → PlacedGrid n at → Finite p → InItsCell n (quotients at p) c → LooksUp n at p (Ok c)
+  pub end_given : (e : End) (c : cell.Cell) → PlacedGrid n at → look_up e n at p ≡ Ok c → InItsCell n (quotients at p) c
+  pub end_found : (e : End) (c : cell.Cell) → PlacedGrid n at → Finite p → InItsCell n (quotients at p) c → look_up e n at p ≡ Ok c
 
 -- 4. With counts and placement that pass their tests and finite values, no quotient is NaN; and a quotient is outside, below 0 or above the count,
 -- exactly when it has no coordinate.
@@ -207,20 +207,20 @@ table =
 -- ---- wrong answers that the contract rules out
 
 -- "always cell 0", and "refused always", at 1.5 m of 4 cells
-abbrev pub FoundThere : Lookup → Type 0
+abbrev pub FoundThere : Result Cell Refusal → Type 0
 FoundThere = LooksUp (cube 4) one_metre (point (tenths 15) (metres 0) (metres 0))
 
 -- on the far wall of x, 4 m of 4 cells; and the next f64 behind it
-abbrev pub FoundOnWall : Lookup → Type 0
+abbrev pub FoundOnWall : Result Cell Refusal → Type 0
 FoundOnWall = LooksUp (cube 4) one_metre (point (metres 4) (metres 0) (metres 0))
 
-abbrev pub FoundBehind : Lookup → Type 0
+abbrev pub FoundBehind : Result Cell Refusal → Type 0
 FoundBehind = LooksUp (cube 4) one_metre (point (next_above 4) (metres 0) (metres 0))
 
 pub record Refuted : Type 0 where
-  pub always_first_cell : FoundThere (Cell (record { x = pos 0; y = pos 0; z = pos 0 })) → ⊥
-  pub refuses_always : (r : Refusal) → FoundThere (Refused r) → ⊥
+  pub always_first_cell : FoundThere (Ok (record { x = pos 0; y = pos 0; z = pos 0 })) → ⊥
+  pub refuses_always : (r : Refusal) → FoundThere (Err r) → ⊥
   -- the far wall refused; given to the first cell, or to the cell behind the last; a cell behind it
-  pub wall_refused : (r : Refusal) → FoundOnWall (Refused r) → ⊥
-  pub wall_to_another : (c : cell.Cell) → (c ≡ record { x = pos 3; y = pos 0; z = pos 0 } → ⊥) → FoundOnWall (Cell c) → ⊥
-  pub behind_accepted : (c : cell.Cell) → FoundBehind (Cell c) → ⊥
+  pub wall_refused : (r : Refusal) → FoundOnWall (Err r) → ⊥
+  pub wall_to_another : (c : cell.Cell) → (c ≡ record { x = pos 3; y = pos 0; z = pos 0 } → ⊥) → FoundOnWall (Ok c) → ⊥
+  pub behind_accepted : (c : cell.Cell) → FoundBehind (Ok c) → ⊥

@@ -1,4 +1,6 @@
 -- What is claimed of the program `sightlines`: for all steps that meet their contracts. Assumes nothing.
+use Rattle.std.specs.Prelude.{Ok, Err, Result, Some, None}
+use Rattle.cells.specs.declared.Refusal.{Refusal}
 use Rattle.std.specs.Prelude.{ℕ, ◌+◌, ◌≡◌, List, [], ◌∷◌, ◌++◌, ◌⊎◌, take}
 use Rattle.cells.specs.declared.Counts.{Counts}
 use Rattle.cells.specs.declared.Manner.{Manner}
@@ -15,7 +17,6 @@ use Rattle.walks.specs.declared.FirstHit.{FirstHit}
 use Rattle.records.specs.declared.pairs.Pair.{Pair}
 use Rattle.records.specs.declared.pairs.PairRead.TheVariants as PairRead
 use Rattle.texts.specs.Text.{hit_line, clear_line, pair_refused_line}
-use Rattle.program.specs.declared.Next.TheVariants.{On, Over}
 use Rattle.program.specs.declared.Step.{Step}
 use Rattle.program.specs.Program.{Said, venue_most, pair_most, venue_said, answers, walk_line, walk_lines, pair_said, output, frame, after_frame, Says}
 use Rattle.claims.specs.Example.{marked_cells}
@@ -26,16 +27,16 @@ use Rattle.records.specs.Pairs.{ReadsPair}
 
 -- Pair by pair: the next frame of what is left of the input is handed to the step, and what it puts is written; it says what comes next.
 pub data Pairs (n : Counts) (cells : List ℕ) : ℕ → List ℕ → List ℕ → Type 0 where
-  last : {k : ℕ} {s entry exit : List ℕ} {r : Step} → Says (pair_said n cells k (frame pair_most s)) entry r exit → r.next ≡ Over
+  last : {k : ℕ} {s entry exit : List ℕ} {r : Step} → Says (pair_said n cells k (frame pair_most s)) entry r exit → r.next ≡ None
       → Pairs n cells k s (take r.long exit)
-  next : {k j : ℕ} {s entry exit out : List ℕ} {r : Step} → Says (pair_said n cells k (frame pair_most s)) entry r exit → r.next ≡ On j
+  next : {k j : ℕ} {s entry exit out : List ℕ} {r : Step} → Says (pair_said n cells k (frame pair_most s)) entry r exit → r.next ≡ Some j
       → Pairs n cells j (after_frame pair_most s) out → Pairs n cells k s (take r.long exit ++ out)
 
 -- The venue's frame first, and where it is taken the pairs, with the counts and the cells that reading the frame gives.
 pub data Runs : List ℕ → List ℕ → Type 0 where
-  ends : {s entry exit : List ℕ} {r : Step} → Says (venue_said (frame venue_most s)) entry r exit → r.next ≡ Over → Runs s (take r.long exit)
+  ends : {s entry exit : List ℕ} {r : Step} → Says (venue_said (frame venue_most s)) entry r exit → r.next ≡ None → Runs s (take r.long exit)
   begins : {k : ℕ} {s entry exit out : List ℕ} {bytes cells : Bor (List ℕ)} {r : Step} {v : Venue} →
-      Says (venue_said (frame venue_most s)) entry r exit → r.next ≡ On k
+      Says (venue_said (frame venue_most s)) entry r exit → r.next ≡ Some k
       → bytes.now ≡ frame venue_most s → ReadsVenue bytes.now (Read v) → GivesCells bytes cells →
       Pairs v.counts cells.now k (after_frame venue_most s) out
       → Runs s (take r.long exit ++ out)
@@ -54,38 +55,38 @@ pub record OneStep (entry : List ℕ) : Type 0 where
       → Says (pair_said n cells k frame) entry t y → (r ≡ t) × (x ≡ y)
 
 -- a walk was made: its answer is no refusal, and so it has a line
-abbrev pub Walked : FirstHit → Type 0
-Walked (FirstHit.Clear reads) = Unit {0}
-Walked (FirstHit.Hit h) = Unit {0}
-Walked (FirstHit.Refused r) = ⊥
+abbrev pub Walked : Result FirstHit Refusal → Type 0
+Walked (Ok (FirstHit.Clear reads)) = Unit {0}
+Walked (Ok (FirstHit.Hit h)) = Unit {0}
+Walked (Err r) = ⊥
 
-abbrev pub AllWalked : List (ℕ × FirstHit) → Type 0
+abbrev pub AllWalked : List (ℕ × (Result FirstHit Refusal)) → Type 0
 AllWalked [] = Unit {0}
 AllWalked (a ∷ more) = Walked a.1 × AllWalked more
 
 -- what is said of pair k, and on to the next
 abbrev pub going_on : ℕ → List ℕ → Said
-going_on k text = record { text = text; next = On (k + 1) }
+going_on k text = record { text = text; next = Some (k + 1) }
 
 -- Of an accepted venue, a pair that is read is refused 5 or not at all; then each walk was made and has its line. Either way the program goes on.
 pub record FiveOrLines (bytes cells : Bor (List ℕ)) (t : List ℕ) (v : Venue) (e : Pair) : Type 0 where
-  pub pair : ReadsVenue bytes.now (Read v) → GivesCells bytes cells → ReadsPair t (PairRead.Read e) → (k : ℕ) →
-      let found : List (ℕ × FirstHit) = answers v.counts cells.now e in
+  pub pair : ReadsVenue bytes.now (Read v) → GivesCells bytes cells → ReadsPair t (Ok e) → (k : ℕ) →
+      let found : List (ℕ × (Result FirstHit Refusal)) = answers v.counts cells.now e in
       (pair_said v.counts cells.now k t ≡ going_on k (pair_refused_line k 5))
       ⊎ ((pair_said v.counts cells.now k t ≡ going_on k (walk_lines k found)) × AllWalked found)
 
 -- SCOPE T6: of a pair whose rule byte names no rule there is the line of 12, and the program goes on.
 pub record TwelveGoesOn (n : Counts) (cells t : List ℕ) : Type 0 where
-  pub goes_on : ReadsPair t (PairRead.Refused NoRule) → (k : ℕ) → pair_said n cells k t ≡ going_on k (pair_refused_line k 12)
+  pub goes_on : ReadsPair t (Err NoRule) → (k : ℕ) → pair_said n cells k t ≡ going_on k (pair_refused_line k 12)
 
 -- What the line of a walk has: a hit's cell, code, reads and entry face, or the reads of a clear one.
 pub record LineOf (k letter : ℕ) : Type 0 where
-  pub hit : (h : Hit) → walk_line k letter (FirstHit.Hit h) ≡ hit_line k letter h.cell h.code h.reads h.place.face
-  pub clear : (reads : ℕ) → walk_line k letter (FirstHit.Clear reads) ≡ clear_line k letter reads
+  pub hit : (h : Hit) → walk_line k letter (Ok (FirstHit.Hit h)) ≡ hit_line k letter h.cell h.code h.reads h.place.face
+  pub clear : (reads : ℕ) → walk_line k letter (Ok (FirstHit.Clear reads)) ≡ clear_line k letter reads
 
 -- SCOPE T16, T17: of any pair the program's answers are those of the two calls with a tested start and by the pair's rule, with the letters P and A.
 pub record TestedStart (n : Counts) (cells : List ℕ) (e : Pair) : Type 0 where
-  pub walks : (how : Manner) → how.start ≡ Tested → how.rule ≡ e.rule → (plain adaptive : FirstHit) → Finds Plain how n cells e.p e.q plain →
+  pub walks : (how : Manner) → how.start ≡ Tested → how.rule ≡ e.rule → (plain adaptive : Result FirstHit Refusal) → Finds Plain how n cells e.p e.q plain →
       Finds Adaptive how n cells e.p e.q adaptive → answers n cells e ≡ (80, plain) ∷ (65, adaptive) ∷ []
 
 -- ---- named inputs and outputs
@@ -120,6 +121,6 @@ marked_output = plain_line ++ (49 ∷ 32 ∷ 65 ∷ 32 ∷ 104 ∷ 105 ∷ 116 �
 pub record WrongPrograms : Type 0 where
   pub silent : Runs example_input [] → ⊥
   pub goes_on : (n : Counts) (cells entry exit : List ℕ) (answer : Step) (k : ℕ) → Says (pair_said n cells 1 (0 ∷ 0 ∷ 0 ∷ [])) entry answer exit →
-      answer.next ≡ On k → ⊥
-  pub ends_at_12 : (n : Counts) (cells entry exit : List ℕ) (answer : Step) → Says (pair_said n cells 1 (pair_by 3)) entry answer exit → answer.next ≡ Over → ⊥
-  pub begins : (entry exit : List ℕ) (answer : Step) (k : ℕ) → Says (venue_said (0 ∷ 0 ∷ 0 ∷ [])) entry answer exit → answer.next ≡ On k → ⊥
+      answer.next ≡ Some k → ⊥
+  pub ends_at_12 : (n : Counts) (cells entry exit : List ℕ) (answer : Step) → Says (pair_said n cells 1 (pair_by 3)) entry answer exit → answer.next ≡ None → ⊥
+  pub begins : (entry exit : List ℕ) (answer : Step) (k : ℕ) → Says (venue_said (0 ∷ 0 ∷ 0 ∷ [])) entry answer exit → answer.next ≡ Some k → ⊥

@@ -1,4 +1,5 @@
 -- What is claimed of venue and pair records: for all answers that meet the calls' contracts. Assumes nothing.
+use Rattle.std.specs.Prelude.{Ok, Err}
 use Rattle.std.specs.Prelude.{ℕ, ◌+◌, ◌*◌, ◌≤◌, ◌<◌, ◌≡◌, ◌↔◌, ◌⊎◌, List, [], ◌∷◌, ◌++◌, pos, ◌-ℤ◌, length, get_or, take, replicate}
 use Rattle.std.specs.Borrow.{Bor}
 use Rattle.buffers.specs.Numbers.{two_at, four_at, AllBytes}
@@ -7,7 +8,6 @@ use Rattle.cells.specs.declared.Refusal.{Refusal}
 use Rattle.cells.specs.declared.Refusal.TheVariants.{Bytes, NoRule}
 use Rattle.cells.specs.declared.Rule.TheVariants.{One, Two}
 use Rattle.cells.specs.Parts.{StartsAt}
-use Rattle.cells.specs.declared.Verdict.TheVariants.{Fine}
 use Rattle.grids.specs.Grid.{size, count_check, shape}
 use Rattle.records.specs.declared.venues.Venue.{Venue}
 use Rattle.records.specs.declared.venues.VenueRead.{VenueRead}
@@ -27,7 +27,7 @@ pub record OneAnswer : Type 0 where
   pub pair : (s : List ℕ) (r t : PairRead) → ReadsPair s r → ReadsPair s t → r ≡ t
   pub written : (n : Counts) (cells entry : List ℕ) (r t : Written) (x y : List ℕ) → WritesVenue n cells entry r x → WritesVenue n cells entry t y →
       (r ≡ t) × (x ≡ y)
-  pub untouched : (n : Counts) (cells entry : List ℕ) (r : Refusal) (x : List ℕ) → WritesVenue n cells entry (Written.Refused r) x → x ≡ entry
+  pub untouched : (n : Counts) (cells entry : List ℕ) (r : Refusal) (x : List ℕ) → WritesVenue n cells entry (Err r) x → x ≡ entry
 
 -- 2. What reading accepts, in SCOPE's numbers: a venue v of these bytes, and a pair e: of version 1 and length 13, which means rule 1; or of version 2
 -- and length 14, whose last byte, 1 or 2, is the rule's number.
@@ -36,7 +36,7 @@ pub record Right (s : List ℕ) (v : Venue) : Type 0 where
   pub version : version_of s ≡ 1
   pub length_is : announced s ≡ 7 + size v.counts
   pub counts_are : v.counts ≡ record { nx = two_at s 5; ny = two_at s 7; nz = two_at s 9 }
-  pub shape_is : shape v.counts (size v.counts) ≡ Fine
+  pub shape_is : shape v.counts (size v.counts) ≡ Ok tt
   pub part : (v.start ≡ 11) × (v.long ≡ size v.counts)
 
 pub record RightPair (s : List ℕ) (e : Pair) : Type 0 where
@@ -48,38 +48,38 @@ pub record RightPair (s : List ℕ) (e : Pair) : Type 0 where
 
 -- just these are accepted
 pub record Accepted (s : List ℕ) : Type 0 where
-  pub venue : (v : Venue) → ReadsVenue s (VenueRead.Read v) ↔ Right s v
-  pub pair : (e : Pair) → ReadsPair s (PairRead.Read e) ↔ RightPair s e
+  pub venue : (v : Venue) → ReadsVenue s (Ok v) ↔ Right s v
+  pub pair : (e : Pair) → ReadsPair s (Ok e) ↔ RightPair s e
 
 -- SCOPE V6: 3 for a length that does not fit the counts, of a whole record of version 1, long enough for its head, with counts that pass.
 pub record LengthTested (s : List ℕ) : Type 0 where
-  pub three : 4 + announced s ≤ length s → version_of s ≡ 1 → 7 ≤ announced s → count_check (counts_at s 5) ≡ Fine →
-      (announced s ≡ 7 + size (counts_at s 5) → ⊥) → ReadsVenue s (VenueRead.Refused Bytes)
+  pub three : 4 + announced s ≤ length s → version_of s ≡ 1 → 7 ≤ announced s → count_check (counts_at s 5) ≡ Ok tt →
+      (announced s ≡ 7 + size (counts_at s 5) → ⊥) → ReadsVenue s (Err Bytes)
 
 -- 3. The cells are the caller's own bytes, where reading says; never empty, so the empty part means refused.
 pub record ThePart (bytes part : Bor (List ℕ)) : Type 0 where
-  pub accepted : (v : Venue) → ReadsVenue bytes.now (VenueRead.Read v) → GivesCells bytes part →
+  pub accepted : (v : Venue) → ReadsVenue bytes.now (Ok v) → GivesCells bytes part →
       StartsAt v.start bytes part × (length part.now ≡ v.long) × (1 ≤ length part.now)
-  pub refused : (r : Refusal) → ReadsVenue bytes.now (VenueRead.Refused r) → GivesCells bytes part → part.now ≡ []
+  pub refused : (r : Refusal) → ReadsVenue bytes.now (Err r) → GivesCells bytes part → part.now ≡ []
 
 -- 4. A venue written and read back is the same counts and the same cells, whatever bytes follow it; also as it stands in the lent memory, before
 -- the bytes that stayed.
 pub record SameVenue (n : Counts) (cells : List ℕ) (bytes part : Bor (List ℕ)) (r : VenueRead) : Type 0 where
-  pub read : r ≡ VenueRead.Read (record { counts = n; start = 11; long = length cells })
+  pub read : r ≡ Ok (record { counts = n; start = 11; long = length cells })
   pub same_cells : part.now ≡ cells
   pub there : StartsAt 11 bytes part
 
 pub record ReadBack (n : Counts) (cells entry : List ℕ) : Type 0 where
-  pub same : (exit : List ℕ) (k : ℕ) → WritesVenue n cells entry (Written.Wrote k) exit → (rest : List ℕ) (bytes part : Bor (List ℕ)) (r : VenueRead) →
+  pub same : (exit : List ℕ) (k : ℕ) → WritesVenue n cells entry (Ok k) exit → (rest : List ℕ) (bytes part : Bor (List ℕ)) (r : VenueRead) →
       bytes.now ≡ take k exit ++ rest → ReadsVenue bytes.now r → GivesCells bytes part → SameVenue n cells bytes part r
-  pub in_place : (exit : List ℕ) (k : ℕ) → WritesVenue n cells entry (Written.Wrote k) exit → (bytes part : Bor (List ℕ)) (r : VenueRead) →
+  pub in_place : (exit : List ℕ) (k : ℕ) → WritesVenue n cells entry (Ok k) exit → (bytes part : Bor (List ℕ)) (r : VenueRead) →
       bytes.now ≡ exit → ReadsVenue bytes.now r → GivesCells bytes part → SameVenue n cells bytes part r
 
 -- 5. What reading accepts, writing gives back: the record's own bytes, into room that is just enough.
 pub record WrittenBack (bytes part : Bor (List ℕ)) : Type 0 where
-  pub same : AllBytes bytes.now → (v : Venue) → ReadsVenue bytes.now (VenueRead.Read v) → GivesCells bytes part →
+  pub same : AllBytes bytes.now → (v : Venue) → ReadsVenue bytes.now (Ok v) → GivesCells bytes part →
       (entry : List ℕ) → length entry ≡ 4 + announced bytes.now → (w : Written) (exit : List ℕ) → WritesVenue v.counts part.now entry w exit →
-      (w ≡ Written.Wrote (4 + announced bytes.now)) × (exit ≡ take (4 + announced bytes.now) bytes.now)
+      (w ≡ Ok (4 + announced bytes.now)) × (exit ≡ take (4 + announced bytes.now) bytes.now)
 
 -- 6. Bytes after a record are not looked at: s is as long as its first four bytes say.
 pub record NotLookedAt (s rest : List ℕ) : Type 0 where
@@ -133,16 +133,16 @@ version_2 = 0 ∷ 0 ∷ 0 ∷ 15 ∷ 2 ∷ 0 ∷ 4 ∷ 0 ∷ 2 ∷ 0 ∷ 1 ∷ e
 -- refused, or its coordinates taken as unsigned; a version 2 pair of rule 2 read as rule 1, one of length 13 and a version 1 pair of length 14 read; one
 -- of the rule byte 3 read, or refused otherwise than by 12; a writer that leaves the memory as it was, one that writes into room of one byte short
 pub record WrongRecords : Type 0 where
-  pub refuser : (r : Refusal) → ReadsVenue example_venue (VenueRead.Refused r) → ⊥
-  pub other_version : (v : Venue) → ReadsVenue version_2 (VenueRead.Read v) → ⊥
+  pub refuser : (r : Refusal) → ReadsVenue example_venue (Err r) → ⊥
+  pub other_version : (v : Venue) → ReadsVenue version_2 (Ok v) → ⊥
   pub whole_part : (bytes part : Bor (List ℕ)) → bytes.now ≡ example_venue → GivesCells bytes part → part.now ≡ example_venue → ⊥
   pub empty_part : (bytes part : Bor (List ℕ)) → bytes.now ≡ example_venue → GivesCells bytes part → part.now ≡ [] → ⊥
   pub part_elsewhere : (bytes part : Bor (List ℕ)) → bytes.now ≡ example_venue → GivesCells bytes part → part.ref_ptr ≡ bytes.ref_ptr → ⊥
-  pub pair_refuser : (r : Refusal) → ReadsPair example_pair (PairRead.Refused r) → ⊥
-  pub unsigned : (e : Pair) → ReadsPair minus_one_pair (PairRead.Read e) → e.q.x ≡ pos 65535 → ⊥
-  pub two_as_one : (e : Pair) → ReadsPair (pair_by 2) (PairRead.Read e) → e.rule ≡ One → ⊥
-  pub second_short : (e : Pair) → ReadsPair second_of_13 (PairRead.Read e) → ⊥
-  pub first_long : (e : Pair) → ReadsPair first_of_14 (PairRead.Read e) → ⊥
-  pub not_twelve : (r : PairRead) → ReadsPair (pair_by 3) r → (r ≡ PairRead.Refused NoRule → ⊥) → ⊥
+  pub pair_refuser : (r : Refusal) → ReadsPair example_pair (Err r) → ⊥
+  pub unsigned : (e : Pair) → ReadsPair minus_one_pair (Ok e) → e.q.x ≡ pos 65535 → ⊥
+  pub two_as_one : (e : Pair) → ReadsPair (pair_by 2) (Ok e) → e.rule ≡ One → ⊥
+  pub second_short : (e : Pair) → ReadsPair second_of_13 (Ok e) → ⊥
+  pub first_long : (e : Pair) → ReadsPair first_of_14 (Ok e) → ⊥
+  pub not_twelve : (r : PairRead) → ReadsPair (pair_by 3) r → (r ≡ Err NoRule → ⊥) → ⊥
   pub idle_writer : (r : Written) → WritesVenue example_counts example_cells example_room r example_room → ⊥
-  pub short_writer : (exit : List ℕ) → WritesVenue example_counts example_cells (replicate 18 99) (Written.Wrote 19) exit → ⊥
+  pub short_writer : (exit : List ℕ) → WritesVenue example_counts example_cells (replicate 18 99) (Ok 19) exit → ⊥

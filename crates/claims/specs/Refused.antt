@@ -1,5 +1,8 @@
 -- SCOPE, R and O: for each public call its tests in order, each in plain inequalities on the call's inputs and with the
 -- number and details that it gives; and the claim that every answer that meets the call's contract is given by them. Assumes nothing.
+use Rattle.std.specs.Prelude.{Result, Option}
+use Rattle.cells.specs.declared.Refusal.{Refusal}
+use Rattle.sight.specs.declared.Block.{Block}
 use Rattle.std.specs.Prelude.{ℕ, ◌+◌, ◌*◌, ◌/◌, ◌<◌, ◌≡◌, true, false, List, [], ◌↔◌, ◌⊎◌, ℤ, pos, neg_ℤ, ◌<ℤ◌, ◌≤ℤ◌, length, get_or, Float}
 use Rattle.std.specs.Borrow.{Bor}
 use Rattle.std.specs.Float.{binary64}
@@ -15,21 +18,18 @@ use Rattle.cells.specs.declared.End.TheVariants.{P, Q}
 use Rattle.cells.specs.declared.Part.TheVariants.{OriginX, OriginY, OriginZ, Edge}
 use Rattle.cells.specs.declared.Rule.{Rule}
 use Rattle.cells.specs.declared.Start.{Start}
-use Rattle.cells.specs.declared.Verdict.{Verdict}
+use Rattle.cells.specs.Checks.{Verdict}
 use Rattle.cells.specs.Refusals.{Told, alone, at_axis, at_part, at_end, told_verdict}
 use Rattle.cells.specs.Tests.{Tests, ◌gives◌, ◌else◌, First, each_axis, ByTests}
 use Rattle.cells.specs.Touching.{on}
 use Rattle.lines.specs.Steps.{total}
 use Rattle.lines.specs.Lines.{differences, longest}
 use Rattle.lines.specs.Touching.{touching_line}
-use Rattle.lists.specs.declared.Listed.{Listed}
 use Rattle.lists.specs.Lists.{Line6, Line26, told_listed}
 use Rattle.grids.specs.declared.LayerPart.{LayerPart}
-use Rattle.grids.specs.declared.Completeness.{Completeness}
 use Rattle.grids.specs.Grid.{Shapes, GivesLayerPart, GivesLayer, told_part}
 use Rattle.grids.specs.Inside.{count_on}
 use Rattle.grids.specs.Marks.{Marks, Completes, told_completeness}
-use Rattle.bricks.specs.declared.Tally.{Tally}
 use Rattle.bricks.specs.Bricks.{mask_at}
 use Rattle.bricks.specs.Builds.{Builds, told_tally}
 use Rattle.refills.specs.Boxes.{corner}
@@ -39,12 +39,10 @@ use Rattle.walks.specs.declared.FirstHit.{FirstHit}
 use Rattle.walks.specs.Answers.{Finds, told_hit}
 use Rattle.touching.specs.Touching.{LineTouching, FindsTouching}
 use Rattle.trails.specs.Trails.{trail, AdaptiveCells}
-use Rattle.survey.specs.declared.Lookup.{Lookup}
 use Rattle.survey.specs.declared.Placement.{Placement}
 use Rattle.survey.specs.declared.Point.{Point}
 use Rattle.survey.specs.Quotient.{as_f64}
 use Rattle.survey.specs.Survey.{LooksUp, told_lookup}
-use Rattle.sight.specs.declared.Sight.{Sight}
 use Rattle.sight.specs.Sight.{Sees, told_sight}
 use Rattle.buffers.specs.Numbers.{two_at, four_at}
 use Rattle.records.specs.declared.venues.VenueRead.{VenueRead}
@@ -222,38 +220,38 @@ rule_test number = ((¬ (number ≡ 1)) × (¬ (number ≡ 2))) gives alone 12
 -- ---- the claims: every answer that meets a call's contract is given by the call's tests
 
 -- line lists, of A+B+C+1 cells under either rule, of M+1 cells, and of as many as the touching line has
-pub record LinesTold (p q : Cell) (entry exit : List ℤ) (r : Listed) : Type 0 where
+pub record LinesTold (p q : Cell) (entry exit : List ℤ) (r : Result ℕ Refusal) : Type 0 where
   pub six : (rule : Rule) → Line6 rule p q entry r exit → ByTests (line_tests p q (total (differences p q) + 1) (length entry)) (told_listed r)
   pub twenty_six : Line26 p q entry r exit → ByTests (line_tests p q (longest (differences p q) + 1) (length entry)) (told_listed r)
   pub touching : LineTouching p q entry r exit → ByTests (line_tests p q (length (touching_line p q)) (length entry)) (told_listed r)
 
 -- the list of the trail, of as many cells as it has: the tests of a walk, then that of a list
-pub record TrailsTold (how : Manner) (n : Counts) (l : List ℕ) (p q : Cell) (entry exit : List ℤ) (r : Listed) : Type 0 where
+pub record TrailsTold (how : Manner) (n : Counts) (l : List ℕ) (p q : Cell) (entry exit : List ℤ) (r : Result ℕ Refusal) : Type 0 where
   pub told : AdaptiveCells how n l p q entry r exit → ByTests (trail_tests n (length l) p q (length (trail how n l p q)) (length entry)) (told_listed r)
 
 -- grid calls; a layer is empty exactly where its partner refuses
 pub record GridsTold (n : Counts) (l : List ℕ) : Type 0 where
   pub shape : (bytes : ℕ) (r : Verdict) → Shapes n bytes r → ByTests (shape_tests n bytes) (told_verdict r)
   pub mark : (r : Verdict) (exit : List ℕ) → Marks n l r exit → ByTests (shape_tests n (length l)) (told_verdict r)
-  pub complete : (r : Completeness) → Completes n l r → ByTests (shape_tests n (length l)) (told_completeness r)
-  pub layer_part : (z : ℤ) (r : LayerPart) → GivesLayerPart n (length l) z r → ByTests (layer_tests n (length l) z) (told_part r)
+  pub complete : (r : Result Bool Refusal) → Completes n l r → ByTests (shape_tests n (length l)) (told_completeness r)
+  pub layer_part : (z : ℤ) (r : Result LayerPart Refusal) → GivesLayerPart n (length l) z r → ByTests (layer_tests n (length l) z) (told_part r)
   pub layer : (z : ℤ) (cells part : Bor (List ℕ)) → GivesLayer n cells z part →
       (part.now ≡ []) ↔ ((t : Told) × First (layer_tests n (length cells.now) z) t)
-  pub first_hit : (k : Walker) (how : Manner) (p q : Cell) (r : FirstHit) → Finds k how n l p q r → ByTests (walk_tests n (length l) p q) (told_hit r)
-  pub first_touching : (start : Start) (p q : Cell) (r : FirstHit) → FindsTouching start n l p q r → ByTests (walk_tests n (length l) p q) (told_hit r)
+  pub first_hit : (k : Walker) (how : Manner) (p q : Cell) (r : Result FirstHit Refusal) → Finds k how n l p q r → ByTests (walk_tests n (length l) p q) (told_hit r)
+  pub first_touching : (start : Start) (p q : Cell) (r : Result FirstHit Refusal) → FindsTouching start n l p q r → ByTests (walk_tests n (length l) p q) (told_hit r)
 
 -- calls that keep counts; a set is the refill of its cell
 pub record TalliesTold (n : Counts) (l m : List ℕ) : Type 0 where
-  pub build : (r : Tally) (m' : List ℕ) → Builds n l m r m' → ByTests (bricks_tests n (length l) (length m)) (told_tally r)
-  pub refill : (low high : Cell) (byte total : ℕ) (r : Tally) (l' m' : List ℕ) → Refills n low high byte l m total r l' m' →
+  pub build : (r : Result ℕ Refusal) (m' : List ℕ) → Builds n l m r m' → ByTests (bricks_tests n (length l) (length m)) (told_tally r)
+  pub refill : (low high : Cell) (byte total : ℕ) (r : Result ℕ Refusal) (l' m' : List ℕ) → Refills n low high byte l m total r l' m' →
       ByTests (box_tests n l m total low high) (told_tally r)
-  pub set : (cell : Cell) (byte total : ℕ) (r : Tally) (l' m' : List ℕ) → Sets n cell byte l m total r l' m' →
+  pub set : (cell : Cell) (byte total : ℕ) (r : Result ℕ Refusal) (l' m' : List ℕ) → Sets n cell byte l m total r l' m' →
       ByTests (set_tests n l m total cell) (told_tally r)
 
 -- surveyed points
 pub record PointsTold (n : Counts) (at : Placement) : Type 0 where
-  pub cell_of : (p : Point) (r : Lookup) → LooksUp n at p r → ByTests (cell_tests n at p) (told_lookup r)
-  pub see : (how : Manner) (l : List ℕ) (camera ball : Point) (r : Sight) → Sees how n l at camera ball r →
+  pub cell_of : (p : Point) (r : Result Cell Refusal) → LooksUp n at p r → ByTests (cell_tests n at p) (told_lookup r)
+  pub see : (how : Manner) (l : List ℕ) (camera ball : Point) (r : Result (Option Block) Refusal) → Sees how n l at camera ball r →
       ByTests (sight_tests n (length l) at camera ball) (told_sight r)
 
 -- records; a venue's part is empty exactly where its partner refuses
@@ -266,12 +264,12 @@ pub record RecordsTold : Type 0 where
 
 -- the calls for C that name a rule by a number: 12 first, then the tests of the call that they make. Their struct flattens an answer that these give.
 pub record RulesTold : Type 0 where
-  pub line6 : (rule : ℕ) (p q : Cell) (entry exit : List ℤ) (r : OatListed) → FlatLine6 rule p q entry r exit → (a : Listed) × (r ≡ flat_listed a) ×
+  pub line6 : (rule : ℕ) (p q : Cell) (entry exit : List ℤ) (r : OatListed) → FlatLine6 rule p q entry r exit → (a : Result ℕ Refusal) × (r ≡ flat_listed a) ×
       ByTests (rule_test rule else line_tests p q (total (differences p q) + 1) (length entry)) (told_listed a)
   pub trails : (how : OatManner) (n : Counts) (l : List ℕ) (p q : Cell) (entry exit : List ℤ) (r : OatListed) → FlatAdaptiveCells how n l p q entry r exit →
-      (a : Listed) × (r ≡ flat_listed a) ×
+      (a : Result ℕ Refusal) × (r ≡ flat_listed a) ×
       ByTests (rule_test how.rule else trail_tests n (length l) p q (length (trail (as_manner how) n l p q)) (length entry)) (told_listed a)
   pub walks : (w : Walker) (how : OatManner) (n : Counts) (l : List ℕ) (p q : Cell) (r : OatHit) → FlatFinds w how n l p q r →
-      (a : FirstHit) × (r ≡ flat_hit a) × ByTests (rule_test how.rule else walk_tests n (length l) p q) (told_hit a)
+      (a : Result FirstHit Refusal) × (r ≡ flat_hit a) × ByTests (rule_test how.rule else walk_tests n (length l) p q) (told_hit a)
   pub seen : (how : OatManner) (n : Counts) (l : List ℕ) (at : Placement) (camera ball : Point) (r : OatSight) → FlatSees how n l at camera ball r →
-      (a : Sight) × (r ≡ flat_sight a) × ByTests (rule_test how.rule else sight_tests n (length l) at camera ball) (told_sight a)
+      (a : Result (Option Block) Refusal) × (r ≡ flat_sight a) × ByTests (rule_test how.rule else sight_tests n (length l) at camera ball) (told_sight a)

@@ -1,5 +1,7 @@
 -- The two rules for ties: which axis goes first, by the ends; that rule 2's line back is the mirror; and what both rules share. Claims about the definitions
 -- and, by their contracts, about the list and first-hit calls, for every two ends and every grid. Assumes nothing.
+use Rattle.std.specs.Prelude.{Ok, Result}
+use Rattle.cells.specs.declared.Refusal.{Refusal}
 use Rattle.std.specs.Prelude.{ℕ, ◌-◌, ◌*◌, ◌≤◌, ◌<◌, ◌≡◌, true, ◌⊎◌, ◌↔◌, List, [], ◌∷◌, reverse, ℤ, ◌<ℤ◌, length}
 use Rattle.cells.specs.declared.Axis.TheVariants.{X, Y, Z}
 use Rattle.cells.specs.declared.Cell.{Cell}
@@ -12,8 +14,6 @@ use Rattle.lines.specs.Steps.{total}
 use Rattle.lines.specs.Crossings.{TieFree}
 use Rattle.lines.specs.Preference.{Preference, y_z_x, x_z_y, comes_before, by_rule}
 use Rattle.lines.specs.Lines.{differences, centres, six_cell, six_line}
-use Rattle.lists.specs.declared.Listed.{Listed}
-use Rattle.lists.specs.declared.Listed.TheVariants.{Cells}
 use Rattle.lists.specs.Lists.{Line6, numbers}
 use Rattle.grids.specs.Marks.{complete}
 use Rattle.walks.specs.declared.Walker.{Walker}
@@ -51,10 +51,10 @@ pub record Mirror (p q : Cell) : Type 0 where
   pub cells : (n : ℕ) → n ≤ total (differences p q) →
       six_cell (by_rule Two q p) q p n ≡ six_cell (by_rule Two p q) p q (total (differences p q) - n)
   pub line : six_line (by_rule Two q p) q p ≡ reverse (six_line (by_rule Two p q) p q)
-  pub lists : (entry exit other last : List ℤ) (k j : ℕ) → Line6 Two p q entry (Cells k) exit → Line6 Two q p other (Cells j) last →
+  pub lists : (entry exit other last : List ℤ) (k j : ℕ) → Line6 Two p q entry (Ok k) exit → Line6 Two q p other (Ok j) last →
       (j ≡ k) × ((n : ℕ) → n < k → three_at last (3 * n) ≡ three_at exit (3 * (k - 1 - n)))
-  pub accepted : (entry exit other last : List ℤ) (k : ℕ) (r : Listed) → Line6 Two p q entry (Cells k) exit → length entry ≤ length other →
-      Line6 Two q p other r last → r ≡ Cells k
+  pub accepted : (entry exit other last : List ℤ) (k : ℕ) (r : Result ℕ Refusal) → Line6 Two p q entry (Ok k) exit → length entry ≤ length other →
+      Line6 Two q p other r last → r ≡ Ok k
 
 -- 3. Where no two crossings of different axes lie at one fraction, every preference gives the same 6-line; so both rules do.
 pub record SameLine (p q : Cell) : Type 0 where
@@ -63,17 +63,17 @@ pub record SameLine (p q : Cell) : Type 0 where
 
 -- 4. There and back by rule 2, with a tested start: both plain walks are clear, with the same reads, or both hit. Nothing is claimed of two sights.
 pub record BothWays (n : Counts) (l : List ℕ) (p q : Cell) : Type 0 where
-  pub clear : (reads : ℕ) (s : FirstHit) → Finds Plain (tested_by Two) n l p q (FirstHit.Clear reads) → Finds Plain (tested_by Two) n l q p s →
-      s ≡ FirstHit.Clear reads
-  pub hit : (h : Hit) (s : FirstHit) → Finds Plain (tested_by Two) n l p q (FirstHit.Hit h) → Finds Plain (tested_by Two) n l q p s →
-      (k : Hit) × (s ≡ FirstHit.Hit k)
+  pub clear : (reads : ℕ) (s : Result FirstHit Refusal) → Finds Plain (tested_by Two) n l p q (Ok (FirstHit.Clear reads)) → Finds Plain (tested_by Two) n l q p s →
+      s ≡ Ok (FirstHit.Clear reads)
+  pub hit : (h : Hit) (s : Result FirstHit Refusal) → Finds Plain (tested_by Two) n l p q (Ok (FirstHit.Hit h)) → Finds Plain (tested_by Two) n l q p s →
+      (k : Hit) × (s ≡ Ok (FirstHit.Hit k))
 
 -- The same of the adaptive walks, where the marks are complete at k (Shells: from 2 on).
 pub record AdaptiveBothWays (k : ℕ) (n : Counts) (l : List ℕ) (p q : Cell) : Type 0 where
-  pub clear : complete k n l ≡ true → (reads : ℕ) (s : FirstHit) → Finds Adaptive (tested_by Two) n l p q (FirstHit.Clear reads) →
-      Finds Adaptive (tested_by Two) n l q p s → (back : ℕ) × (s ≡ FirstHit.Clear back)
-  pub hit : complete k n l ≡ true → (h : Hit) (s : FirstHit) → Finds Adaptive (tested_by Two) n l p q (FirstHit.Hit h) →
-      Finds Adaptive (tested_by Two) n l q p s → (g : Hit) × (s ≡ FirstHit.Hit g)
+  pub clear : complete k n l ≡ true → (reads : ℕ) (s : Result FirstHit Refusal) → Finds Adaptive (tested_by Two) n l p q (Ok (FirstHit.Clear reads)) →
+      Finds Adaptive (tested_by Two) n l q p s → (back : ℕ) × (s ≡ Ok (FirstHit.Clear back))
+  pub hit : complete k n l ≡ true → (h : Hit) (s : Result FirstHit Refusal) → Finds Adaptive (tested_by Two) n l p q (Ok (FirstHit.Hit h)) →
+      Finds Adaptive (tested_by Two) n l q p s → (g : Hit) × (s ≡ Ok (FirstHit.Hit g))
 
 -- ---- 5. Wrong rules, on named inputs
 
@@ -94,14 +94,14 @@ low_post = 0 ∷ 2 ∷ 0 ∷ 0 ∷ 0 ∷ 0 ∷ 0 ∷ 0 ∷ []
 
 pub record WrongRules : Type 0 where
   -- rule 2 taken for rule 1
-  pub two_as_one : (r : Listed) → Line6 Two (at 1 1 1) (at 0 0 0) four_cells r by_yzx → ⊥
+  pub two_as_one : (r : Result ℕ Refusal) → Line6 Two (at 1 1 1) (at 0 0 0) four_cells r by_yzx → ⊥
   -- rule 1's way back as the mirror
-  pub one_mirrors : (r : Listed) → Line6 One (at 1 1 1) (at 0 0 0) four_cells r by_xzy → ⊥
+  pub one_mirrors : (r : Result ℕ Refusal) → Line6 One (at 1 1 1) (at 0 0 0) four_cells r by_xzy → ⊥
   -- a walk by rule 2 that passes the post as rule 1 does, and one by rule 1 that meets it
   pub passes : (start : Start) (reads : ℕ) →
-      Finds Plain (record { start = start; rule = Two }) example_counts example_cells (at 3 1 0) (at 0 0 0) (FirstHit.Clear reads) → ⊥
+      Finds Plain (record { start = start; rule = Two }) example_counts example_cells (at 3 1 0) (at 0 0 0) (Ok (FirstHit.Clear reads)) → ⊥
   pub meets : (start : Start) (h : Hit) →
-      Finds Plain (record { start = start; rule = One }) example_counts example_cells (at 3 1 0) (at 0 0 0) (FirstHit.Hit h) → ⊥
+      Finds Plain (record { start = start; rule = One }) example_counts example_cells (at 3 1 0) (at 0 0 0) (Ok (FirstHit.Hit h)) → ⊥
   -- the cell that both rules meet entered by the face of the other
   pub other_face : (w : Walker) (h : Hit) →
-      Finds w (tested_by Two) example_counts low_post (at 3 1 0) (at 0 0 0) (FirstHit.Hit h) → h.place.face ≡ Face.Minus X → ⊥
+      Finds w (tested_by Two) example_counts low_post (at 3 1 0) (at 0 0 0) (Ok (FirstHit.Hit h)) → h.place.face ≡ Face.Minus X → ⊥

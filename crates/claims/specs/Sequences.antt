@@ -1,13 +1,14 @@
 -- What is claimed of calls that keep counts, one after another (SCOPE K6): from a build on, after any of them, masks and total are right. Assumes nothing.
+use Rattle.std.specs.Prelude.{Ok, Err, Result}
+use Rattle.cells.specs.declared.Refusal.{Refusal}
 use Rattle.std.specs.Prelude.{ℕ, ◌<◌, ◌≡◌, false, List, [], ◌∷◌, get_or}
 use Rattle.std.specs.Int.Count.{ones}
 use Rattle.cells.specs.declared.Cell.{Cell}
 use Rattle.cells.specs.declared.Counts.{Counts}
 use Rattle.cells.specs.declared.Refusal.TheVariants.{Stale}
-use Rattle.cells.specs.declared.Verdict.{Verdict}
+use Rattle.cells.specs.Checks.{Verdict}
 use Rattle.grids.specs.Grid.{size, index, solid}
 use Rattle.grids.specs.Marks.{Marks}
-use Rattle.bricks.specs.declared.Tally.{Tally}
 use Rattle.bricks.specs.Sums.{bit}
 use Rattle.bricks.specs.Bricks.{bricks, solids, brick_there, bit_there, solids_in}
 use Rattle.bricks.specs.Builds.{Builds}
@@ -37,17 +38,17 @@ pub data Operation : Type 0 where
   Mark : Operation
 
 -- the total that is handed on: the answered one, or where the call is refused the one before it
-abbrev pub handed_on : Tally → ℕ → ℕ
-handed_on (Tally.Total t) total = t
-handed_on (Tally.Refused r) total = total
+abbrev pub handed_on : Result ℕ Refusal → ℕ → ℕ
+handed_on (Ok t) total = t
+handed_on (Err r) total = total
 
 -- one call with the counts n, accepted or refused, by its contract: it leads from one state to the next
 abbrev pub Step : Counts → Operation → State → State → Type 0
-Step n Build s s' = (r : Tally) × Builds n s.bytes s.masks r s'.masks × (s'.bytes ≡ s.bytes) × (s'.total ≡ handed_on r s.total)
+Step n Build s s' = (r : Result ℕ Refusal) × Builds n s.bytes s.masks r s'.masks × (s'.bytes ≡ s.bytes) × (s'.total ≡ handed_on r s.total)
 Step n (Set cell byte) s s' =
-    (r : Tally) × Sets n cell byte s.bytes s.masks s.total r s'.bytes s'.masks × (s'.total ≡ handed_on r s.total)
+    (r : Result ℕ Refusal) × Sets n cell byte s.bytes s.masks s.total r s'.bytes s'.masks × (s'.total ≡ handed_on r s.total)
 Step n (Refill low high byte) s s' =
-    (r : Tally) × Refills n low high byte s.bytes s.masks s.total r s'.bytes s'.masks × (s'.total ≡ handed_on r s.total)
+    (r : Result ℕ Refusal) × Refills n low high byte s.bytes s.masks s.total r s'.bytes s'.masks × (s'.total ≡ handed_on r s.total)
 Step n Mark s s' = (v : Verdict) × Marks n s.bytes v s'.bytes × (s'.masks ≡ s.masks) × (s'.total ≡ s.total)
 
 -- any number of calls, one after another, and nothing else
@@ -57,18 +58,18 @@ pub data Sequence (n : Counts) : State → List Operation → State → Type 0 w
 
 -- 2. From an accepted build on, with the same counts, all is right after any calls of these; and no set or refill is refused 13.
 pub record FromABuildOn (n : Counts) (l m : List ℕ) (t : ℕ) (m' : List ℕ) : Type 0 where
-  pub all_right : Builds n l m (Tally.Total t) m' → (ops : List Operation) (s : State) →
+  pub all_right : Builds n l m (Ok t) m' → (ops : List Operation) (s : State) →
       Sequence n (record { bytes = l; masks = m'; total = t }) ops s → AllRight n s.bytes s.masks s.total
-  pub not_stale : Builds n l m (Tally.Total t) m' → (ops : List Operation) (s : State) → Sequence n (record { bytes = l; masks = m'; total = t }) ops s →
-      (low high : Cell) (byte : ℕ) (l'' m'' : List ℕ) → Refills n low high byte s.bytes s.masks s.total (Tally.Refused Stale) l'' m'' → ⊥
+  pub not_stale : Builds n l m (Ok t) m' → (ops : List Operation) (s : State) → Sequence n (record { bytes = l; masks = m'; total = t }) ops s →
+      (low high : Cell) (byte : ℕ) (l'' m'' : List ℕ) → Refills n low high byte s.bytes s.masks s.total (Err Stale) l'' m'' → ⊥
 
 -- 3. What it rests on: a relation between counts, bytes, masks and total. It holds after an accepted build; each of the calls keeps it, marking too;
 -- while it holds no set or refill is refused 13, and all is right.
 pub record Keeping (n : Counts) (l m : List ℕ) : Type 0 where
-  pub built : (t : ℕ) (m' : List ℕ) → Builds n l m (Tally.Total t) m' → Kept n l m' t
-  pub refilled : (low high : Cell) (byte total t : ℕ) (l' m' : List ℕ) → Kept n l m total → Refills n low high byte l m total (Tally.Total t) l' m' →
+  pub built : (t : ℕ) (m' : List ℕ) → Builds n l m (Ok t) m' → Kept n l m' t
+  pub refilled : (low high : Cell) (byte total t : ℕ) (l' m' : List ℕ) → Kept n l m total → Refills n low high byte l m total (Ok t) l' m' →
       Kept n l' m' t
   pub marked : (total : ℕ) (v : Verdict) (l' : List ℕ) → Kept n l m total → Marks n l v l' → Kept n l' m total
   pub never_stale : (low high : Cell) (byte total : ℕ) (l' m' : List ℕ) → Kept n l m total → Refills n low high byte l m total
-      (Tally.Refused Stale) l' m' → ⊥
+      (Err Stale) l' m' → ⊥
   pub right : (total : ℕ) → Kept n l m total → AllRight n l m total

@@ -1,5 +1,7 @@
 -- Which marks are enough for demand 3 (SCOPE D3, N5 to N7). The number k says which cells beside a solid one are to be marked: 1 those that share a face with
 -- it; 2 a face or an edge, the thin shell; 3 a face, an edge or a corner, the full one, which the calls mark and test. Assumes nothing.
+use Rattle.std.specs.Prelude.{Ok, Result, None}
+use Rattle.cells.specs.declared.Refusal.{Refusal}
 use Rattle.std.specs.Prelude.{ℕ, ◌≤◌, ◌≡◌, true, false, List}
 use Rattle.cells.specs.declared.Axis.TheVariants.{Z}
 use Rattle.cells.specs.declared.Cell.{Cell}
@@ -16,7 +18,6 @@ use Rattle.walks.specs.declared.FirstHit.{FirstHit}
 use Rattle.walks.specs.Answers.{Finds}
 use Rattle.survey.specs.declared.Placement.{Placement}
 use Rattle.survey.specs.declared.Point.{Point}
-use Rattle.sight.specs.declared.Sight.TheVariants as Sight
 use Rattle.sight.specs.Sight.{Sees}
 use Rattle.claims.specs.Example.{counts, at, faces_there, faces_back, far_counts, faces_inside}
 use Rattle.claims.specs.Points.{one_metre, point}
@@ -49,7 +50,7 @@ pub record Shells : Type 0 where
 
 -- 3. What is saved: the same cells marked at a smaller number, from 2 on, give the same adaptive answer, by no more reads.
 pub record NoDearer (how : Manner) (n : Counts) (l : List ℕ) (p q : Cell) : Type 0 where
-  pub reads : (j k : ℕ) → 2 ≤ j → j ≤ k → (at_k at_j : FirstHit) → Finds Adaptive how n (marked k n l) p q at_k →
+  pub reads : (j k : ℕ) → 2 ≤ j → j ≤ k → (at_k at_j : Result FirstHit Refusal) → Finds Adaptive how n (marked k n l) p q at_k →
       Finds Adaptive how n (marked j n l) p q at_j → SameStory at_k at_j
 
 -- ---- 4. Faces alone, on named grids: the adaptive walk is clear, and the plain one hits
@@ -83,25 +84,25 @@ ball_inside = point (halves 7) (halves 5) (halves 5)
 pub record FacesAlone : Type 0 where
   -- solid at (0,1,1), from (0,0,0) to (1,1,1): either rule goes y, z, x
   pub marks_there : ByFaces (counts 2 2 2) faces_there
-  pub plain_there : (how : Manner) → Finds Plain how (counts 2 2 2) faces_there (at 0 0 0) (at 1 1 1) (FirstHit.Hit (tie_hit (at 0 1 1) (Face.Plus Z)))
-  pub adaptive_there : (how : Manner) → Finds Adaptive how (counts 2 2 2) faces_there (at 0 0 0) (at 1 1 1) (FirstHit.Clear 2)
+  pub plain_there : (how : Manner) → Finds Plain how (counts 2 2 2) faces_there (at 0 0 0) (at 1 1 1) (Ok (FirstHit.Hit (tie_hit (at 0 1 1) (Face.Plus Z))))
+  pub adaptive_there : (how : Manner) → Finds Adaptive how (counts 2 2 2) faces_there (at 0 0 0) (at 1 1 1) (Ok (FirstHit.Clear 2))
   pub two_stories : (how : Manner) → OneStory 1 how (counts 2 2 2) faces_there (at 0 0 0) (at 1 1 1) → ⊥
   -- and back by rule 2 the adaptive walk hits
   pub one_way : AdaptiveBothWays 1 (counts 2 2 2) faces_there (at 0 0 0) (at 1 1 1) → ⊥
   -- solid at (0,1,0), from (1,1,1) to (0,0,0): rule 2 goes x, z, y
   pub marks_back : ByFaces (counts 2 2 2) faces_back
   pub plain_by_2 : (start : Start) →
-      Finds Plain (record { start = start; rule = Two }) (counts 2 2 2) faces_back (at 1 1 1) (at 0 0 0) (FirstHit.Hit (tie_hit (at 0 1 0) (Face.Minus Z)))
+      Finds Plain (record { start = start; rule = Two }) (counts 2 2 2) faces_back (at 1 1 1) (at 0 0 0) (Ok (FirstHit.Hit (tie_hit (at 0 1 0) (Face.Minus Z))))
   pub adaptive_by_2 : (start : Start) →
-      Finds Adaptive (record { start = start; rule = Two }) (counts 2 2 2) faces_back (at 1 1 1) (at 0 0 0) (FirstHit.Clear 2)
+      Finds Adaptive (record { start = start; rule = Two }) (counts 2 2 2) faces_back (at 1 1 1) (at 0 0 0) (Ok (FirstHit.Clear 2))
   pub two_stories_by_2 : (start : Start) → OneStory 1 (record { start = start; rule = Two }) (counts 2 2 2) faces_back (at 1 1 1) (at 0 0 0) → ⊥
   -- by rule 1 the plain walk passes that cell, and both are clear
   pub by_1 : (w : Walker) (start : Start) →
-      Finds w (record { start = start; rule = One }) (counts 2 2 2) faces_back (at 1 1 1) (at 0 0 0) (FirstHit.Clear (tie_reads w))
+      Finds w (record { start = start; rule = One }) (counts 2 2 2) faces_back (at 1 1 1) (at 0 0 0) (Ok (FirstHit.Clear (tie_reads w)))
   -- solid at (2,2,2), from (0,0,0) to (3,2,2): the segment enters its inside, and adaptive walk and sight are clear
   pub marks_inside : ByFaces far_counts faces_inside
-  pub plain_inside : (how : Manner) → Finds Plain how far_counts faces_inside (at 0 0 0) (at 3 2 2) (FirstHit.Hit inside_hit)
-  pub adaptive_inside : (how : Manner) → Finds Adaptive how far_counts faces_inside (at 0 0 0) (at 3 2 2) (FirstHit.Clear 4)
-  pub seen_inside : (how : Manner) → Sees how far_counts faces_inside one_metre camera_inside ball_inside Sight.Clear
+  pub plain_inside : (how : Manner) → Finds Plain how far_counts faces_inside (at 0 0 0) (at 3 2 2) (Ok (FirstHit.Hit inside_hit))
+  pub adaptive_inside : (how : Manner) → Finds Adaptive how far_counts faces_inside (at 0 0 0) (at 3 2 2) (Ok (FirstHit.Clear 4))
+  pub seen_inside : (how : Manner) → Sees how far_counts faces_inside one_metre camera_inside ball_inside (Ok None)
   pub in_the_way : (how : Manner) → NothingInTheWay 1 how far_counts faces_inside (at 0 0 0) (at 3 2 2) → ⊥
   pub in_sight : (how : Manner) → NothingInSight 1 how far_counts faces_inside one_metre camera_inside ball_inside → ⊥

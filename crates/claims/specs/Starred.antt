@@ -1,4 +1,6 @@
 -- SCOPE, E: the starred cases, as one table. Assumes nothing.
+use Rattle.std.specs.Prelude.{Ok, Err, Result}
+use Rattle.cells.specs.declared.Refusal.{Refusal}
 use Rattle.std.specs.Prelude.{ℕ, ◌-◌, ◌≡◌, Bool, true, false, List, [], ◌∷◌, ◌++◌, ◌⊎◌, ◌↔◌, pos, neg_ℤ, Float, length}
 use Rattle.std.proofs.Common.{inl, inr}
 use Rattle.std.specs.Float.{binary64}
@@ -19,10 +21,8 @@ use Rattle.lines.specs.declared.Order.{Order}
 use Rattle.lines.specs.declared.Order.TheVariants.{Yzx, Xzy}
 use Rattle.lines.specs.Preference.{order_of, by_rule}
 use Rattle.lines.specs.Lines.{six_line, line_26}
-use Rattle.lists.specs.declared.Listed.TheVariants as Listed
 use Rattle.lists.specs.Lists.{ends_check, list_check, told_listed}
 use Rattle.grids.specs.Marks.{marked, complete, completeness, told_completeness}
-use Rattle.bricks.specs.declared.Tally.{Tally}
 use Rattle.bricks.specs.Bricks.{solids}
 use Rattle.bricks.specs.Builds.{bricks_check, built, Builds}
 use Rattle.refills.specs.Boxes.{corner}
@@ -69,25 +69,25 @@ abbrev pub halves : ℕ → Float
 halves k = div binary64 (as_f64 k) (as_f64 2)
 
 -- what a build answers, and the masks after it; what a refill answers, and bytes and masks after it: as their contracts have it (`RowsMeant`)
-abbrev pub after_build : Counts → (bytes masks : List ℕ) → Tally × List ℕ
+abbrev pub after_build : Counts → (bytes masks : List ℕ) → Result ℕ Refusal × List ℕ
 after_build n l m =
-    let v = bricks_check n (length l) (length m) in (by_verdict Tally.Refused (Tally.Total (solids l)) v, by_verdict (λ r. m) (built n l m) v)
+    let v = bricks_check n (length l) (length m) in (by_verdict Err (Ok (solids l)) v, by_verdict (λ r. m) (built n l m) v)
 
-abbrev pub after_refill : Counts → Cell → Cell → ℕ → (bytes masks : List ℕ) → ℕ → Tally × List ℕ × List ℕ
+abbrev pub after_refill : Counts → Cell → Cell → ℕ → (bytes masks : List ℕ) → ℕ → Result ℕ Refusal × List ℕ × List ℕ
 after_refill n low high byte l m total =
     let lo = corner low in
     let hi = corner high in
     let v = box_check n (length l) (length m) low high then stale_check n lo hi l m total in
     let l' = refilled n lo hi byte l in
     let m' = remasked n lo hi l' m in
-    (by_verdict Tally.Refused (Tally.Total (moved n lo hi m m' total)) v, by_verdict (λ r. l) l' v, by_verdict (λ r. m) m' v)
+    (by_verdict Err (Ok (moved n lo hi m m' total)) v, by_verdict (λ r. l) l' v, by_verdict (λ r. m) m' v)
 
 -- the contracts of the calls ask for just that
 pub record RowsMeant : Type 0 where
-  pub build : (n : Counts) (l m : List ℕ) (r : Tally) (m' : List ℕ) → Builds n l m r m' ↔ (after_build n l m ≡ (r, m'))
-  pub refill : (n : Counts) (low high : Cell) (byte : ℕ) (l m : List ℕ) (total : ℕ) (r : Tally) (l' m' : List ℕ) →
+  pub build : (n : Counts) (l m : List ℕ) (r : Result ℕ Refusal) (m' : List ℕ) → Builds n l m r m' ↔ (after_build n l m ≡ (r, m'))
+  pub refill : (n : Counts) (low high : Cell) (byte : ℕ) (l m : List ℕ) (total : ℕ) (r : Result ℕ Refusal) (l' m' : List ℕ) →
       Refills n low high byte l m total r l' m' ↔ (after_refill n low high byte l m total ≡ (r, l', m'))
-  pub set : (n : Counts) (cell : Cell) (byte : ℕ) (l m : List ℕ) (total : ℕ) (r : Tally) (l' m' : List ℕ) →
+  pub set : (n : Counts) (cell : Cell) (byte : ℕ) (l m : List ℕ) (total : ℕ) (r : Result ℕ Refusal) (l' m' : List ℕ) →
       Sets n cell byte l m total r l' m' ↔ (after_refill n cell cell byte l m total ≡ (r, l', m'))
 
 -- a row: the ends P and Q and the cells of the line between them, of the 6-line by a rule; two ends and the order of rule 2 between them; the ends, room
@@ -105,9 +105,9 @@ pub data Row : Type 0 where
   marks : ℕ → Counts → List ℕ → List ℕ → Row
   complete_at : ℕ → Counts → List ℕ → Bool → Row
   complete_is : Counts → List ℕ → Bool → Row
-  builds : Counts → (bytes masks : List ℕ) → Tally → List ℕ → Row
-  sets : Counts → Cell → ℕ → (bytes masks : List ℕ) → ℕ → Tally → (bytes masks : List ℕ) → Row
-  refills : Counts → Cell → Cell → ℕ → (bytes masks : List ℕ) → ℕ → Tally → (bytes masks : List ℕ) → Row
+  builds : Counts → (bytes masks : List ℕ) → Result ℕ Refusal → List ℕ → Row
+  sets : Counts → Cell → ℕ → (bytes masks : List ℕ) → ℕ → Result ℕ Refusal → (bytes masks : List ℕ) → Row
+  refills : Counts → Cell → Cell → ℕ → (bytes masks : List ℕ) → ℕ → Result ℕ Refusal → (bytes masks : List ℕ) → Row
   finds : Walker → Manner → Counts → List ℕ → Cell → Cell → Told ⊎ WalkSaid → Row
   venue : List ℕ → Counts → List ℕ → Row
   venue_part : List ℕ → List ℕ → Row
@@ -124,7 +124,7 @@ Holds (six rule p q l) = six_line (by_rule rule p q) p q ≡ l
 Holds (orders p q o) = order_of Two p q ≡ o
 Holds (twenty_six p q l) = line_26 p q ≡ l
 Holds (lists p q room says) = told_listed
-    (by_verdict Listed.Refused (Listed.Cells (length (six_line (by_rule One p q) p q))) (list_check (ends_check p q) (length (six_line (by_rule One p q) p q)) room)) ≡ says
+    (by_verdict Err (Ok (length (six_line (by_rule One p q) p q))) (list_check (ends_check p q) (length (six_line (by_rule One p q) p q)) room)) ≡ says
 Holds (marks k n l m) = marked k n l ≡ m
 Holds (complete_at k n l whether) = complete k n l ≡ whether
 Holds (complete_is n l whether) = told_completeness (completeness n l) ≡ inr whether
@@ -292,37 +292,37 @@ start_rows =
 -- masks, ones and totals
 abbrev pub count_rows : List Row
 count_rows =
-    builds example_counts example_cells (0 ∷ []) (Tally.Total 1) (32 ∷ [])
+    builds example_counts example_cells (0 ∷ []) (Ok 1) (32 ∷ [])
     -- surplus masks stay; and one mask too few
-    ∷ builds example_counts example_cells (9 ∷ 7 ∷ []) (Tally.Total 1) (32 ∷ 7 ∷ [])
-    ∷ builds example_counts example_cells [] (Tally.Refused Room) []
+    ∷ builds example_counts example_cells (9 ∷ 7 ∷ []) (Ok 1) (32 ∷ 7 ∷ [])
+    ∷ builds example_counts example_cells [] (Err Room) []
     -- bit x + 4y + 16z; counts that are no multiples of 4: the fifth cell is in a brick of its own
-    ∷ builds (counts 5 1 1) (2 ∷ 2 ∷ 2 ∷ 0 ∷ 9 ∷ []) (0 ∷ 0 ∷ []) (Tally.Total 4) (7 ∷ 1 ∷ [])
-    ∷ builds (counts 1 5 1) (2 ∷ 2 ∷ 2 ∷ 0 ∷ 9 ∷ []) (0 ∷ 0 ∷ []) (Tally.Total 4) (273 ∷ 1 ∷ [])
-    ∷ builds (counts 1 1 5) (2 ∷ 2 ∷ 0 ∷ 0 ∷ 9 ∷ []) (0 ∷ 0 ∷ []) (Tally.Total 3) (65537 ∷ 1 ∷ [])
+    ∷ builds (counts 5 1 1) (2 ∷ 2 ∷ 2 ∷ 0 ∷ 9 ∷ []) (0 ∷ 0 ∷ []) (Ok 4) (7 ∷ 1 ∷ [])
+    ∷ builds (counts 1 5 1) (2 ∷ 2 ∷ 2 ∷ 0 ∷ 9 ∷ []) (0 ∷ 0 ∷ []) (Ok 4) (273 ∷ 1 ∷ [])
+    ∷ builds (counts 1 1 5) (2 ∷ 2 ∷ 0 ∷ 0 ∷ 9 ∷ []) (0 ∷ 0 ∷ []) (Ok 3) (65537 ∷ 1 ∷ [])
     -- one cell more; another code for a solid cell; all cells of the box
-    ∷ sets example_counts (at 0 0 0) 2 marked_cells (32 ∷ []) 1 (Tally.Total 2) set_cells (33 ∷ [])
-    ∷ sets example_counts (at 1 1 0) 7 marked_cells (32 ∷ []) 1 (Tally.Total 1) (1 ∷ 1 ∷ 1 ∷ 0 ∷ 1 ∷ 7 ∷ 1 ∷ 0 ∷ []) (32 ∷ [])
-    ∷ refills example_counts (at 0 0 0) (at 3 1 0) 2 marked_cells (32 ∷ []) 1 (Tally.Total 8) all_solid (255 ∷ [])
-    ∷ refills example_counts (at 1 0 0) (at 2 1 0) 1 marked_cells (32 ∷ []) 1 (Tally.Total 0) (1 ∷ 1 ∷ 1 ∷ 0 ∷ 1 ∷ 1 ∷ 1 ∷ 0 ∷ []) (0 ∷ [])
+    ∷ sets example_counts (at 0 0 0) 2 marked_cells (32 ∷ []) 1 (Ok 2) set_cells (33 ∷ [])
+    ∷ sets example_counts (at 1 1 0) 7 marked_cells (32 ∷ []) 1 (Ok 1) (1 ∷ 1 ∷ 1 ∷ 0 ∷ 1 ∷ 7 ∷ 1 ∷ 0 ∷ []) (32 ∷ [])
+    ∷ refills example_counts (at 0 0 0) (at 3 1 0) 2 marked_cells (32 ∷ []) 1 (Ok 8) all_solid (255 ∷ [])
+    ∷ refills example_counts (at 1 0 0) (at 2 1 0) 1 marked_cells (32 ∷ []) 1 (Ok 0) (1 ∷ 1 ∷ 1 ∷ 0 ∷ 1 ∷ 1 ∷ 1 ∷ 0 ∷ []) (0 ∷ [])
     -- 13: a bit of another cell of the brick, a bit of no cell, a total below the ones or above the cells; before "changes nothing"
-    ∷ sets example_counts (at 0 0 0) 1 marked_cells (33 ∷ []) 2 (Tally.Refused Stale) marked_cells (33 ∷ [])
-    ∷ sets example_counts (at 0 0 0) 1 marked_cells (288 ∷ []) 2 (Tally.Refused Stale) marked_cells (288 ∷ [])
-    ∷ sets example_counts (at 0 0 0) 1 marked_cells (32 ∷ []) 0 (Tally.Refused Stale) marked_cells (32 ∷ [])
-    ∷ sets example_counts (at 0 0 0) 1 marked_cells (32 ∷ []) 9 (Tally.Refused Stale) marked_cells (32 ∷ [])
-    ∷ sets example_counts (at 0 0 0) 1 marked_cells (32 ∷ []) 8 (Tally.Total 8) marked_cells (32 ∷ [])
+    ∷ sets example_counts (at 0 0 0) 1 marked_cells (33 ∷ []) 2 (Err Stale) marked_cells (33 ∷ [])
+    ∷ sets example_counts (at 0 0 0) 1 marked_cells (288 ∷ []) 2 (Err Stale) marked_cells (288 ∷ [])
+    ∷ sets example_counts (at 0 0 0) 1 marked_cells (32 ∷ []) 0 (Err Stale) marked_cells (32 ∷ [])
+    ∷ sets example_counts (at 0 0 0) 1 marked_cells (32 ∷ []) 9 (Err Stale) marked_cells (32 ∷ [])
+    ∷ sets example_counts (at 0 0 0) 1 marked_cells (32 ∷ []) 8 (Ok 8) marked_cells (32 ∷ [])
     -- 14 before 13; 5 before 14, of the low corner before the high one; 6 before 5
-    ∷ refills example_counts (at 3 1 0) (at 0 1 0) 2 marked_cells (0 ∷ []) 1 (Tally.Refused Corners) marked_cells (0 ∷ [])
-    ∷ refills example_counts (at 4 1 0) (at 0 2 0) 2 marked_cells (32 ∷ []) 1 (Tally.Refused (OffGrid P X)) marked_cells (32 ∷ [])
-    ∷ refills example_counts (at 3 1 0) (at 0 2 0) 2 marked_cells (32 ∷ []) 1 (Tally.Refused (OffGrid Q Y)) marked_cells (32 ∷ [])
-    ∷ refills example_counts (at 4 1 0) (at 0 0 0) 2 marked_cells [] 1 (Tally.Refused Room) marked_cells []
+    ∷ refills example_counts (at 3 1 0) (at 0 1 0) 2 marked_cells (0 ∷ []) 1 (Err Corners) marked_cells (0 ∷ [])
+    ∷ refills example_counts (at 4 1 0) (at 0 2 0) 2 marked_cells (32 ∷ []) 1 (Err (OffGrid P X)) marked_cells (32 ∷ [])
+    ∷ refills example_counts (at 3 1 0) (at 0 2 0) 2 marked_cells (32 ∷ []) 1 (Err (OffGrid Q Y)) marked_cells (32 ∷ [])
+    ∷ refills example_counts (at 4 1 0) (at 0 0 0) 2 marked_cells [] 1 (Err Room) marked_cells []
     -- complete marks that a set makes incomplete, until they are made again; the mask and the total stay right
     ∷ complete_is (counts 3 1 1) (0 ∷ 0 ∷ 0 ∷ []) true
-    ∷ sets (counts 3 1 1) (at 0 0 0) 2 (0 ∷ 0 ∷ 0 ∷ []) (0 ∷ []) 0 (Tally.Total 1) (2 ∷ 0 ∷ 0 ∷ []) (1 ∷ [])
+    ∷ sets (counts 3 1 1) (at 0 0 0) 2 (0 ∷ 0 ∷ 0 ∷ []) (0 ∷ []) 0 (Ok 1) (2 ∷ 0 ∷ 0 ∷ []) (1 ∷ [])
     ∷ complete_is (counts 3 1 1) (2 ∷ 0 ∷ 0 ∷ []) false
     ∷ marks 3 (counts 3 1 1) (2 ∷ 0 ∷ 0 ∷ []) (2 ∷ 1 ∷ 0 ∷ [])
     ∷ complete_is (counts 3 1 1) (2 ∷ 1 ∷ 0 ∷ []) true
-    ∷ builds (counts 3 1 1) (2 ∷ 1 ∷ 0 ∷ []) (0 ∷ []) (Tally.Total 1) (1 ∷ [])
+    ∷ builds (counts 3 1 1) (2 ∷ 1 ∷ 0 ∷ []) (0 ∷ []) (Ok 1) (1 ∷ [])
     ∷ start_rows
 
 -- shells of marks. A grid in the thin shell: complete at 2 and not at 3, so that the completeness call says no of it

@@ -1,5 +1,6 @@
 -- The start of a walk: what it means that P is tested, or not. Claims about the two first-hit calls, by their contracts, for every grid and every two
 -- ends. Assumes nothing.
+use Rattle.std.specs.Prelude.{Ok, Err, Result}
 use Rattle.std.specs.Prelude.{ℕ, ◌<◌, ◌≡◌, false, ◌⊎◌, List, [], ◌∷◌}
 use Rattle.cells.specs.declared.Cell.{Cell}
 use Rattle.cells.specs.declared.Counts.{Counts}
@@ -26,13 +27,13 @@ pub record StartTest (n : Counts) (l : List ℕ) (p : Cell) : Type 0 where
 -- 2. Where P is not solid the two modes answer alike, under the same rule. Where P is not tested a hit is never P, and equal ends are clear with one
 -- read, or refused.
 pub record TwoStarts (n : Counts) (l : List ℕ) (p q : Cell) : Type 0 where
-  pub alike : solid (byte_of n l p) ≡ false → (w : Walker) (how other : Manner) → how.rule ≡ other.rule → (r s : FirstHit) →
+  pub alike : solid (byte_of n l p) ≡ false → (w : Walker) (how other : Manner) → how.rule ≡ other.rule → (r s : Result FirstHit Refusal) →
       Finds w how n l p q r → Finds w other n l p q s → r ≡ s
   -- a hit lies beyond P, and was entered by a face
-  pub never_p : (w : Walker) (how : Manner) → how.start ≡ Untested → (h : Hit) → Finds w how n l p q (FirstHit.Hit h) →
+  pub never_p : (w : Walker) (how : Manner) → how.start ≡ Untested → (h : Hit) → Finds w how n l p q (Ok (FirstHit.Hit h)) →
       (h.cell ≡ p → ⊥) × (0 < h.place.num) × (h.place.face ≡ Face.None → ⊥)
-  pub equal_ends : (w : Walker) (how : Manner) → how.start ≡ Untested → (r : FirstHit) → Finds w how n l p p r →
-      (r ≡ FirstHit.Clear 1) ⊎ ((e : Refusal) × (r ≡ FirstHit.Refused e))
+  pub equal_ends : (w : Walker) (how : Manner) → how.start ≡ Untested → (r : Result FirstHit Refusal) → Finds w how n l p p r →
+      (r ≡ Ok (FirstHit.Clear 1)) ⊎ ((e : Refusal) × (r ≡ Err e))
 
 -- ---- 3. Wrong starts, on named inputs: 3 by 2 by 1, no marks, from (0,0,0) to (2,1,0)
 
@@ -50,17 +51,17 @@ solid_after = 2 ∷ 2 ∷ 0 ∷ 0 ∷ 0 ∷ 0 ∷ []
 
 pub record WrongStarts : Type 0 where
   -- Q is exempt too
-  pub exempts_q : (w : Walker) (reads : ℕ) → Finds w usual (counts 3 2 1) solid_ends (at 0 0 0) (at 2 1 0) (FirstHit.Clear reads) → ⊥
+  pub exempts_q : (w : Walker) (reads : ℕ) → Finds w usual (counts 3 2 1) solid_ends (at 0 0 0) (at 2 1 0) (Ok (FirstHit.Clear reads)) → ⊥
   -- P is not counted as read
-  pub not_counted : Finds Plain usual (counts 3 2 1) solid_start (at 0 0 0) (at 2 1 0) (FirstHit.Clear 3) → ⊥
+  pub not_counted : Finds Plain usual (counts 3 2 1) solid_start (at 0 0 0) (at 2 1 0) (Ok (FirstHit.Clear 3)) → ⊥
   -- from a solid P the adaptive walk goes on by one face, and so reads four cells; with a long step it would read three
-  pub by_one_face : (reads : ℕ) → Finds Adaptive usual (counts 3 2 1) solid_start (at 0 0 0) (at 2 1 0) (FirstHit.Clear reads) → reads ≡ 4
+  pub by_one_face : (reads : ℕ) → Finds Adaptive usual (counts 3 2 1) solid_start (at 0 0 0) (at 2 1 0) (Ok (FirstHit.Clear reads)) → reads ≡ 4
   -- and would step over the solid cell after P
-  pub steps_over : (reads : ℕ) → Finds Adaptive usual (counts 3 2 1) solid_after (at 0 0 0) (at 2 1 0) (FirstHit.Clear reads) → ⊥
+  pub steps_over : (reads : ℕ) → Finds Adaptive usual (counts 3 2 1) solid_after (at 0 0 0) (at 2 1 0) (Ok (FirstHit.Clear reads)) → ⊥
   -- the default tests P
-  pub default_tests : (w : Walker) (h : Hit) → Finds w usual (counts 3 2 1) solid_start (at 0 0 0) (at 2 1 0) (FirstHit.Hit h) → ⊥
+  pub default_tests : (w : Walker) (h : Hit) → Finds w usual (counts 3 2 1) solid_start (at 0 0 0) (at 2 1 0) (Ok (FirstHit.Hit h)) → ⊥
   -- the tested start passes P
   pub tested_passes : (w : Walker) (how : Manner) → how.start ≡ Tested → (reads : ℕ) →
-      Finds w how (counts 3 2 1) solid_start (at 0 0 0) (at 2 1 0) (FirstHit.Clear reads) → ⊥
+      Finds w how (counts 3 2 1) solid_start (at 0 0 0) (at 2 1 0) (Ok (FirstHit.Clear reads)) → ⊥
   -- the cell after P is exempt
-  pub next_exempt : (reads : ℕ) → Finds Plain usual (counts 3 2 1) solid_after (at 0 0 0) (at 2 1 0) (FirstHit.Clear reads) → ⊥
+  pub next_exempt : (reads : ℕ) → Finds Plain usual (counts 3 2 1) solid_after (at 0 0 0) (at 2 1 0) (Ok (FirstHit.Clear reads)) → ⊥

@@ -1,6 +1,7 @@
 -- Demand 3: the plain and the adaptive walk tell one story. Claims about the two first-hit calls, by their contracts: for every grid, every two
 -- ends, either start mode, either rule, and all answers that meet the contracts on the same inputs. A hit is what the one test of a cell says
 -- (Starts). Assumes nothing.
+use Rattle.std.specs.Prelude.{Ok, Err, Result}
 use Rattle.std.specs.Prelude.{ℕ, suc, ◌+◌, ◌-◌, ◌*◌, ◌≤◌, ◌<◌, ◌≡◌, true, false, ◌⊎◌, ◌↔◌, List, [], ◌∷◌, length, get_or}
 use Rattle.cells.specs.declared.Axis.{Axis}
 use Rattle.cells.specs.declared.Axis.TheVariants.{X, Y}
@@ -10,13 +11,11 @@ use Rattle.cells.specs.declared.Face.{Face}
 use Rattle.cells.specs.declared.Manner.{Manner}
 use Rattle.cells.specs.declared.Refusal.{Refusal}
 use Rattle.cells.specs.declared.Start.TheVariants.{Tested}
-use Rattle.cells.specs.declared.Verdict.TheVariants.{Fine}
 use Rattle.cells.specs.Faces.{back_across}
 use Rattle.lines.specs.Steps.{total}
 use Rattle.lines.specs.Preference.{Preference, by_rule}
 use Rattle.lines.specs.Lines.{differences, longest, six_cell, cell_26}
 use Rattle.lines.specs.Segment.{Share, InOpen}
-use Rattle.grids.specs.declared.Completeness.TheVariants.{Yes}
 use Rattle.grids.specs.Grid.{byte_of, solid}
 use Rattle.grids.specs.Marks.{complete, Marks, Completes}
 use Rattle.walks.specs.declared.Walker.{Walker}
@@ -30,14 +29,14 @@ use Rattle.claims.specs.Example.{counts, at, example_counts, example_cells, mark
 
 -- two answers that say the same: the same cell, code and place, the entry face with it, or both clear, or both refuse alike; the second by no more reads. Of
 -- the plain walk and the adaptive one, or of the adaptive one over more marks and over fewer (Shells)
-pub data SameStory : FirstHit → FirstHit → Type 0 where
-  hits : {h k : Hit} → h.cell ≡ k.cell → h.code ≡ k.code → h.place ≡ k.place → k.reads ≤ h.reads → SameStory (FirstHit.Hit h) (FirstHit.Hit k)
-  clears : {r s : ℕ} → s ≤ r → SameStory (FirstHit.Clear r) (FirstHit.Clear s)
-  refusals : {r : Refusal} → SameStory (FirstHit.Refused r) (FirstHit.Refused r)
+pub data SameStory : Result FirstHit Refusal → Result FirstHit Refusal → Type 0 where
+  hits : {h k : Hit} → h.cell ≡ k.cell → h.code ≡ k.code → h.place ≡ k.place → k.reads ≤ h.reads → SameStory (Ok (FirstHit.Hit h)) (Ok (FirstHit.Hit k))
+  clears : {r s : ℕ} → s ≤ r → SameStory (Ok (FirstHit.Clear r)) (Ok (FirstHit.Clear s))
+  refusals : {r : Refusal} → SameStory (Err r) (Err r)
 
 -- 1. Same story: where no clear cell touches a solid one; the number k says how near counts (Shells: from 2 on this holds).
 pub record OneStory (k : ℕ) (how : Manner) (n : Counts) (l : List ℕ) (p q : Cell) : Type 0 where
-  pub story : complete k n l ≡ true → (rp ra : FirstHit) → Finds Plain how n l p q rp → Finds Adaptive how n l p q ra → SameStory rp ra
+  pub story : complete k n l ≡ true → (rp ra : Result FirstHit Refusal) → Finds Plain how n l p q rp → Finds Adaptive how n l p q ra → SameStory rp ra
 
 -- cell c stands in the 6-line of a preference where d stands, or before it
 pub record NoLater (r : Preference) (p q c d : Cell) : Type 0 where
@@ -50,20 +49,20 @@ pub record NoLater (r : Preference) (p q c d : Cell) : Type 0 where
 
 -- 2. Never invented, never earlier: in any grid whatever, an adaptive hit is a plain hit, there or before.
 pub record NeverInvented (how : Manner) (n : Counts) (l : List ℕ) (p q : Cell) : Type 0 where
-  pub plain_too : (k : Hit) (rp : FirstHit) → Finds Adaptive how n l p q (FirstHit.Hit k) → Finds Plain how n l p q rp →
-      (h : Hit) × (rp ≡ FirstHit.Hit h) × (h.place.num * k.place.den ≤ k.place.num * h.place.den)
+  pub plain_too : (k : Hit) (rp : Result FirstHit Refusal) → Finds Adaptive how n l p q (Ok (FirstHit.Hit k)) → Finds Plain how n l p q rp →
+      (h : Hit) × (rp ≡ Ok (FirstHit.Hit h)) × (h.place.num * k.place.den ≤ k.place.num * h.place.den)
       × NoLater (by_rule how.rule p q) p q h.cell k.cell
 
 -- 3. Nothing in the way: marks complete at k and the adaptive answer clear, then no cell whose open inside the segment meets is solid, P excepted exactly
 -- where it is not tested (Shells: from 2 on).
 pub record NothingInTheWay (k : ℕ) (how : Manner) (n : Counts) (l : List ℕ) (p q : Cell) : Type 0 where
-  pub open_way : complete k n l ≡ true → (reads : ℕ) → Finds Adaptive how n l p q (FirstHit.Clear reads) → (m d : ℕ) (c : Cell) → Share m d →
+  pub open_way : complete k n l ≡ true → (reads : ℕ) → Finds Adaptive how n l p q (Ok (FirstHit.Clear reads)) → (m d : ℕ) (c : Cell) → Share m d →
       InOpen p q m d c → (c ≡ p → how.start ≡ Tested) → solid (byte_of n l c) ≡ false
 
 -- 4. With no hit plain reads A+B+C+1 cells, and adaptive between M+1 and A+B+C+1.
 pub record Reads (how : Manner) (n : Counts) (l : List ℕ) (p q : Cell) : Type 0 where
-  pub plain : (reads : ℕ) → Finds Plain how n l p q (FirstHit.Clear reads) → reads ≡ total (differences p q) + 1
-  pub adaptive : (reads : ℕ) → Finds Adaptive how n l p q (FirstHit.Clear reads) →
+  pub plain : (reads : ℕ) → Finds Plain how n l p q (Ok (FirstHit.Clear reads)) → reads ≡ total (differences p q) + 1
+  pub adaptive : (reads : ℕ) → Finds Adaptive how n l p q (Ok (FirstHit.Clear reads)) →
       (longest (differences p q) + 1 ≤ reads) × (reads ≤ total (differences p q) + 1)
 
 -- 5. What the plain walk finds (SCOPE W2): cell number s of the 6-line is a hit and none before it; or none is at all.
@@ -75,14 +74,14 @@ pub record FirstOf (how : Manner) (n : Counts) (l : List ℕ) (p q : Cell) (h : 
   pub reads : h.reads ≡ s + 1
 
 pub record FirstOnLine (how : Manner) (n : Counts) (l : List ℕ) (p q : Cell) : Type 0 where
-  pub hit : (h : Hit) → Finds Plain how n l p q (FirstHit.Hit h) → (s : ℕ) × FirstOf how n l p q h s
-  pub none : (reads : ℕ) → Finds Plain how n l p q (FirstHit.Clear reads) → (s : ℕ) → s ≤ total (differences p q) →
+  pub hit : (h : Hit) → Finds Plain how n l p q (Ok (FirstHit.Hit h)) → (s : ℕ) × FirstOf how n l p q h s
+  pub none : (reads : ℕ) → Finds Plain how n l p q (Ok (FirstHit.Clear reads)) → (s : ℕ) → s ≤ total (differences p q) →
       hit_at (conduct how p q) n l p (six_cell (by_rule how.rule p q) p q s) ≡ false
 
 -- 6. A hit lies in the grid. It is a solid cell of the 6-line, with the cell's byte as its code, and its place is that of the crossing by which
 -- the 6-line enters this cell, also where a long step reached it.
 pub record HitInside (how : Manner) (n : Counts) (l : List ℕ) (p q : Cell) : Type 0 where
-  pub inside : (w : Walker) (h : Hit) → Finds w how n l p q (FirstHit.Hit h) → InGrid n h.cell
+  pub inside : (w : Walker) (h : Hit) → Finds w how n l p q (Ok (FirstHit.Hit h)) → InGrid n h.cell
 
 pub record OnTheLine (r : Preference) (n : Counts) (l : List ℕ) (p q : Cell) (h : Hit) (s : ℕ) : Type 0 where
   pub most : s ≤ total (differences p q)
@@ -92,7 +91,7 @@ pub record OnTheLine (r : Preference) (n : Counts) (l : List ℕ) (p q : Cell) (
   pub place : h.place ≡ entered_at r p q s
 
 pub record HitPlace (how : Manner) (n : Counts) (l : List ℕ) (p q : Cell) : Type 0 where
-  pub there : (w : Walker) (h : Hit) → Finds w how n l p q (FirstHit.Hit h) → (s : ℕ) × OnTheLine (by_rule how.rule p q) n l p q h s
+  pub there : (w : Walker) (h : Hit) → Finds w how n l p q (Ok (FirstHit.Hit h)) → (s : ℕ) × OnTheLine (by_rule how.rule p q) n l p q h s
 
 -- 7. Each walk ends: its last cell is a hit, or Q. (The number of steps that bounds its definition is never used up.)
 pub record WalksEnd (how : Manner) (n : Counts) (l : List ℕ) (p q : Cell) : Type 0 where
@@ -100,12 +99,12 @@ pub record WalksEnd (how : Manner) (n : Counts) (l : List ℕ) (p q : Cell) : Ty
 
 -- 8. Mark, then walk, or ask first: after an accepted marking, and where the completeness call says yes, the premise of 1 and 3 holds at 3.
 pub record MarkedFirst (n : Counts) (l exit : List ℕ) : Type 0 where
-  pub premise : Marks n l Fine exit → complete 3 n exit ≡ true
-  pub asked : Completes n l Yes → complete 3 n l ≡ true
+  pub premise : Marks n l (Ok tt) exit → complete 3 n exit ≡ true
+  pub asked : Completes n l (Ok true) → complete 3 n l ≡ true
 
 -- 9. One answer for each input.
 pub record HitOnce (how : Manner) (n : Counts) (l : List ℕ) (p q : Cell) : Type 0 where
-  pub once : (w : Walker) (r s : FirstHit) → Finds w how n l p q r → Finds w how n l p q s → r ≡ s
+  pub once : (w : Walker) (r s : Result FirstHit Refusal) → Finds w how n l p q r → Finds w how n l p q s → r ≡ s
 
 -- 10. Each walk starts at P; a cell from which it goes on is no hit and not Q, and it goes on to what comes next. (7 says where it ends.)
 pub record StepByStep (how : Manner) (n : Counts) (l : List ℕ) (p q : Cell) : Type 0 where
@@ -143,14 +142,14 @@ pub record CameInBy (r : Preference) (p q : Cell) (h : Hit) (a : Axis) : Type 0 
 
 -- 12. The entry face of a hit, by either walk: none exactly where the cell is P; else it lies across an axis, as `CameInBy` says.
 pub record HitFace (how : Manner) (n : Counts) (l : List ℕ) (p q : Cell) : Type 0 where
-  pub none : (w : Walker) (h : Hit) → Finds w how n l p q (FirstHit.Hit h) → (h.place.face ≡ Face.None) ↔ (h.cell ≡ p)
-  pub crossed : (w : Walker) (h : Hit) → Finds w how n l p q (FirstHit.Hit h) → (h.cell ≡ p → ⊥) → (a : Axis) × CameInBy (by_rule how.rule p q) p q h a
+  pub none : (w : Walker) (h : Hit) → Finds w how n l p q (Ok (FirstHit.Hit h)) → (h.place.face ≡ Face.None) ↔ (h.cell ≡ p)
+  pub crossed : (w : Walker) (h : Hit) → Finds w how n l p q (Ok (FirstHit.Hit h)) → (h.cell ≡ p → ⊥) → (a : Axis) × CameInBy (by_rule how.rule p q) p q h a
 
 -- 13. The answer is that of the walk: its last cell is the hit, or Q where it is clear; the reads are its cells.
 pub record AsItsWalk (how : Manner) (n : Counts) (l : List ℕ) (p q : Cell) : Type 0 where
-  pub hit : (w : Walker) (h : Hit) → Finds w how n l p q (FirstHit.Hit h) →
+  pub hit : (w : Walker) (h : Hit) → Finds w how n l p q (Ok (FirstHit.Hit h)) →
       (h.cell ≡ last_of p (cells_of w how n l p q)) × (h.reads ≡ length (cells_of w how n l p q))
-  pub clear : (w : Walker) (reads : ℕ) → Finds w how n l p q (FirstHit.Clear reads) →
+  pub clear : (w : Walker) (reads : ℕ) → Finds w how n l p q (Ok (FirstHit.Clear reads)) →
       (last_of p (cells_of w how n l p q) ≡ q) × (reads ≡ length (cells_of w how n l p q))
 
 -- ---- wrong walks, on named inputs
@@ -175,21 +174,21 @@ abbrev pub post_hit : (num den : ℕ) → Face → (reads : ℕ) → Hit
 post_hit num den face reads = record { cell = at 1 1 0; code = 2; place = record { num = num; den = den; face = face }; reads = reads }
 
 pub record WrongWalks : Type 0 where
-  pub plain_refuses : (how : Manner) (r : Refusal) → Finds Plain how example_counts example_cells (at 0 0 0) (at 3 1 0) (FirstHit.Refused r) → ⊥
-  pub adaptive_refuses : (how : Manner) (r : Refusal) → Finds Adaptive how example_counts example_cells (at 0 0 0) (at 3 1 0) (FirstHit.Refused r) → ⊥
-  pub secretly_plain : (how : Manner) (r : FirstHit) → Finds Plain how example_counts example_cells (at 0 0 0) (at 3 1 0) r →
+  pub plain_refuses : (how : Manner) (r : Refusal) → Finds Plain how example_counts example_cells (at 0 0 0) (at 3 1 0) (Err r) → ⊥
+  pub adaptive_refuses : (how : Manner) (r : Refusal) → Finds Adaptive how example_counts example_cells (at 0 0 0) (at 3 1 0) (Err r) → ⊥
+  pub secretly_plain : (how : Manner) (r : Result FirstHit Refusal) → Finds Plain how example_counts example_cells (at 0 0 0) (at 3 1 0) r →
       Finds Adaptive how example_counts example_cells (at 0 0 0) (at 3 1 0) r → ⊥
-  pub plain_in_reads : (how : Manner) → Finds Adaptive how (counts 3 2 1) all_clear (at 0 0 0) (at 2 1 0) (FirstHit.Clear 4) → ⊥
-  pub plain_always_clear : (how : Manner) (reads : ℕ) → Finds Plain how example_counts example_cells (at 0 0 0) (at 3 1 0) (FirstHit.Clear reads) → ⊥
-  pub adaptive_always_clear : (how : Manner) (reads : ℕ) → Finds Adaptive how example_counts marked_cells (at 0 0 0) (at 3 1 0) (FirstHit.Clear reads) → ⊥
-  pub reads_made_up : (how : Manner) (reads : ℕ) → Finds Adaptive how example_counts example_cells (at 0 0 0) (at 3 1 0) (FirstHit.Clear reads) → reads ≡ 4
-  pub long_at_any_clear : (how : Manner) → Finds Adaptive how (counts 3 2 1) near_bytes (at 0 0 0) (at 2 1 0) (FirstHit.Clear 3) → ⊥
+  pub plain_in_reads : (how : Manner) → Finds Adaptive how (counts 3 2 1) all_clear (at 0 0 0) (at 2 1 0) (Ok (FirstHit.Clear 4)) → ⊥
+  pub plain_always_clear : (how : Manner) (reads : ℕ) → Finds Plain how example_counts example_cells (at 0 0 0) (at 3 1 0) (Ok (FirstHit.Clear reads)) → ⊥
+  pub adaptive_always_clear : (how : Manner) (reads : ℕ) → Finds Adaptive how example_counts marked_cells (at 0 0 0) (at 3 1 0) (Ok (FirstHit.Clear reads)) → ⊥
+  pub reads_made_up : (how : Manner) (reads : ℕ) → Finds Adaptive how example_counts example_cells (at 0 0 0) (at 3 1 0) (Ok (FirstHit.Clear reads)) → reads ≡ 4
+  pub long_at_any_clear : (how : Manner) → Finds Adaptive how (counts 3 2 1) near_bytes (at 0 0 0) (at 2 1 0) (Ok (FirstHit.Clear 3)) → ⊥
   pub place_of_first_face : (how : Manner) (face : Face) →
-      Finds Adaptive how (counts 6 3 1) long_bytes (at 0 0 0) (at 5 2 0) (FirstHit.Hit (long_hit 1 4 face)) → ⊥
+      Finds Adaptive how (counts 6 3 1) long_bytes (at 0 0 0) (at 5 2 0) (Ok (FirstHit.Hit (long_hit 1 4 face))) → ⊥
   -- the first face's axis, y, or any face but +x
   pub face_of_first_face : (how : Manner) (num den : ℕ) (face : Face) → (face ≡ Face.Plus X → ⊥) →
-      Finds Adaptive how (counts 6 3 1) long_bytes (at 0 0 0) (at 5 2 0) (FirstHit.Hit (long_hit num den face)) → ⊥
+      Finds Adaptive how (counts 6 3 1) long_bytes (at 0 0 0) (at 5 2 0) (Ok (FirstHit.Hit (long_hit num den face))) → ⊥
   pub sign_turned : (w : Walker) (how : Manner) (num den reads : ℕ) →
-      Finds w how example_counts marked_cells (at 0 0 0) (at 3 1 0) (FirstHit.Hit (post_hit num den (Face.Minus Y) reads)) → ⊥
+      Finds w how example_counts marked_cells (at 0 0 0) (at 3 1 0) (Ok (FirstHit.Hit (post_hit num den (Face.Minus Y) reads))) → ⊥
   pub face_at_p : (w : Walker) (how : Manner) (num den reads : ℕ) (face : Face) → (face ≡ Face.None → ⊥) →
-      Finds w how example_counts marked_cells (at 1 1 0) (at 3 1 0) (FirstHit.Hit (post_hit num den face reads)) → ⊥
+      Finds w how example_counts marked_cells (at 1 1 0) (at 3 1 0) (Ok (FirstHit.Hit (post_hit num den face reads))) → ⊥

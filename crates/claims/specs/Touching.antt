@@ -1,5 +1,6 @@
 -- The touching line, its list and the first hit along it. Claims for every two ends, every grid and either start, by the definitions and by the contracts of
 -- the two calls. Assumes nothing.
+use Rattle.std.specs.Prelude.{Ok, Err, Result}
 use Rattle.std.specs.Prelude.{ℕ, ◌+◌, ◌-◌, ◌*◌, ◌≤◌, ◌<◌, ◌≡◌, ◌⊎◌, ◌↔◌, true, false, List, [], ◌∷◌, ◌++◌, ℤ, pos, neg_ℤ, length, get_or, replicate}
 use Rattle.cells.specs.declared.Cell.{Cell}
 use Rattle.cells.specs.declared.Counts.{Counts}
@@ -17,8 +18,6 @@ use Rattle.lines.specs.Preference.{Preference, y_z_x_rank, by_rule}
 use Rattle.lines.specs.Lines.{differences, face_along, centres, six_cell, six_line}
 use Rattle.lines.specs.Segment.{Share, InClosed}
 use Rattle.lines.specs.Touching.{touching_line}
-use Rattle.lists.specs.declared.Listed.{Listed}
-use Rattle.lists.specs.declared.Listed.TheVariants.{Cells, Refused}
 use Rattle.lists.specs.Lists.{numbers}
 use Rattle.grids.specs.Grid.{byte_of, solid}
 use Rattle.walks.specs.declared.Walker.TheVariants.{Plain}
@@ -77,7 +76,7 @@ pub record LongestTouching : Type 0 where
 
 -- 5. SCOPE M8: what an accepted list answers and writes, cell by cell.
 pub record TouchingListed (p q : Cell) (entry exit : List ℤ) (k : ℕ) : Type 0 where
-  pub cells : LineTouching p q entry (Cells k) exit → CellsAt (length (touching_line p q)) (touching_cell p q) entry exit k
+  pub cells : LineTouching p q entry (Ok k) exit → CellsAt (length (touching_line p q)) (touching_cell p q) entry exit k
 
 -- ---- 6. worked lines
 
@@ -144,31 +143,31 @@ pub record FirstTouched (start : Start) (n : Counts) (l : List ℕ) (p q : Cell)
 -- 7. What the call finds: the first such cell; or, clear, no cell whose closed cube meets the segment is solid, P excepted exactly where it is not tested, and
 -- the whole line was read.
 pub record TouchingHits (start : Start) (n : Counts) (l : List ℕ) (p q : Cell) : Type 0 where
-  pub hit : (h : Hit) → FindsTouching start n l p q (FirstHit.Hit h) → FirstTouched start n l p q h
-  pub clear : (reads : ℕ) → FindsTouching start n l p q (FirstHit.Clear reads) →
+  pub hit : (h : Hit) → FindsTouching start n l p q (Ok (FirstHit.Hit h)) → FirstTouched start n l p q h
+  pub clear : (reads : ℕ) → FindsTouching start n l p q (Ok (FirstHit.Clear reads)) →
       (reads ≡ length (touching_line p q)) ×
       ((k d : ℕ) (c : Cell) → Share k d → InClosed p q k d c → (c ≡ p → start ≡ Tested) → solid (byte_of n l c) ≡ false)
 
 -- 8. Beside the plain walk, with the same start and either rule: where this walk is clear the plain one is; where the plain one hits, this one hits, at a
 -- fraction no greater. Both refuse alike. Of reads nothing is claimed.
 pub record BesidePlain (how : Manner) (n : Counts) (l : List ℕ) (p q : Cell) : Type 0 where
-  pub clear_too : (reads : ℕ) (r : FirstHit) → FindsTouching how.start n l p q (FirstHit.Clear reads) → Finds Plain how n l p q r →
-      (m : ℕ) × (r ≡ FirstHit.Clear m)
-  pub hits_too : (h : Hit) (r : FirstHit) → Finds Plain how n l p q (FirstHit.Hit h) → FindsTouching how.start n l p q r →
-      (k : Hit) × (r ≡ FirstHit.Hit k) × (k.place.num * h.place.den ≤ h.place.num * k.place.den)
-  pub refuses_too : (e : Refusal) (r s : FirstHit) → Finds Plain how n l p q r → FindsTouching how.start n l p q s →
-      (r ≡ FirstHit.Refused e) ↔ (s ≡ FirstHit.Refused e)
+  pub clear_too : (reads : ℕ) (r : Result FirstHit Refusal) → FindsTouching how.start n l p q (Ok (FirstHit.Clear reads)) → Finds Plain how n l p q r →
+      (m : ℕ) × (r ≡ Ok (FirstHit.Clear m))
+  pub hits_too : (h : Hit) (r : Result FirstHit Refusal) → Finds Plain how n l p q (Ok (FirstHit.Hit h)) → FindsTouching how.start n l p q r →
+      (k : Hit) × (r ≡ Ok (FirstHit.Hit k)) × (k.place.num * h.place.den ≤ h.place.num * k.place.den)
+  pub refuses_too : (e : Refusal) (r s : Result FirstHit Refusal) → Finds Plain how n l p q r → FindsTouching how.start n l p q s →
+      (r ≡ Err e) ↔ (s ≡ Err e)
 
 -- 9. The start. Where P is not solid both starts give one answer. Where it is not tested a hit is never P, and equal ends are clear with one read, or
 -- refused.
 pub record TouchingStarts (n : Counts) (l : List ℕ) (p q : Cell) : Type 0 where
-  pub alike : solid (byte_of n l p) ≡ false → (one other : Start) (r s : FirstHit) → FindsTouching one n l p q r → FindsTouching other n l p q s → r ≡ s
-  pub never_p : (h : Hit) → FindsTouching Untested n l p q (FirstHit.Hit h) → h.cell ≡ p → ⊥
-  pub equal_ends : (r : FirstHit) → FindsTouching Untested n l p p r → (r ≡ FirstHit.Clear 1) ⊎ ((e : Refusal) × (r ≡ FirstHit.Refused e))
+  pub alike : solid (byte_of n l p) ≡ false → (one other : Start) (r s : Result FirstHit Refusal) → FindsTouching one n l p q r → FindsTouching other n l p q s → r ≡ s
+  pub never_p : (h : Hit) → FindsTouching Untested n l p q (Ok (FirstHit.Hit h)) → h.cell ≡ p → ⊥
+  pub equal_ends : (r : Result FirstHit Refusal) → FindsTouching Untested n l p p r → (r ≡ Ok (FirstHit.Clear 1)) ⊎ ((e : Refusal) × (r ≡ Err e))
 
 -- 10. One answer for each input. (Of the list: `ListedOnce`.)
 pub record TouchingOnce (start : Start) (n : Counts) (l : List ℕ) (p q : Cell) : Type 0 where
-  pub once : (r s : FirstHit) → FindsTouching start n l p q r → FindsTouching start n l p q s → r ≡ s
+  pub once : (r s : Result FirstHit Refusal) → FindsTouching start n l p q r → FindsTouching start n l p q s → r ≡ s
 
 -- ---- 11. worked hits
 
@@ -205,25 +204,25 @@ abbrev pub tie_hit : (num den : ℕ) → Face → Hit
 tie_hit num den face = record { cell = at 2 1 0; code = 2; place = record { num = num; den = den; face = face }; reads = 5 }
 
 pub record TouchingHitRows : Type 0 where
-  pub ties : (start : Start) → EachRow (λ row. first_touching start (counts 2 2 2) (one_solid row.byte) (at 0 0 0) (at 1 1 1) ≡ FirstHit.Hit (row_hit row)) tie_rows
+  pub ties : (start : Start) → EachRow (λ row. first_touching start (counts 2 2 2) (one_solid row.byte) (at 0 0 0) (at 1 1 1) ≡ Ok (FirstHit.Hit (row_hit row))) tie_rows
   -- P tested is the hit: 0 over 1, no face, one read; not tested it is passed, and the whole line is read
   pub start_tested : first_touching Tested (counts 2 2 2) (one_solid 0) (at 0 0 0) (at 1 1 1) ≡
-      FirstHit.Hit (record { cell = at 0 0 0; code = 2; place = record { num = 0; den = 1; face = Face.None }; reads = 1 })
-  pub start_passed : first_touching Untested (counts 2 2 2) (one_solid 0) (at 0 0 0) (at 1 1 1) ≡ FirstHit.Clear 8
+      Ok (FirstHit.Hit (record { cell = at 0 0 0; code = 2; place = record { num = 0; den = 1; face = Face.None }; reads = 1 }))
+  pub start_passed : first_touching Untested (counts 2 2 2) (one_solid 0) (at 0 0 0) (at 1 1 1) ≡ Ok (FirstHit.Clear 8)
   -- equal ends
-  pub equal_ends : first_touching Untested (counts 2 2 2) (one_solid 0) (at 0 0 0) (at 0 0 0) ≡ FirstHit.Clear 1
+  pub equal_ends : first_touching Untested (counts 2 2 2) (one_solid 0) (at 0 0 0) (at 0 0 0) ≡ Ok (FirstHit.Clear 1)
   pub equal_ends_tested : first_touching Tested (counts 2 2 2) (one_solid 0) (at 0 0 0) (at 0 0 0) ≡
-      FirstHit.Hit (record { cell = at 0 0 0; code = 2; place = record { num = 0; den = 1; face = Face.None }; reads = 1 })
+      Ok (FirstHit.Hit (record { cell = at 0 0 0; code = 2; place = record { num = 0; den = 1; face = Face.None }; reads = 1 }))
   -- the cell by x alone has the place of x, 3 over 6 and not reduced, though y ties
   pub by_x : (start : Start) → first_touching start (counts 4 2 1) (0 ∷ 0 ∷ 2 ∷ 0 ∷ 0 ∷ 0 ∷ 0 ∷ 0 ∷ []) (at 0 0 0) (at 3 1 0) ≡
-      FirstHit.Hit (record { cell = at 2 0 0; code = 2; place = record { num = 3; den = 6; face = Face.Plus X }; reads = 4 })
+      Ok (FirstHit.Hit (record { cell = at 2 0 0; code = 2; place = record { num = 3; den = 6; face = Face.Plus X }; reads = 4 }))
   -- z before x, and the other way: the face turns with the way
   pub by_z : (start : Start) → first_touching start (counts 2 1 4) (0 ∷ 0 ∷ 0 ∷ 0 ∷ 0 ∷ 2 ∷ 0 ∷ 0 ∷ []) (at 0 0 0) (at 1 0 3) ≡
-      FirstHit.Hit (record { cell = at 1 0 2; code = 2; place = record { num = 3; den = 6; face = Face.Plus Z }; reads = 5 })
+      Ok (FirstHit.Hit (record { cell = at 1 0 2; code = 2; place = record { num = 3; den = 6; face = Face.Plus Z }; reads = 5 }))
   pub back : (start : Start) → first_touching start (counts 4 2 1) (0 ∷ 2 ∷ 0 ∷ 0 ∷ 0 ∷ 0 ∷ 0 ∷ 0 ∷ []) (at 3 1 0) (at 0 0 0) ≡
-      FirstHit.Hit (record { cell = at 1 0 0; code = 2; place = record { num = 1; den = 2; face = Face.Minus Y }; reads = 5 })
+      Ok (FirstHit.Hit (record { cell = at 1 0 0; code = 2; place = record { num = 1; den = 2; face = Face.Minus Y }; reads = 5 }))
   -- where y crosses at 1 over 2 and x at 3 over 6, the place is that of y
-  pub by_y : (start : Start) → first_touching start (counts 4 2 1) post_at_tie (at 0 0 0) (at 3 1 0) ≡ FirstHit.Hit (tie_hit 1 2 (Face.Plus Y))
+  pub by_y : (start : Start) → first_touching start (counts 4 2 1) post_at_tie (at 0 0 0) (at 3 1 0) ≡ Ok (FirstHit.Hit (tie_hit 1 2 (Face.Plus Y)))
 
 -- ---- 12. wrong answers that the contracts shut out, on named inputs
 
@@ -240,21 +239,21 @@ abbrev pub cell_twice : List ℤ
 cell_twice = numbers (at 0 0 0 ∷ at 0 1 0 ∷ at 0 1 0 ∷ at 1 1 0 ∷ [])
 
 pub record WrongTouching : Type 0 where
-  pub pairs : (r : Listed) → LineTouching (at 0 0 0) (at 1 1 1) (sevens 24) r pairs_turned → ⊥
-  pub singles : (r : Listed) → LineTouching (at 0 0 0) (at 1 1 1) (sevens 24) r singles_turned → ⊥
+  pub pairs : (r : Result ℕ Refusal) → LineTouching (at 0 0 0) (at 1 1 1) (sevens 24) r pairs_turned → ⊥
+  pub singles : (r : Result ℕ Refusal) → LineTouching (at 0 0 0) (at 1 1 1) (sevens 24) r singles_turned → ⊥
   -- a tie of three with six cells
-  pub six_cells : (exit : List ℤ) → LineTouching (at 0 0 0) (at 1 1 1) (sevens 24) (Cells 7) exit → ⊥
+  pub six_cells : (exit : List ℤ) → LineTouching (at 0 0 0) (at 1 1 1) (sevens 24) (Ok 7) exit → ⊥
   -- a repeat at a tie of two
-  pub twice : (r : Listed) → LineTouching (at 0 0 0) (at 1 1 0) (sevens 12) r cell_twice → ⊥
-  pub one_more : (exit : List ℤ) → LineTouching (at 0 0 0) (at 1 1 0) (sevens 15) (Cells 5) exit → ⊥
+  pub twice : (r : Result ℕ Refusal) → LineTouching (at 0 0 0) (at 1 1 0) (sevens 12) r cell_twice → ⊥
+  pub one_more : (exit : List ℤ) → LineTouching (at 0 0 0) (at 1 1 0) (sevens 15) (Ok 5) exit → ⊥
   -- accepted with the room of a 6-line, or refused with just enough
-  pub six_room : (k : ℕ) (exit : List ℤ) → LineTouching (at 0 0 0) (at 1 1 1) (sevens 12) (Cells k) exit → ⊥
-  pub refuses : (r : Refusal) (exit : List ℤ) → LineTouching (at 0 0 0) (at 1 1 1) (sevens 24) (Refused r) exit → ⊥
+  pub six_room : (k : ℕ) (exit : List ℤ) → LineTouching (at 0 0 0) (at 1 1 1) (sevens 12) (Ok k) exit → ⊥
+  pub refuses : (r : Refusal) (exit : List ℤ) → LineTouching (at 0 0 0) (at 1 1 1) (sevens 24) (Err r) exit → ⊥
   -- the place of the last axis of the tie
-  pub last_axis : (start : Start) → FindsTouching start (counts 4 2 1) post_at_tie (at 0 0 0) (at 3 1 0) (FirstHit.Hit (tie_hit 3 6 (Face.Plus X))) → ⊥
+  pub last_axis : (start : Start) → FindsTouching start (counts 4 2 1) post_at_tie (at 0 0 0) (at 3 1 0) (Ok (FirstHit.Hit (tie_hit 3 6 (Face.Plus X)))) → ⊥
   pub any_other : (start : Start) (num den : ℕ) (face : Face) → (num ≡ 1 → den ≡ 2 → face ≡ Face.Plus Y → ⊥) →
-      FindsTouching start (counts 4 2 1) post_at_tie (at 0 0 0) (at 3 1 0) (FirstHit.Hit (tie_hit num den face)) → ⊥
+      FindsTouching start (counts 4 2 1) post_at_tie (at 0 0 0) (at 3 1 0) (Ok (FirstHit.Hit (tie_hit num den face))) → ⊥
   -- clear because the 6-line by rule 1 leaves the cell by x out
-  pub side_left_out : (start : Start) (reads : ℕ) → FindsTouching start (counts 2 2 2) (one_solid 1) (at 0 0 0) (at 1 1 1) (FirstHit.Clear reads) → ⊥
+  pub side_left_out : (start : Start) (reads : ℕ) → FindsTouching start (counts 2 2 2) (one_solid 1) (at 0 0 0) (at 1 1 1) (Ok (FirstHit.Clear reads)) → ⊥
   -- a start that is always tested
-  pub always_tested : (h : Hit) → FindsTouching Untested (counts 2 2 2) (one_solid 0) (at 0 0 0) (at 1 1 1) (FirstHit.Hit h) → ⊥
+  pub always_tested : (h : Hit) → FindsTouching Untested (counts 2 2 2) (one_solid 0) (at 0 0 0) (at 1 1 1) (Ok (FirstHit.Hit h)) → ⊥

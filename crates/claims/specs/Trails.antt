@@ -1,5 +1,6 @@
 -- The trail, the cells on which the adaptive walk stands, and the call that lists it. Claims for every grid, every two ends, either start and either rule, by
 -- the contracts of the call and of the adaptive first hit. How the walk goes from cell to cell: Story, 10 and 11. Assumes nothing.
+use Rattle.std.specs.Prelude.{Ok, Err, Result}
 use Rattle.std.specs.Prelude.{ℕ, ◌+◌, ◌-◌, ◌*◌, ◌≤◌, ◌<◌, ◌≡◌, List, [], ◌∷◌, ◌++◌, ℤ, pos, length, get_or}
 use Rattle.cells.specs.declared.Cell.{Cell}
 use Rattle.cells.specs.declared.Counts.{Counts}
@@ -10,8 +11,6 @@ use Rattle.cells.specs.declared.Rule.TheVariants.{Two}
 use Rattle.cells.specs.Manners.{usual, tested_start, tested_by}
 use Rattle.lines.specs.Steps.{total}
 use Rattle.lines.specs.Lines.{differences}
-use Rattle.lists.specs.declared.Listed.{Listed}
-use Rattle.lists.specs.declared.Listed.TheVariants.{Cells, Refused}
 use Rattle.lists.specs.Lists.{numbers}
 use Rattle.walks.specs.declared.Walker.TheVariants.{Adaptive}
 use Rattle.walks.specs.declared.Hit.{Hit}
@@ -31,17 +30,17 @@ module _ (how : Manner) (n : Counts) (l : List ℕ) (p q : Cell) (entry exit : L
   -- 1. SCOPE W15: what an accepted list answers and writes, cell by cell. There is a first cell, and it is P; and there are no more cells than the 6-line has.
   pub record TrailListed : Type 0 where
     pub few : length (trail how n l p q) ≤ total (differences p q) + 1
-    pub cells : AdaptiveCells how n l p q entry (Cells k) exit → CellsAt (length (trail how n l p q)) (trail_cell how n l p q) entry exit k
-    pub starts : AdaptiveCells how n l p q entry (Cells k) exit → (0 < k) × (three_at exit 0 ≡ p)
+    pub cells : AdaptiveCells how n l p q entry (Ok k) exit → CellsAt (length (trail how n l p q)) (trail_cell how n l p q) entry exit k
+    pub starts : AdaptiveCells how n l p q entry (Ok k) exit → (0 < k) × (three_at exit 0 ≡ p)
 
   -- 2. Beside the adaptive first hit on the same inputs: as many cells are listed as it has reads, and the last of them is the hit's, or Q where it is clear.
   -- What it refuses the list refuses, with the same refusal.
   pub record BesideFirstHit : Type 0 where
-    pub hit : AdaptiveCells how n l p q entry (Cells k) exit → (h : Hit) → Finds Adaptive how n l p q (FirstHit.Hit h) →
+    pub hit : AdaptiveCells how n l p q entry (Ok k) exit → (h : Hit) → Finds Adaptive how n l p q (Ok (FirstHit.Hit h)) →
         (k ≡ h.reads) × (three_at exit (3 * (k - 1)) ≡ h.cell)
-    pub clear : AdaptiveCells how n l p q entry (Cells k) exit → (reads : ℕ) → Finds Adaptive how n l p q (FirstHit.Clear reads) →
+    pub clear : AdaptiveCells how n l p q entry (Ok k) exit → (reads : ℕ) → Finds Adaptive how n l p q (Ok (FirstHit.Clear reads)) →
         (k ≡ reads) × (three_at exit (3 * (k - 1)) ≡ q)
-    pub refused : (r : Listed) → AdaptiveCells how n l p q entry r exit → (e : Refusal) → Finds Adaptive how n l p q (FirstHit.Refused e) → r ≡ Refused e
+    pub refused : (r : Result ℕ Refusal) → AdaptiveCells how n l p q entry r exit → (e : Refusal) → Finds Adaptive how n l p q (Err e) → r ≡ Err e
 
 -- ---- 3. worked trails
 
@@ -74,27 +73,27 @@ pub record TrailRows : Type 0 where
 
 pub record WrongTrails : Type 0 where
   -- cells that a long step passes over, listed too; a long step from a near cell
-  pub passed_over : (exit : List ℤ) → AdaptiveCells usual (counts 3 2 1) all_clear (at 0 0 0) (at 2 1 0) (sevens 12) (Cells 4) exit → ⊥
-  pub near_stepped : (exit : List ℤ) → AdaptiveCells usual (counts 3 2 1) near_bytes (at 0 0 0) (at 2 1 0) (sevens 12) (Cells 3) exit → ⊥
+  pub passed_over : (exit : List ℤ) → AdaptiveCells usual (counts 3 2 1) all_clear (at 0 0 0) (at 2 1 0) (sevens 12) (Ok 4) exit → ⊥
+  pub near_stepped : (exit : List ℤ) → AdaptiveCells usual (counts 3 2 1) near_bytes (at 0 0 0) (at 2 1 0) (sevens 12) (Ok 3) exit → ⊥
   -- a trail that goes on behind the post that it meets; Q in the place of the post; P left out; and the cells last to first
-  pub past_the_hit : (exit : List ℤ) → AdaptiveCells usual example_counts marked_cells (at 0 0 0) (at 3 1 0) (sevens 15) (Cells 5) exit → ⊥
-  pub q_for_the_hit : (r : Listed) →
+  pub past_the_hit : (exit : List ℤ) → AdaptiveCells usual example_counts marked_cells (at 0 0 0) (at 3 1 0) (sevens 15) (Ok 5) exit → ⊥
+  pub q_for_the_hit : (r : Result ℕ Refusal) →
       AdaptiveCells usual example_counts marked_cells (at 0 0 0) (at 3 1 0) (sevens 9) r (numbers (at 0 0 0 ∷ at 1 0 0 ∷ at 3 1 0 ∷ [])) → ⊥
-  pub start_left_out : (r : Listed) →
+  pub start_left_out : (r : Result ℕ Refusal) →
       AdaptiveCells usual example_counts marked_cells (at 0 0 0) (at 3 1 0) (sevens 9) r (numbers (at 1 0 0 ∷ at 1 1 0 ∷ []) ++ sevens 3) → ⊥
-  pub turned_round : (r : Listed) →
+  pub turned_round : (r : Result ℕ Refusal) →
       AdaptiveCells usual example_counts marked_cells (at 0 0 0) (at 3 1 0) (sevens 9) r (numbers (at 1 1 0 ∷ at 1 0 0 ∷ at 0 0 0 ∷ [])) → ⊥
   -- a list that is the plain walk's where the adaptive one steps over the post
-  pub plain_in_list : (r : Listed) →
+  pub plain_in_list : (r : Result ℕ Refusal) →
       AdaptiveCells usual example_counts example_cells (at 0 0 0) (at 3 1 0) (sevens 12) r (numbers (at 0 0 0 ∷ at 1 0 0 ∷ at 1 1 0 ∷ []) ++ sevens 3) → ⊥
   -- by rule 1 where rule 2 is named
-  pub other_rule : (r : Listed) →
+  pub other_rule : (r : Result ℕ Refusal) →
       AdaptiveCells (tested_by Two) (counts 2 2 1) (1 ∷ 1 ∷ 1 ∷ 1 ∷ []) (at 1 1 0) (at 0 0 0) (sevens 9) r (numbers (at 1 1 0 ∷ at 1 0 0 ∷ at 0 0 0 ∷ [])) → ⊥
   -- a start that is tested where it should not be, and the other way round
-  pub always_tested : (exit : List ℤ) → AdaptiveCells usual example_counts marked_cells (at 1 1 0) (at 3 1 0) (sevens 9) (Cells 1) exit → ⊥
-  pub never_tested : (exit : List ℤ) → AdaptiveCells tested_start example_counts marked_cells (at 1 1 0) (at 3 1 0) (sevens 9) (Cells 3) exit → ⊥
+  pub always_tested : (exit : List ℤ) → AdaptiveCells usual example_counts marked_cells (at 1 1 0) (at 3 1 0) (sevens 9) (Ok 1) exit → ⊥
+  pub never_tested : (exit : List ℤ) → AdaptiveCells tested_start example_counts marked_cells (at 1 1 0) (at 3 1 0) (sevens 9) (Ok 3) exit → ⊥
   -- 6 for an end outside the grid; refused with just enough room, accepted with one number less, and a refusal that writes
-  pub room_first : (exit : List ℤ) → AdaptiveCells usual (counts 3 2 1) all_clear (at 0 0 0) (at 3 1 0) [] (Refused Room) exit → ⊥
-  pub refuses : (r : Refusal) (exit : List ℤ) → AdaptiveCells usual (counts 3 2 1) all_clear (at 0 0 0) (at 2 1 0) (sevens 9) (Refused r) exit → ⊥
-  pub one_less : (many : ℕ) (exit : List ℤ) → AdaptiveCells usual (counts 3 2 1) all_clear (at 0 0 0) (at 2 1 0) (sevens 8) (Cells many) exit → ⊥
-  pub writes : (r : Listed) → AdaptiveCells usual (counts 3 2 1) all_clear (at 0 0 0) (at 2 1 0) (sevens 8) r (pos 0 ∷ sevens 7) → ⊥
+  pub room_first : (exit : List ℤ) → AdaptiveCells usual (counts 3 2 1) all_clear (at 0 0 0) (at 3 1 0) [] (Err Room) exit → ⊥
+  pub refuses : (r : Refusal) (exit : List ℤ) → AdaptiveCells usual (counts 3 2 1) all_clear (at 0 0 0) (at 2 1 0) (sevens 9) (Err r) exit → ⊥
+  pub one_less : (many : ℕ) (exit : List ℤ) → AdaptiveCells usual (counts 3 2 1) all_clear (at 0 0 0) (at 2 1 0) (sevens 8) (Ok many) exit → ⊥
+  pub writes : (r : Result ℕ Refusal) → AdaptiveCells usual (counts 3 2 1) all_clear (at 0 0 0) (at 2 1 0) (sevens 8) r (pos 0 ∷ sevens 7) → ⊥

@@ -1,5 +1,8 @@
 -- What is claimed of the words: what SCOPE says of a refusal, its number and details, tells which refusal it is; and what it says of an
 -- answer, a refusal or the values, tells which answer it is. Assumes nothing.
+use Rattle.std.specs.Prelude.{Result, Option}
+use Rattle.sight.specs.declared.Block.{Block}
+use Rattle.cells.specs.declared.Cell.{Cell}
 use Rattle.std.specs.Prelude.{ℕ, ◌≡◌}
 use Rattle.std.proofs.Math.Option.{none, some}
 use Rattle.cells.specs.declared.Axis.{Axis}
@@ -10,21 +13,16 @@ use Rattle.cells.specs.declared.Part.{Part}
 use Rattle.cells.specs.declared.Refusal.{Refusal}
 use Rattle.cells.specs.declared.Refusal.TheVariants.{Limit, Count, Bytes, Layer, OffGrid, Room, Placement, NotFinite, OffSurvey}
 use Rattle.cells.specs.declared.Refusal.TheVariants.{Record, Version, NoRule, Stale, Corners}
-use Rattle.cells.specs.declared.Verdict.{Verdict}
+use Rattle.cells.specs.Checks.{Verdict}
 use Rattle.cells.specs.Refusals.{told, NumberOf, told_verdict}
-use Rattle.lists.specs.declared.Listed.{Listed}
 use Rattle.lists.specs.Lists.{told_listed}
 use Rattle.grids.specs.declared.LayerPart.{LayerPart}
-use Rattle.grids.specs.declared.Completeness.{Completeness}
 use Rattle.grids.specs.Grid.{told_part}
 use Rattle.grids.specs.Marks.{told_completeness}
-use Rattle.bricks.specs.declared.Tally.{Tally}
 use Rattle.bricks.specs.Builds.{told_tally}
 use Rattle.walks.specs.declared.FirstHit.{FirstHit}
 use Rattle.walks.specs.Answers.{told_hit}
-use Rattle.survey.specs.declared.Lookup.{Lookup}
 use Rattle.survey.specs.Survey.{told_lookup}
-use Rattle.sight.specs.declared.Sight.{Sight}
 use Rattle.sight.specs.Sight.{told_sight}
 use Rattle.records.specs.declared.venues.VenueRead.{VenueRead}
 use Rattle.records.specs.declared.pairs.PairRead.{PairRead}
@@ -36,13 +34,13 @@ use Rattle.records.specs.Writing.{told_written}
 pub record ToldApart : Type 0 where
   pub refusal : (r s : Refusal) → told r ≡ told s → r ≡ s
   pub verdict : (r s : Verdict) → told_verdict r ≡ told_verdict s → r ≡ s
-  pub listed : (r s : Listed) → told_listed r ≡ told_listed s → r ≡ s
-  pub part : (r s : LayerPart) → told_part r ≡ told_part s → r ≡ s
-  pub completeness : (r s : Completeness) → told_completeness r ≡ told_completeness s → r ≡ s
-  pub tally : (r s : Tally) → told_tally r ≡ told_tally s → r ≡ s
-  pub hit : (r s : FirstHit) → told_hit r ≡ told_hit s → r ≡ s
-  pub lookup : (r s : Lookup) → told_lookup r ≡ told_lookup s → r ≡ s
-  pub sight : (r s : Sight) → told_sight r ≡ told_sight s → r ≡ s
+  pub listed : (r s : Result ℕ Refusal) → told_listed r ≡ told_listed s → r ≡ s
+  pub part : (r s : Result LayerPart Refusal) → told_part r ≡ told_part s → r ≡ s
+  pub completeness : (r s : Result Bool Refusal) → told_completeness r ≡ told_completeness s → r ≡ s
+  pub tally : (r s : Result ℕ Refusal) → told_tally r ≡ told_tally s → r ≡ s
+  pub hit : (r s : Result FirstHit Refusal) → told_hit r ≡ told_hit s → r ≡ s
+  pub lookup : (r s : Result Cell Refusal) → told_lookup r ≡ told_lookup s → r ≡ s
+  pub sight : (r s : Result (Option Block) Refusal) → told_sight r ≡ told_sight s → r ≡ s
   pub venue : (r s : VenueRead) → told_venue r ≡ told_venue s → r ≡ s
   pub pair : (r s : PairRead) → told_pair r ≡ told_pair s → r ≡ s
   pub written : (r s : Written) → told_written r ≡ told_written s → r ≡ s

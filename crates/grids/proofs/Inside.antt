@@ -1,4 +1,5 @@
 -- What lies inside a grid: its coordinates and bytes, and that just the ends inside pass refusal 5. Assumes nothing.
+use Rattle.std.specs.Prelude.{Ok}
 use mathlib.Core.Path.{◌≡◌, refl, sym, ◌∙◌, subst}
 use mathlib.Core.Bool.{Bool, true, false}
 use Prim.Native.Nat.{ℕ, ◌^◌, ◌≤◌, ◌<◌}
@@ -15,7 +16,6 @@ use Rattle.cells.specs.declared.End.TheVariants.{P, Q}
 use Rattle.cells.specs.declared.Cell.{Cell}
 use Rattle.cells.specs.declared.Counts.{Counts}
 use Rattle.cells.specs.declared.Refusal.TheVariants.{OffGrid}
-use Rattle.cells.specs.declared.Verdict.TheVariants.{Fine}
 use Rattle.cells.specs.Checks.{refuse_when}
 use Rattle.cells.specs.Touching.{on}
 use Rattle.cells.proofs.Checks.{fine_first, fine_rest, passed}
@@ -110,7 +110,7 @@ indexed n bytes c s h =
 
 -- ---- ends that passed
 
-pub check_inside : (e : End) (n : Counts) (c : Cell) → grid_check e n c ≡ Fine → InGrid n c
+pub check_inside : (e : End) (n : Counts) (c : Cell) → grid_check e n c ≡ Ok tt → InGrid n c
 check_inside e n c h =
     let x = fine_first (refuse_when (off_axis c.x n.nx) (OffGrid e X)) _ h in
     let yz = fine_rest (refuse_when (off_axis c.x n.nx) (OffGrid e X)) _ h in
@@ -126,11 +126,11 @@ check_inside e n c h =
 
 -- what an accepted walk knows
 pub record Accepted (n : Counts) (bytes : ℕ) (p q : Cell) : Type 0 where
-  pub shaped : shape n bytes ≡ Fine
+  pub shaped : shape n bytes ≡ Ok tt
   pub p_in : InGrid n p
   pub q_in : InGrid n q
 
-pub accepted : (n : Counts) (bytes : ℕ) (p q : Cell) → walk_check n bytes p q ≡ Fine → Accepted n bytes p q
+pub accepted : (n : Counts) (bytes : ℕ) (p q : Cell) → walk_check n bytes p q ≡ Ok tt → Accepted n bytes p q
 unfolding walk_check
 accepted n bytes p q h =
     let ends = fine_rest (shape n bytes) _ h in
@@ -141,9 +141,9 @@ accepted n bytes p q h =
     }
 
 -- and the other way: ends inside are not refused
-inside_fine : (e : End) (n : Counts) (c : Cell) → InGrid n c → grid_check e n c ≡ Fine
+inside_fine : (e : End) (n : Counts) (c : Cell) → InGrid n c → grid_check e n c ≡ Ok tt
 inside_fine e n c h = rw (h.inside X, h.inside Y, h.inside Z)
 
-pub walk_fine : (n : Counts) (bytes : ℕ) (p q : Cell) → Accepted n bytes p q → walk_check n bytes p q ≡ Fine
+pub walk_fine : (n : Counts) (bytes : ℕ) (p q : Cell) → Accepted n bytes p q → walk_check n bytes p q ≡ Ok tt
 unfolding walk_check
 walk_fine n bytes p q a = rw (a.shaped, inside_fine P n p a.p_in, inside_fine Q n q a.q_in)

@@ -1,4 +1,5 @@
 -- What a fine shape says: the bounds of every later call. Assumes nothing.
+use Rattle.std.specs.Prelude.{Ok}
 use Prim.Native.Nat.{ℕ, suc, ◌+◌, ◌*◌, ◌≤◌, ◌<◌}
 use native.Mathlib.Nat.{mul-le-mul, mul-le-mul_left, mul_assoc, pos_of_ne-zero}
 use native.Mathlib.Omega.{arith}
@@ -9,7 +10,6 @@ use borrow.Author.Tests.{ltb-false, eqb-true, eqb-false, not-false}
 use Rattle.cells.specs.declared.Axis.TheVariants.{X, Y}
 use Rattle.cells.specs.declared.Counts.{Counts}
 use Rattle.cells.specs.declared.Refusal.TheVariants.{Count}
-use Rattle.cells.specs.declared.Verdict.TheVariants.{Fine}
 use Rattle.cells.specs.Checks.{refuse_when}
 use Rattle.cells.proofs.Checks.{fine_first, fine_rest, each_fine, passed}
 use Rattle.grids.specs.Grid.{bad_count, size, count_check, shape}
@@ -24,7 +24,7 @@ good_count n h = go (eqb n 0) refl h
 
 -- ---- a fine shape
 
-pub counted : (n : Counts) → count_check n ≡ Fine → Counted n
+pub counted : (n : Counts) → count_check n ≡ Ok tt → Counted n
 unfolding count_check
 counted n e =
     let (x, yz) = each_fine (refuse_when (bad_count n.nx) (Count X)) _ e in
@@ -32,11 +32,11 @@ counted n e =
     record { x = good_count n.nx (passed _ _ x); y = good_count n.ny (passed _ _ y); z = good_count n.nz (passed _ _ z) }
 
 -- a grid whose shape is fine has passed the test of the counts
-pub shape_counts : (n : Counts) (bytes : ℕ) → shape n bytes ≡ Fine → count_check n ≡ Fine
+pub shape_counts : (n : Counts) (bytes : ℕ) → shape n bytes ≡ Ok tt → count_check n ≡ Ok tt
 unfolding shape
 shape_counts n bytes e = fine_first (count_check n) _ e
 
-pub shaped : (n : Counts) (bytes : ℕ) → shape n bytes ≡ Fine → Shaped n bytes
+pub shaped : (n : Counts) (bytes : ℕ) → shape n bytes ≡ Ok tt → Shaped n bytes
 unfolding shape
 shaped n bytes e =
     let g = counted n (fine_first (count_check n) _ e) in

@@ -1,4 +1,6 @@
 -- SCOPE, G and N: counts, one byte a cell, x fastest, then y, then z; and a layer of it. Assumes nothing.
+use Rattle.std.specs.Prelude.{Ok, Err, Result}
+use Rattle.cells.specs.declared.Refusal.{Refusal}
 use Rattle.std.specs.Prelude.{ℕ, ◌+◌, ◌*◌, ◌/◌, ◌%◌, ◌≡◌, Bool, not, ◌||◌, List, [], ◌⊎◌, ltb, eqb, ℤ, pos, nat_abs, length, get_or, take, drop}
 use Rattle.std.proofs.Common.{inl, inr}
 use Rattle.std.specs.Int.Signed.{lt_z, le_z}
@@ -6,7 +8,7 @@ use Rattle.cells.specs.declared.Axis.TheVariants.{X, Y, Z}
 use Rattle.cells.specs.declared.Cell.{Cell}
 use Rattle.cells.specs.declared.Counts.{Counts}
 use Rattle.cells.specs.declared.Refusal.TheVariants.{Count, Bytes, Layer}
-use Rattle.cells.specs.declared.Verdict.{Verdict}
+use Rattle.cells.specs.Checks.{Verdict}
 use Rattle.cells.specs.Checks.{refuse_when, ◌then◌, by_verdict}
 use Rattle.std.specs.Borrow.{Bor}
 use Rattle.cells.specs.Parts.{StartsAt}
@@ -79,32 +81,35 @@ layer_length n = n.nx * n.ny
 abbrev pub layer_start : Counts → ℤ → ℕ
 layer_start n z = nat_abs z * layer_length n
 
+abbrev pub part_at : (start long : ℕ) → LayerPart
+part_at start long = record { start = start; long = long }
+
 -- the partner's answer: the part's offset and length, or the refusal
-unfoldable pub layer_part : Counts → ℕ → ℤ → LayerPart
+unfoldable pub layer_part : Counts → ℕ → ℤ → Result LayerPart Refusal
 unfolding layer_check
-layer_part n bytes z = by_verdict LayerPart.Refused (LayerPart.Part (layer_start n z) (layer_length n)) (layer_check n bytes z)
+layer_part n bytes z = by_verdict Err (Ok (part_at (layer_start n z) (layer_length n))) (layer_check n bytes z)
 
 -- each case of the answer: what is said of a refusal, or the part's offset and length
-abbrev pub told_part : LayerPart → Told ⊎ (ℕ × ℕ)
-told_part (LayerPart.Refused r) = inl (told r)
-told_part (LayerPart.Part start long) = inr (start, long)
+abbrev pub told_part : Result LayerPart Refusal → Told ⊎ (ℕ × ℕ)
+told_part (Err r) = inl (told r)
+told_part (Ok p) = inr (p.start, p.long)
 
 -- the layer itself: the caller's own nx·ny bytes from z·nx·ny on, or the empty part
-abbrev pub bytes_of : LayerPart → List ℕ → List ℕ
-bytes_of (LayerPart.Part start long) l = take long (drop start l)
-bytes_of (LayerPart.Refused r) l = []
+abbrev pub bytes_of : Result LayerPart Refusal → List ℕ → List ℕ
+bytes_of (Ok p) l = take p.long (drop p.start l)
+bytes_of (Err r) l = []
 
 unfoldable pub layer : Counts → List ℕ → ℤ → List ℕ
 unfolding layer_part
 layer n l z = bytes_of (layer_part n (length l) z) l
 
 -- where it starts in the slice; the empty part stands at the slice's start
-abbrev pub start_of : LayerPart → ℕ
-start_of (LayerPart.Part start long) = start
-start_of (LayerPart.Refused r) = 0
+abbrev pub start_of : Result LayerPart Refusal → ℕ
+start_of (Ok p) = p.start
+start_of (Err r) = 0
 
 -- the contracts of the two calls: the partner's answer; the bytes, and where they lie
-pub record GivesLayerPart (n : Counts) (bytes : ℕ) (z : ℤ) (r : LayerPart) : Type 0 where
+pub record GivesLayerPart (n : Counts) (bytes : ℕ) (z : ℤ) (r : Result LayerPart Refusal) : Type 0 where
   pub says : r ≡ layer_part n bytes z
 
 pub record GivesLayer (n : Counts) (cells : Bor (List ℕ)) (z : ℤ) (r : Bor (List ℕ)) : Type 0 where

@@ -1,15 +1,16 @@
 -- SCOPE, G and N: near marks and their completeness, by coordinates, for every two cells of the grid. Touching is over the number k: 2 by face or edge,
 -- the thin shell; 3 by face, edge or corner, the full one, of which the calls are. Assumes nothing.
-use Rattle.std.specs.Prelude.{ℕ, zero, suc, Bool, true, false, cond, not, ◌&&◌, ◌||◌, ◌≡◌, List, ◌⊎◌, length, get_or}
+use Rattle.std.specs.Prelude.{Ok, Err, Result}
+use Rattle.cells.specs.declared.Refusal.{Refusal}
+use Rattle.std.specs.Prelude.{ℕ, zero, suc, Bool, false, cond, not, ◌&&◌, ◌||◌, ◌≡◌, List, ◌⊎◌, length, get_or}
 use Rattle.std.proofs.Common.{inl, inr}
 use Rattle.cells.specs.declared.Cell.{Cell}
 use Rattle.cells.specs.declared.Counts.{Counts}
-use Rattle.cells.specs.declared.Verdict.{Verdict}
+use Rattle.cells.specs.Checks.{Verdict}
 use Rattle.cells.specs.Checks.{by_verdict}
 use Rattle.cells.specs.Refusals.{Told, told}
 use Rattle.cells.specs.Tabulate.{tabulate}
 use Rattle.cells.specs.Touching.{touching}
-use Rattle.grids.specs.declared.Completeness.{Completeness}
 use Rattle.grids.specs.Grid.{shape, cell_at, clear, solid}
 
 -- some number below n passes
@@ -37,19 +38,14 @@ unfolding any touches_solid
 complete k n l = not (any (λ i. clear (get_or l i 0) && touches_solid k n l (cell_at n i)) (length l))
 
 -- the answer of the completeness call
-abbrev pub yes_or_no : Bool → Completeness
-yes_or_no true = Completeness.Yes
-yes_or_no false = Completeness.No
-
-unfoldable pub completeness : Counts → List ℕ → Completeness
+unfoldable pub completeness : Counts → List ℕ → Result Bool Refusal
 unfolding shape
-completeness n l = by_verdict Completeness.Refused (yes_or_no (complete 3 n l)) (shape n (length l))
+completeness n l = by_verdict Err (Ok (complete 3 n l)) (shape n (length l))
 
 -- each case of the answer: what is said of a refusal, or whether the marks are complete
-abbrev pub told_completeness : Completeness → Told ⊎ Bool
-told_completeness (Completeness.Refused r) = inl (told r)
-told_completeness Completeness.Yes = inr true
-told_completeness Completeness.No = inr false
+abbrev pub told_completeness : Result Bool Refusal → Told ⊎ Bool
+told_completeness (Err r) = inl (told r)
+told_completeness (Ok b) = inr b
 
 -- ---- the contracts of the calls: of marking, one answer and one final memory; refused, the bytes as they were
 
@@ -57,5 +53,5 @@ pub record Marks (n : Counts) (entry : List ℕ) (r : Verdict) (exit : List ℕ)
   pub says : r ≡ shape n (length entry)
   pub holds : exit ≡ by_verdict (λ r. entry) (marked 3 n entry) (shape n (length entry))
 
-pub record Completes (n : Counts) (l : List ℕ) (r : Completeness) : Type 0 where
+pub record Completes (n : Counts) (l : List ℕ) (r : Result Bool Refusal) : Type 0 where
   pub says : r ≡ completeness n l

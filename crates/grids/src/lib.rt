@@ -8,105 +8,88 @@ ghost use Rattle.cells.specs.declared.End.TheVariants.{P, Q};
 ghost use Rattle.grids.specs.Grid.{count_check, bad_count, Shapes, bad_layer, layer_check, GivesLayerPart, GivesLayer, byte_index, cell_at};
 ghost use Rattle.grids.specs.Inside.{off_axis, grid_check, walk_check, Good, Counted, Enclosed};
 
-use cells::{Axis, Cell, Counts, End, Refusal, Verdict};
+use cells::{Axis, Cell, Counts, End, Refusal};
 
 // The part of the slice that is a layer: where it starts and how long it is.
 #[derive(Clone, Copy)]
-pub enum LayerPart {
-    Part(usize, usize),
-    Refused(Refusal),
-}
-
-// Whether no clear cell touches a solid one.
-#[derive(Clone, Copy)]
-pub enum Completeness {
-    Yes,
-    No,
-    Refused(Refusal),
+pub struct LayerPart {
+    pub start: usize,
+    pub long: usize,
 }
 
 fn bad_count(n: u32) -> bool
     ensures { result ≡ bad_count n }
 {
-    if n == 0 { true } else { 1024 < n }
+    n == 0 || 1024 < n
 }
 
 // Each count 1 to 1,024, or refusal 2 with the first axis that is not.
-pub fn check_counts(n: Counts) -> Verdict
+pub fn check_counts(n: Counts) -> Result<(), Refusal>
     ensures { result ≡ count_check n }
 {
     if bad_count(n.nx) {
-        return Verdict::Refused(Refusal::Count(Axis::X));
+        return Err(Refusal::Count(Axis::X));
     }
     if bad_count(n.ny) {
-        return Verdict::Refused(Refusal::Count(Axis::Y));
+        return Err(Refusal::Count(Axis::Y));
     }
     if bad_count(n.nz) {
-        return Verdict::Refused(Refusal::Count(Axis::Z));
+        return Err(Refusal::Count(Axis::Z));
     }
-    Verdict::Fine
+    Ok(())
 }
 
 // Counts and bytes that make a grid: refusal 2, then 3.
-pub fn shape(n: Counts, bytes: usize) -> Verdict
+#[tactic(auto, unfolding(crate::specs::Grid::shape))]
+pub fn shape(n: Counts, bytes: usize) -> Result<(), Refusal>
     ensures { Shapes n bytes result }
 {
-    match check_counts(n) {
-        Verdict::Refused(why) => Verdict::Refused(why),
-        Verdict::Fine => {
-            if bytes == (n.nx as usize) * (n.ny as usize) * (n.nz as usize) {
-                Verdict::Fine
-            } else {
-                Verdict::Refused(Refusal::Bytes)
-            }
-        }
+    check_counts(n)?;
+    if bytes != (n.nx as usize) * (n.ny as usize) * (n.nz as usize) {
+        return Err(Refusal::Bytes);
     }
+    Ok(())
 }
 
 fn bad_layer(n: Counts, z: i32) -> bool
     ensures { result ≡ bad_layer n z }
 {
-    if z < 0 { true } else { n.nz <= z as u32 }
+    z < 0 || n.nz <= z as u32
 }
 
 // Refusals 2, 3, then 4.
-fn layer_check(n: Counts, bytes: usize, z: i32) -> Verdict
+#[tactic(auto, unfolding(crate::specs::Grid::layer_check))]
+fn layer_check(n: Counts, bytes: usize, z: i32) -> Result<(), Refusal>
     ensures { result ≡ layer_check n bytes z }
 {
-    let v = shape(n, bytes);
-    let Verdict::Fine = v else {
-        return v;
-    };
+    shape(n, bytes)?;
     if bad_layer(n, z) {
-        return Verdict::Refused(Refusal::Layer);
+        return Err(Refusal::Layer);
     }
-    v
+    Ok(())
 }
 
 // Where the layer z lies in the slice, or why there is none: the partner of `layer`.
-pub fn layer_part(n: Counts, cells: &[u8], z: i32) -> LayerPart
+#[tactic(auto, unfolding(crate::specs::Grid::layer_part))]
+pub fn layer_part(n: Counts, cells: &[u8], z: i32) -> Result<LayerPart, Refusal>
     ensures { GivesLayerPart n (length cells.now) z result }
 {
-    match layer_check(n, cells.len(), z) {
-        Verdict::Fine => {
-            let row = n.nx as usize;
-            let long = row * (n.ny as usize);
-            let start = (z as usize) * long;
-            LayerPart::Part(start, long)
-        }
-        Verdict::Refused(r) => LayerPart::Refused(r),
-    }
+    layer_check(n, cells.len(), z)?;
+    let row = n.nx as usize;
+    let long = row * (n.ny as usize);
+    let start = (z as usize) * long;
+    Ok(LayerPart { start, long })
 }
 
 // The layer z: the caller's own nx·ny bytes, or the empty part where it is refused.
+#[tactic(auto, unfolding(crate::specs::Grid::layer))]
 pub fn layer(n: Counts, cells: &[u8], z: i32) -> &[u8]
     ensures { GivesLayer n cells.entry z result }
 {
-    let LayerPart::Part(start, long) = layer_part(n, cells, z) else {
-        let at = 0;
-        return &cells[at..at];
-    };
-    &cells[start..start + long]
+    match layer_part(n, cells, z) {
+        Ok(part) => &cells[part.start..part.start + part.long],
+        Err(_) => &cells[..0],
+    }
 }
 
 // ---- ends in the grid
@@ -116,45 +99,42 @@ fn off_axis(v: i32, count: u32) -> bool
     requires { Good count }
     ensures { result ≡ off_axis v count }
 {
-    if v < 0 { true } else { 0 <= v - count as i32 }
+    v < 0 || 0 <= v - count as i32
 }
 
 // An end inside the grid, or refusal 5 with the first axis on which it is not.
-fn check_end(e: End, n: Counts, c: Cell) -> Verdict
+fn check_end(e: End, n: Counts, c: Cell) -> Result<(), Refusal>
     requires { Counted n }
     ensures { result ≡ grid_check e n c }
 {
     if off_axis(c.x, n.nx) {
-        return Verdict::Refused(Refusal::OffGrid(e, Axis::X));
+        return Err(Refusal::OffGrid(e, Axis::X));
     }
     if off_axis(c.y, n.ny) {
-        return Verdict::Refused(Refusal::OffGrid(e, Axis::Y));
+        return Err(Refusal::OffGrid(e, Axis::Y));
     }
     if off_axis(c.z, n.nz) {
-        return Verdict::Refused(Refusal::OffGrid(e, Axis::Z));
+        return Err(Refusal::OffGrid(e, Axis::Z));
     }
-    Verdict::Fine
+    Ok(())
 }
 
 // Both ends, P before Q.
-pub fn check_ends(n: Counts, p: Cell, q: Cell) -> Verdict
+pub fn check_ends(n: Counts, p: Cell, q: Cell) -> Result<(), Refusal>
     requires { Counted n }
     ensures { result ≡ (grid_check P n p then grid_check Q n q) }
 {
-    match check_end(End::P, n, p) {
-        Verdict::Refused(r) => Verdict::Refused(r),
-        Verdict::Fine => check_end(End::Q, n, q),
-    }
+    check_end(End::P, n, p)?;
+    check_end(End::Q, n, q)
 }
 
 // Refusals 2, 3, then 5.
-pub fn check_walk(n: Counts, bytes: usize, p: Cell, q: Cell) -> Verdict
+#[tactic(auto, unfolding(crate::specs::Inside::walk_check))]
+pub fn check_walk(n: Counts, bytes: usize, p: Cell, q: Cell) -> Result<(), Refusal>
     ensures { result ≡ walk_check n bytes p q }
 {
-    match shape(n, bytes) {
-        Verdict::Refused(r) => Verdict::Refused(r),
-        Verdict::Fine => check_ends(n, p, q),
-    }
+    shape(n, bytes)?;
+    check_ends(n, p, q)
 }
 
 // ---- cells and bytes
@@ -178,5 +158,5 @@ pub fn cell_at(n: Counts, i: u32) -> Cell
     let x = (i % n.nx) as i32;
     let y = (i / n.nx % n.ny) as i32;
     let z = (i / (n.nx * n.ny)) as i32;
-    Cell { x: x, y: y, z: z }
+    Cell { x, y, z }
 }

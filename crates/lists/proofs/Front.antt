@@ -1,4 +1,5 @@
 -- The front of the lent slice: cells stored one after another, and what each way out of a list call answers and leaves. Assumes nothing.
+use Rattle.std.specs.Prelude.{Ok, Err}
 use mathlib.Core.Path.{◌≡◌, refl, sym, ap, ap₂, ◌∙◌, subst}
 use mathlib.Core.Bool.{true, not}
 use mathlib.Core.List.{List, [], ◌∷◌, ◌++◌}
@@ -19,12 +20,10 @@ use Rattle.cells.specs.declared.End.TheVariants.{P, Q}
 use Rattle.cells.specs.Checks.{refuse_when}
 use Rattle.cells.specs.Touching.{on}
 use Rattle.cells.proofs.Checks.{fine_first, fine_rest, passed}
-use Rattle.cells.specs.declared.Verdict.{Verdict}
-use Rattle.cells.specs.declared.Verdict.TheVariants.{Fine, Refused}
+use Rattle.cells.specs.Checks.{Verdict}
 use Rattle.lines.specs.Lines.{in_limit, InLimit}
 use Rattle.cells.specs.Tabulate.{tabulate}
 use Rattle.cells.proofs.Tabulate.{tabulate_length}
-use Rattle.lists.specs.declared.Listed.TheVariants as Listed
 use Rattle.lists.specs.Lists.{end_check, ends_check, numbers, filled, Lists}
 use Rattle.lists.specs.Kept.{put3}
 
@@ -65,23 +64,23 @@ front_filled f n entry = ap (λ k. numbers (tabulate f n) ++ drop (3 * k) entry)
 -- ---- the ways out
 
 module _ (line : List Cell) (first : Verdict) (entry : List ℤ) where
-  pub refused_first : (r : Refusal) → first ≡ Refused r → Lists line first entry (Listed.Refused r) entry
+  pub refused_first : (r : Refusal) → first ≡ Err r → Lists line first entry (Err r) entry
   refused_first r h = record { says = sym (simp h); holds = sym (simp h) }
 
-  pub refused_room : first ≡ Fine → length entry < 3 * length line → Lists line first entry (Listed.Refused Room) entry
+  pub refused_room : first ≡ Ok tt → length entry < 3 * length line → Lists line first entry (Err Room) entry
   refused_room h short = record {
     says = sym (simp (h, lt-ltb (length entry) (3 * length line) short));
     holds = sym (simp (h, lt-ltb (length entry) (3 * length line) short));
   }
 
-  pub listed_all : (exit : List ℤ) → first ≡ Fine → 3 * length line ≤ length entry → exit ≡ filled line entry →
-      Lists line first entry (Listed.Cells (length line)) exit
+  pub listed_all : (exit : List ℤ) → first ≡ Ok tt → 3 * length line ≤ length entry → exit ≡ filled line entry →
+      Lists line first entry (Ok (length line)) exit
   listed_all exit h room e =
       record { says = sym (simp (h, le-ltb (length entry) (3 * length line) room)); holds = e ∙ sym (simp (h, le-ltb (length entry) (3 * length line) room)) }
 
 -- ---- ends that passed
 
-end_fine : (e : End) (c : Cell) → end_check e c ≡ Fine → InLimit c
+end_fine : (e : End) (c : Cell) → end_check e c ≡ Ok tt → InLimit c
 end_fine e c h =
     let yz = fine_rest (refuse_when (not (in_limit c.x)) (Limit e X)) _ h in
     let x = not-false _ (passed _ _ (fine_first (refuse_when (not (in_limit c.x)) (Limit e X)) _ h)) in
@@ -94,12 +93,12 @@ end_fine e c h =
     limits x y z Y = y
     limits x y z Z = z
 
-pub ends_fine : (p q : Cell) → ends_check p q ≡ Fine → InLimit p × InLimit q
+pub ends_fine : (p q : Cell) → ends_check p q ≡ Ok tt → InLimit p × InLimit q
 ends_fine p q h = (end_fine P p (fine_first (end_check P p) _ h), end_fine Q q (fine_rest (end_check P p) _ h))
 
 -- and within the limit they pass, whichever is P
-limit_fine : (e : End) (c : Cell) → InLimit c → end_check e c ≡ Fine
+limit_fine : (e : End) (c : Cell) → InLimit c → end_check e c ≡ Ok tt
 limit_fine e c h = rw (h.limit X, h.limit Y, h.limit Z)
 
-pub limits_pass : (p q : Cell) → InLimit p → InLimit q → ends_check p q ≡ Fine
+pub limits_pass : (p q : Cell) → InLimit p → InLimit q → ends_check p q ≡ Ok tt
 limits_pass p q hp hq = rw (limit_fine P p hp, limit_fine Q q hq)

@@ -1,5 +1,7 @@
 -- SCOPE A2, A3, O3: lists of cells, what they write into the lent slice and what they answer. Refusals: of a line list 1 (P before Q; x, y, z), of every list
 -- then 6. Assumes nothing.
+use Rattle.std.specs.Prelude.{Ok, Err, Result}
+use Rattle.cells.specs.declared.Refusal.{Refusal}
 use Rattle.std.specs.Prelude.{ℕ, ◌*◌, ◌≡◌, not, List, [], ◌∷◌, ◌++◌, ◌⊎◌, ltb, ℤ, length, drop}
 use Rattle.std.proofs.Common.{inl, inr}
 use Rattle.cells.specs.declared.Axis.TheVariants.{X, Y, Z}
@@ -8,12 +10,11 @@ use Rattle.cells.specs.declared.End.TheVariants.{P, Q}
 use Rattle.cells.specs.declared.Cell.{Cell}
 use Rattle.cells.specs.declared.Refusal.TheVariants.{Limit, Room}
 use Rattle.cells.specs.declared.Rule.{Rule}
-use Rattle.cells.specs.declared.Verdict.{Verdict}
+use Rattle.cells.specs.Checks.{Verdict}
 use Rattle.cells.specs.Checks.{refuse_when, ◌then◌, by_verdict}
 use Rattle.cells.specs.Refusals.{Told, told}
 use Rattle.lines.specs.Preference.{by_rule}
 use Rattle.lines.specs.Lines.{six_line, line_26, in_limit}
-use Rattle.lists.specs.declared.Listed.{Listed}
 
 -- SCOPE R1: an end beyond the coordinate limit (x, y, z)
 abbrev pub end_check : End → Cell → Verdict
@@ -40,18 +41,18 @@ filled line entry = numbers line ++ drop (3 * length line) entry
 
 -- a call that lists cells: its answer and the memory at exit, from the verdict of the tests that come first and the memory that is lent; refused, the memory
 -- as it was
-pub record Lists (line : List Cell) (first : Verdict) (entry : List ℤ) (r : Listed) (exit : List ℤ) : Type 0 where
-  pub says : r ≡ by_verdict Listed.Refused (Listed.Cells (length line)) (list_check first (length line) (length entry))
+pub record Lists (line : List Cell) (first : Verdict) (entry : List ℤ) (r : Result ℕ Refusal) (exit : List ℤ) : Type 0 where
+  pub says : r ≡ by_verdict Err (Ok (length line)) (list_check first (length line) (length entry))
   pub holds : exit ≡ by_verdict (λ r. entry) (filled line entry) (list_check first (length line) (length entry))
 
 -- the contracts of the two calls
-abbrev pub Line6 : Rule → Cell → Cell → List ℤ → Listed → List ℤ → Type 0
+abbrev pub Line6 : Rule → Cell → Cell → List ℤ → Result ℕ Refusal → List ℤ → Type 0
 Line6 rule p q = Lists (six_line (by_rule rule p q) p q) (ends_check p q)
 
-abbrev pub Line26 : Cell → Cell → List ℤ → Listed → List ℤ → Type 0
+abbrev pub Line26 : Cell → Cell → List ℤ → Result ℕ Refusal → List ℤ → Type 0
 Line26 p q = Lists (line_26 p q) (ends_check p q)
 
 -- each case of the answer: what is said of a refusal, or the number of cells
-abbrev pub told_listed : Listed → Told ⊎ ℕ
-told_listed (Listed.Refused r) = inl (told r)
-told_listed (Listed.Cells n) = inr n
+abbrev pub told_listed : Result ℕ Refusal → Told ⊎ ℕ
+told_listed (Err r) = inl (told r)
+told_listed (Ok n) = inr n

@@ -1,4 +1,5 @@
 -- What a step says of a frame is what the definition says of all that is left of the input. Assumes nothing.
+use Rattle.std.specs.Prelude.{Err, Some, None}
 use mathlib.Core.Path.{◌≡◌, refl, sym, ap, ◌∙◌}
 use mathlib.Core.Bool.{Bool, true, false, cond, false≢true}
 use mathlib.Core.List.{List, [], ◌++◌}
@@ -16,7 +17,6 @@ use Rattle.records.specs.Heads.{length_field, announced}
 use Rattle.records.specs.Venues.{venue_read, venue_cells}
 use Rattle.records.specs.Pairs.{pair_read}
 use Rattle.records.proofs.Following.{same_announced, venue_unread, pair_unread, cells_unread}
-use Rattle.program.specs.declared.Next.TheVariants.{On, Over}
 use Rattle.program.specs.Program.{venue_most, pair_most, beyond, venue_refused, said_of_venue, venue_said, pair_refused}
 use Rattle.program.specs.Program.{said_of_pair, pair_said, after_record, frame_length, frame, after_frame}
 
@@ -105,18 +105,18 @@ venue_framed s = go (beyond venue_most s) refl
     go false h = framed venue_most s venue_said said_unread h
 
 -- a venue after which pairs come is not beyond the most
-pub venue_on : (s : List ℕ) (k : ℕ) → (venue_said s).next ≡ On k → beyond venue_most s ≡ false
+pub venue_on : (s : List ℕ) (k : ℕ) → (venue_said s).next ≡ Some k → beyond venue_most s ≡ false
 unfolding venue_said
 venue_on s k = go (beyond venue_most s)
   where
-    go : (b : Bool) → (cond b (venue_refused Room) (said_of_venue (venue_read s))).next ≡ On k → b ≡ false
+    go : (b : Bool) → (cond b (venue_refused Room) (said_of_venue (venue_read s))).next ≡ Some k → b ≡ false
     go true h = absurd (let z : ◌≡◌ {A = ℕ} 0 1 = cc in omega arith)
     go false h = refl
 
 -- and is read
-pub venue_taken : (s : List ℕ) (r : Refusal) (k : ℕ) → (venue_said s).next ≡ On k → venue_read s ≡ VenueRead.Refused r → ⊥
+pub venue_taken : (s : List ℕ) (r : Refusal) (k : ℕ) → (venue_said s).next ≡ Some k → venue_read s ≡ Err r → ⊥
 venue_taken s r k h no_venue =
-    let e : On k ≡ Over = sym h ∙ ap (λ x. x.next) (venue_within s (venue_on s k h) ∙ ap said_of_venue no_venue) in
+    let e : Some k ≡ None = sym h ∙ ap (λ x. x.next) (venue_within s (venue_on s k h) ∙ ap said_of_venue no_venue) in
     let z : ◌≡◌ {A = ℕ} 0 1 = cc in
     omega arith
 
@@ -152,12 +152,12 @@ module _ (n : Counts) (cells : List ℕ) (k : ℕ) where
       go false h = framed pair_most s (pair_said n cells k) pair_said_unread h
 
   -- where a pair comes next, something stood there, and its length was not beyond the most
-  pub pair_on : (s : List ℕ) (j : ℕ) → (pair_said n cells k s).next ≡ On j → (length s ≡ 0 → ⊥) × (beyond pair_most s ≡ false)
+  pub pair_on : (s : List ℕ) (j : ℕ) → (pair_said n cells k s).next ≡ Some j → (length s ≡ 0 → ⊥) × (beyond pair_most s ≡ false)
   unfolding pair_said
   pair_on s j = go (eqb (length s) 0) (beyond pair_most s) refl
     where
       go : (a b : Bool) → eqb (length s) 0 ≡ a
-          → (cond a (record { text = []; next = Over }) (cond b (pair_refused k Record) (said_of_pair n cells k (pair_read s)))).next ≡ On j
+          → (cond a (record { text = []; next = None }) (cond b (pair_refused k Record) (said_of_pair n cells k (pair_read s)))).next ≡ Some j
           → (length s ≡ 0 → ⊥) × (b ≡ false)
       go true b e h = absurd (let z : ◌≡◌ {A = ℕ} 0 1 = cc in omega arith)
       go false true e h = absurd (let z : ◌≡◌ {A = ℕ} 0 1 = cc in omega arith)

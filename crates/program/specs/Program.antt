@@ -1,11 +1,11 @@
 -- SCOPE, V and T: what the program writes, from all the bytes of its input. Assumes nothing.
+use Rattle.std.specs.Prelude.{Ok, Err, Result, Some, None, Option}
 use Rattle.std.specs.Prelude.{ℕ, zero, suc, ◌+◌, ◌*◌, ◌≡◌, Bool, false, ◌||◌, List, [], ◌∷◌, ◌++◌, ltb, eqb, length, take, drop}
 use Rattle.std.proofs.Math.Bool.{cond}
 use Rattle.cells.specs.declared.Counts.{Counts}
 use Rattle.cells.specs.declared.Refusal.{Refusal}
 use Rattle.cells.specs.declared.Refusal.TheVariants.{Room, Record}
-use Rattle.cells.specs.declared.Verdict.{Verdict}
-use Rattle.cells.specs.declared.Verdict.TheVariants.{Fine, Refused}
+use Rattle.cells.specs.Checks.{Verdict}
 use Rattle.cells.specs.declared.Manner.{Manner}
 use Rattle.cells.specs.Manners.{tested_by}
 use Rattle.cells.specs.Refusals.{told}
@@ -20,8 +20,6 @@ use Rattle.records.specs.Venues.{venue_read, venue_cells}
 use Rattle.records.specs.Pairs.{pair_read}
 use Rattle.walks.specs.declared.Walker.TheVariants.{Plain, Adaptive}
 use Rattle.texts.specs.Text.{hit_line, clear_line, pair_refused_line, venue_refused_line, line_room}
-use Rattle.program.specs.declared.Next.{Next}
-use Rattle.program.specs.declared.Next.TheVariants.{On, Over}
 use Rattle.program.specs.declared.Step.{Step}
 
 -- ---- one record
@@ -29,7 +27,7 @@ use Rattle.program.specs.declared.Step.{Step}
 -- what is written for a record, and what comes next: the pair of a number, or the end
 pub record Said : Type 0 where
   pub text : List ℕ
-  pub next : Next
+  pub next : (Option ℕ)
 
 -- SCOPE T2, T3: the greatest lengths of a venue and of a pair that the program reads
 abbrev pub venue_most : ℕ
@@ -46,12 +44,12 @@ beyond most s = cond (ltb (length s) length_field) false (ltb most (announced s)
 
 -- SCOPE T4: a refused venue has one line, and nothing comes next
 abbrev pub venue_refused : Refusal → Said
-venue_refused r = record { text = venue_refused_line (told r).number; next = Over }
+venue_refused r = record { text = venue_refused_line (told r).number; next = None }
 
 -- SCOPE T5: after a venue that is read comes pair 1
 abbrev pub said_of_venue : VenueRead → Said
-said_of_venue (VenueRead.Read v) = record { text = []; next = On 1 }
-said_of_venue (VenueRead.Refused r) = venue_refused r
+said_of_venue (Ok v) = record { text = []; next = Some 1 }
+said_of_venue (Err r) = venue_refused r
 
 -- SCOPE T2: 6 for a venue that is too long, before it is read
 unfoldable pub venue_said : List ℕ → Said
@@ -60,18 +58,18 @@ venue_said s = cond (beyond venue_most s) (venue_refused Room) (said_of_venue (v
 -- ---- a pair
 
 -- SCOPE T6: what comes after a refused pair, by the refusal's number
-abbrev pub after_refusal : (k number : ℕ) → Next
-after_refusal k number = cond (eqb number 10 || eqb number 11) Over (On (k + 1))
+abbrev pub after_refusal : (k number : ℕ) → Option ℕ
+after_refusal k number = cond (eqb number 10 || eqb number 11) None (Some (k + 1))
 
 -- SCOPE T5: the one line of a refused pair, and what comes next
 abbrev pub pair_refused : (k : ℕ) → Refusal → Said
 pair_refused k r = record { text = pair_refused_line k (told r).number; next = after_refusal k (told r).number }
 
 -- SCOPE T8, T15: the line of one walk, a hit or clear; none where it is refused, and no walk of a pair is (claim `FiveOrLines`)
-unfoldable pub walk_line : (k letter : ℕ) → FirstHit → List ℕ
-walk_line k letter (FirstHit.Clear reads) = clear_line k letter reads
-walk_line k letter (FirstHit.Hit h) = hit_line k letter h.cell h.code h.reads h.place.face
-walk_line k letter (FirstHit.Refused r) = []
+unfoldable pub walk_line : (k letter : ℕ) → Result FirstHit Refusal → List ℕ
+walk_line k letter (Ok (FirstHit.Clear reads)) = clear_line k letter reads
+walk_line k letter (Ok (FirstHit.Hit h)) = hit_line k letter h.cell h.code h.reads h.place.face
+walk_line k letter (Err r) = []
 
 -- `P` and `A`
 abbrev pub plain_letter : ℕ
@@ -81,31 +79,31 @@ abbrev pub adaptive_letter : ℕ
 adaptive_letter = 65
 
 -- SCOPE T8, T16, T17: the letter of each walk and what it answers, in the order of the lines; the start is tested, ties go by the pair's rule
-abbrev pub answers : Counts → List ℕ → Pair → List (ℕ × FirstHit)
+abbrev pub answers : Counts → List ℕ → Pair → List (ℕ × (Result FirstHit Refusal))
 answers n cells e =
     let how : Manner = tested_by e.rule in
     (plain_letter, first_hit Plain how n cells e.p e.q) ∷ (adaptive_letter, first_hit Adaptive how n cells e.p e.q) ∷ []
 
 -- a line for each
-abbrev pub walk_lines : (k : ℕ) → List (ℕ × FirstHit) → List ℕ
+abbrev pub walk_lines : (k : ℕ) → List (ℕ × (Result FirstHit Refusal)) → List ℕ
 walk_lines k [] = []
 walk_lines k (a ∷ more) = walk_line k a.0 a.1 ++ walk_lines k more
 
 -- SCOPE T5, T8: refused, or a line for each walk
-abbrev pub said_of_walks : (k : ℕ) → Verdict → List (ℕ × FirstHit) → Said
-said_of_walks k (Refused r) found = pair_refused k r
-said_of_walks k Fine found = record { text = walk_lines k found; next = On (k + 1) }
+abbrev pub said_of_walks : (k : ℕ) → Verdict → List (ℕ × (Result FirstHit Refusal)) → Said
+said_of_walks k (Err r) found = pair_refused k r
+said_of_walks k (Ok _) found = record { text = walk_lines k found; next = Some (k + 1) }
 
 module _ (n : Counts) (cells : List ℕ) (k : ℕ) where
   abbrev pub said_of_pair : PairRead → Said
-  said_of_pair (PairRead.Refused r) = pair_refused k r
-  said_of_pair (PairRead.Read e) = said_of_walks k (walk_check n (length cells) e.p e.q) (answers n cells e)
+  said_of_pair (Err r) = pair_refused k r
+  said_of_pair (Ok e) = said_of_walks k (walk_check n (length cells) e.p e.q) (answers n cells e)
 
   -- SCOPE T7, T3: nothing where no byte is left; 10 for a pair that is too long, before it is read
   unfoldable pub pair_said : List ℕ → Said
   unfolding walk_line
   pair_said s =
-      cond (eqb (length s) 0) (record { text = []; next = Over })
+      cond (eqb (length s) 0) (record { text = []; next = None })
       (cond (beyond pair_most s) (pair_refused k Record) (said_of_pair (pair_read s)))
 
 -- ---- the whole output
@@ -115,9 +113,9 @@ abbrev pub after_record : List ℕ → List ℕ
 after_record s = drop (length_field + announced s) s
 
 -- what follows, by what comes next
-abbrev pub then_on : Next → (ℕ → List ℕ) → List ℕ
-then_on (On k) rest = rest k
-then_on Over rest = []
+abbrev pub then_on : (Option ℕ) → (ℕ → List ℕ) → List ℕ
+then_on (Some k) rest = rest k
+then_on None rest = []
 
 -- pair k stands at the front of what is left; as many turns are enough as bytes are left
 unfoldable pub pairs : ℕ → Counts → List ℕ → ℕ → List ℕ → List ℕ
@@ -129,8 +127,8 @@ pairs (suc turns) n cells k s =
 
 -- the pairs behind a venue, the first of them of number k
 abbrev pub after_venue : VenueRead → List ℕ → ℕ → List ℕ
-after_venue (VenueRead.Read v) s k = pairs (length s) v.counts (venue_cells s) k (after_record s)
-after_venue (VenueRead.Refused r) s k = []
+after_venue (Ok v) s k = pairs (length s) v.counts (venue_cells s) k (after_record s)
+after_venue (Err r) s k = []
 
 -- SCOPE T1: the output of the whole input, for the venue and then pair by pair
 unfoldable pub output : List ℕ → List ℕ
@@ -159,9 +157,9 @@ pub record Says (said : Said) (entry : List ℕ) (r : Step) (exit : List ℕ) : 
   pub next : r.next ≡ said.next
 
 -- after pair k comes pair k + 1, or nothing
-abbrev pub Follows : ℕ → Next → Type 0
-Follows k (On j) = j ≡ k + 1
-Follows k Over = Unit {0}
+abbrev pub Follows : ℕ → Option ℕ → Type 0
+Follows k (Some j) = j ≡ k + 1
+Follows k None = Unit {0}
 
 -- room for the lines of a pair
 abbrev pub text_room : ℕ

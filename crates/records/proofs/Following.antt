@@ -1,4 +1,5 @@
 -- Bytes after a record are not looked at. Assumes nothing.
+use Rattle.std.specs.Prelude.{Ok, Err}
 use mathlib.Core.Path.{◌≡◌, refl, ap, ap₂, ◌∙◌}
 use mathlib.Core.Bool.{Bool, true, false, cond, not}
 use mathlib.Core.List.{List, ◌++◌}
@@ -10,8 +11,7 @@ use lib.Seq.{take-append-le, drop-append-le}
 use borrow.Author.Tests.{le-ltb, ltb-false, eqb-true, not-false}
 use Rattle.buffers.specs.Numbers.{two_at}
 use Rattle.cells.specs.declared.Refusal.TheVariants.{Record, Version}
-use Rattle.cells.specs.declared.Verdict.{Verdict}
-use Rattle.cells.specs.declared.Verdict.TheVariants.{Fine, Refused}
+use Rattle.cells.specs.Checks.{Verdict}
 use Rattle.cells.specs.Checks.{refuse_when, by_verdict}
 use Rattle.cells.specs.Manners.{rule_check}
 use Rattle.cells.proofs.Checks.{passed, then_same}
@@ -114,18 +114,18 @@ module _ (s rest : List ℕ) (exact : length s ≡ length_field + announced s) w
   venue_unread = rw same_venue_check (go (venue_check s) refl)
     where
       go : (v : Verdict) → venue_check s ≡ v →
-          by_verdict VenueRead.Refused (VenueRead.Read (venue_in (s ++ rest))) v ≡ by_verdict VenueRead.Refused (VenueRead.Read (venue_in s)) v
-      go Fine e = ap VenueRead.Read (same_venue (venue_whole s e).head)
-      go (Refused r) e = refl
+          by_verdict Err (Ok (venue_in (s ++ rest))) v ≡ by_verdict Err (Ok (venue_in s)) v
+      go (Ok _) e = ap Ok (same_venue (venue_whole s e).head)
+      go (Err r) e = refl
 
   pub pair_unread : pair_read (s ++ rest) ≡ pair_read s
   unfolding pair_read
   pair_unread = rw same_pair_check (go (pair_check s) refl)
     where
-      go : (v : Verdict) → pair_check s ≡ v → by_verdict PairRead.Refused (PairRead.Read (pair_in (s ++ rest))) v ≡ by_verdict PairRead.Refused
-          (PairRead.Read (pair_in s)) v
-      go Fine e = ap PairRead.Read (same_pair (pair_whole s e).long)
-      go (Refused r) e = refl
+      go : (v : Verdict) → pair_check s ≡ v → by_verdict Err (Ok (pair_in (s ++ rest))) v ≡ by_verdict Err
+          (Ok (pair_in s)) v
+      go (Ok _) e = ap Ok (same_pair (pair_whole s e).long)
+      go (Err r) e = refl
 
   -- the part is the same too
   pub cells_unread : venue_cells (s ++ rest) ≡ venue_cells s
@@ -133,8 +133,8 @@ module _ (s rest : List ℕ) (exact : length s ≡ length_field + announced s) w
   cells_unread = rw venue_unread (go (venue_read s) refl)
     where
       go : (r : VenueRead) → venue_read s ≡ r → part_of r (s ++ rest) ≡ part_of r s
-      go (VenueRead.Refused r) e = refl
-      go (VenueRead.Read v) e =
+      go (Err r) e = refl
+      go (Ok v) e =
           let w = part_within s v e in
           ap (take v.long) (drop-append-le v.start s rest (omega arith))
           ∙ take-append-le v.long (drop v.start s) rest (simp length-drop (omega arith))

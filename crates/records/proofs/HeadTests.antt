@@ -1,4 +1,5 @@
 -- How long the heads of the records are, and what an accepted record says of its bytes. Assumes nothing.
+use Rattle.std.specs.Prelude.{Ok, Err}
 use mathlib.Core.Path.{◌≡◌, refl, sym, ◌∙◌, subst}
 use mathlib.Core.Bool.{Bool, true, false, cond, not}
 use mathlib.Core.List.{List}
@@ -9,8 +10,7 @@ use lib.Dec.{ltb, eqb, lit<}
 use lib.ListN.{length}
 use borrow.Author.Tests.{le-ltb, ltb-false, eqb-true, eqb-false, not-false}
 use Rattle.cells.specs.declared.Refusal.TheVariants.{Record, Version}
-use Rattle.cells.specs.declared.Verdict.{Verdict}
-use Rattle.cells.specs.declared.Verdict.TheVariants.{Fine}
+use Rattle.cells.specs.Checks.{Verdict}
 use Rattle.cells.specs.Checks.{refuse_when, ◌then◌}
 use Rattle.cells.specs.Manners.{rule_check}
 use Rattle.grids.specs.Grid.{shape}
@@ -55,7 +55,7 @@ pub record Whole (s : List ℕ) : Type 0 where
   pub some : 1 ≤ announced s
   pub there : length_field + announced s ≤ length s
 
-pub whole_is : (s : List ℕ) → whole_check s ≡ Fine → Whole s
+pub whole_is : (s : List ℕ) → whole_check s ≡ Ok tt → Whole s
 unfolding whole_check
 whole_is s e =
     let past-four = fine_rest (refuse_when (ltb (length s) length_field) Record) _ e in
@@ -69,7 +69,7 @@ whole_is s e =
 abbrev pub length_read : List ℕ → ℕ
 length_read s = cond (ltb (length s) length_field) 0 (announced s)
 
-pub read_whole : (s : List ℕ) → whole_check s ≡ Fine → length_read s ≡ announced s
+pub read_whole : (s : List ℕ) → whole_check s ≡ Ok tt → length_read s ≡ announced s
 read_whole s e = let w = whole_is s e in rw (le-ltb (length s) length_field (omega arith))
 
 -- by it, two tests say what the three say
@@ -89,7 +89,7 @@ abbrev pub head_tests : List ℕ → Bool → Bool → Verdict
 head_tests s known misfit = whole_check s then refuse_when (not known) Version then refuse_when misfit Record
 
 -- whether the length fits counts only in a record that is whole
-pub same_tests : (s : List ℕ) {a b c d : Bool} → a ≡ b → (whole_check s ≡ Fine → c ≡ d) → head_tests s a c ≡ head_tests s b d
+pub same_tests : (s : List ℕ) {a b c d : Bool} → a ≡ b → (whole_check s ≡ Ok tt → c ≡ d) → head_tests s a c ≡ head_tests s b d
 same_tests s e h = then_same (whole_check s) (λ fine. rw (e, h fine))
 
 pub record Fits (s : List ℕ) (known misfit : Bool) : Type 0 where
@@ -97,7 +97,7 @@ pub record Fits (s : List ℕ) (known misfit : Bool) : Type 0 where
   pub version : known ≡ true
   pub long : misfit ≡ false
 
-pub head_fits : (s : List ℕ) (known misfit : Bool) → head_tests s known misfit ≡ Fine → Fits s known misfit
+pub head_fits : (s : List ℕ) (known misfit : Bool) → head_tests s known misfit ≡ Ok tt → Fits s known misfit
 head_fits s known misfit e =
     let past-whole = fine_rest (whole_check s) _ e in
     record {
@@ -122,9 +122,9 @@ pub record VenueWhole (s : List ℕ) : Type 0 where
   pub there : length_field + announced s ≤ length s
   pub version : venue_version (version_of s) ≡ true
   pub head : venue_head (version_of s) ≤ announced s
-  pub shaped : shape (venue_in s).counts (venue_in s).long ≡ Fine
+  pub shaped : shape (venue_in s).counts (venue_in s).long ≡ Ok tt
 
-pub venue_whole : (s : List ℕ) → venue_check s ≡ Fine → VenueWhole s
+pub venue_whole : (s : List ℕ) → venue_check s ≡ Ok tt → VenueWhole s
 venue_whole s e =
     let (head, shaped) = each_fine (venue_head_tests s) _ (sym (venue_tests s) ∙ e) in
     let w = head_fits s (venue_version (version_of s)) _ head in
@@ -146,9 +146,9 @@ pub record PairWhole (s : List ℕ) : Type 0 where
   pub there : length_field + announced s ≤ length s
   pub version : pair_version (version_of s) ≡ true
   pub long : announced s ≡ pair_length (version_of s)
-  pub ruled : rule_check (rule_byte s) ≡ Fine
+  pub ruled : rule_check (rule_byte s) ≡ Ok tt
 
-pub pair_whole : (s : List ℕ) → pair_check s ≡ Fine → PairWhole s
+pub pair_whole : (s : List ℕ) → pair_check s ≡ Ok tt → PairWhole s
 pair_whole s e =
     let (head, ruled) = each_fine (pair_head_tests s) _ (sym (pair_tests s) ∙ e) in
     let w = head_fits s (pair_version (version_of s)) _ head in
@@ -157,14 +157,14 @@ pair_whole s e =
 -- ---- an accepted venue
 
 -- the verdict and the venue of an answer
-pub venue_accepted : (s : List ℕ) (v : Venue) → venue_read s ≡ VenueRead.Read v → VenueWhole s × (venue_in s ≡ v)
+pub venue_accepted : (s : List ℕ) (v : Venue) → venue_read s ≡ Ok v → VenueWhole s × (venue_in s ≡ v)
 unfolding venue_read
 venue_accepted s v e =
-    let (fine, same) = by_fine VenueRead.Refused (venue_check s) (VenueRead.Read (venue_in s)) (λ r no. let z : ◌≡◌ {A = ℕ} 0 1 = cc no in omega arith) e in
+    let (fine, same) = by_fine Err (venue_check s) (Ok (venue_in s)) (λ r no. let z : ◌≡◌ {A = ℕ} 0 1 = cc no in omega arith) e in
     (venue_whole s fine, cc same)
 
 -- its part lies within the record
-pub part_within : (s : List ℕ) (v : Venue) → venue_read s ≡ VenueRead.Read v → v.start + v.long ≤ length s
+pub part_within : (s : List ℕ) (v : Venue) → venue_read s ≡ Ok v → v.start + v.long ≤ length s
 part_within s v e =
     let (w, f) = venue_accepted s v e in
     subst (λ (u : Venue). u.start + u.long ≤ length s) f
@@ -173,8 +173,8 @@ part_within s v e =
 -- ---- an accepted pair
 
 -- the verdict and the pair of an answer
-pub pair_accepted : (s : List ℕ) (e : Pair) → pair_read s ≡ PairRead.Read e → PairWhole s × (pair_in s ≡ e)
+pub pair_accepted : (s : List ℕ) (e : Pair) → pair_read s ≡ Ok e → PairWhole s × (pair_in s ≡ e)
 unfolding pair_read
 pair_accepted s e h =
-    let (fine, same) = by_fine PairRead.Refused (pair_check s) (PairRead.Read (pair_in s)) (λ r no. let z : ◌≡◌ {A = ℕ} 0 1 = cc no in omega arith) h in
+    let (fine, same) = by_fine Err (pair_check s) (Ok (pair_in s)) (λ r no. let z : ◌≡◌ {A = ℕ} 0 1 = cc no in omega arith) h in
     (pair_whole s fine, cc same)

@@ -1,4 +1,5 @@
 -- A venue written is read back, and what reading accepts is what writing gives. Assumes nothing.
+use Rattle.std.specs.Prelude.{Ok, Err}
 use mathlib.Core.Path.{◌≡◌, refl, sym, ap, ap₂, ◌∙◌, subst}
 use mathlib.Core.Bool.{true}
 use mathlib.Core.List.{List, [], ◌∷◌, ◌++◌, append_assoc, append-nil}
@@ -11,7 +12,6 @@ use borrow.Author.Tests.{ne_eqb, le-ltb, eqb-true}
 use Rattle.buffers.specs.Numbers.{four, AllBytes}
 use Rattle.buffers.proofs.Numbers.{two_read, four_read, joined, two_back, four_back}
 use Rattle.cells.specs.declared.Counts.{Counts}
-use Rattle.cells.specs.declared.Verdict.TheVariants.{Fine}
 use Rattle.cells.specs.Checks.{by_verdict}
 use Rattle.cells.proofs.Checks.{by_fine}
 use Rattle.grids.specs.Grid.{size, shape}
@@ -53,7 +53,7 @@ judged s there known head =
 abbrev pub venue_of : Counts → Venue
 venue_of n = record { counts = n; start = cells_from written_version; long = size n }
 
-module _ (n : Counts) (cells rest : List ℕ) (fine : shape n (length cells) ≡ Fine) where
+module _ (n : Counts) (cells rest : List ℕ) (fine : shape n (length cells) ≡ Ok tt) where
   long_is : announced (head_bytes written_version n ++ (cells ++ rest)) ≡ venue_head written_version + size n
   long_is = four_read (venue_head written_version + size n)
 
@@ -80,15 +80,15 @@ module _ (n : Counts) (cells rest : List ℕ) (fine : shape n (length cells) ≡
       )
 
   -- what was written is read back, whatever follows
-  pub read_back : venue_read (head_bytes written_version n ++ (cells ++ rest)) ≡ VenueRead.Read (venue_of n)
+  pub read_back : venue_read (head_bytes written_version n ++ (cells ++ rest)) ≡ Ok (venue_of n)
   unfolding venue_read venue_version
   read_back =
       let s = head_bytes written_version n ++ (cells ++ rest) in
-      let check : venue_check s ≡ Fine =
+      let check : venue_check s ≡ Ok tt =
       judged s all_there refl (omega (arith, long_is))
       ∙ ap (λ (v : Venue). shape v.counts v.long) in_is
       ∙ ap (shape n) (sym (shaped n (length cells) fine).bytes_are) ∙ fine in
-      ap₂ (λ v u. by_verdict VenueRead.Refused (VenueRead.Read u) v) check in_is
+      ap₂ (λ v u. by_verdict Err (Ok u) v) check in_is
 
   pub cells_back : venue_cells (head_bytes written_version n ++ (cells ++ rest)) ≡ cells
   unfolding venue_cells
@@ -114,7 +114,7 @@ unfolding venue_version
 version_one version e = eqb-true version written_version e
 
 -- the bytes of an accepted record are its head and its cells
-pub record_back : (s : List ℕ) (v : Venue) → AllBytes s → venue_read s ≡ VenueRead.Read v
+pub record_back : (s : List ℕ) (v : Venue) → AllBytes s → venue_read s ≡ Ok v
     → head_bytes written_version v.counts ++ venue_cells s ≡ take (length_field + announced s) s
 unfolding venue_cells
 record_back s v bytes e =
@@ -145,13 +145,13 @@ record_back s v bytes e =
 
 -- where bytes were written, the shape was fine, and the front is the head and the cells
 pub record Front (n : Counts) (cells : List ℕ) (k : ℕ) (exit : List ℕ) : Type 0 where
-  pub fine : shape n (length cells) ≡ Fine
+  pub fine : shape n (length cells) ≡ Ok tt
   pub front : take k exit ≡ head_bytes written_version n ++ cells
 
-pub front_written : (n : Counts) (cells entry exit : List ℕ) (k : ℕ) → WritesVenue n cells entry (Written.Wrote k) exit → Front n cells k exit
+pub front_written : (n : Counts) (cells entry exit : List ℕ) (k : ℕ) → WritesVenue n cells entry (Ok k) exit → Front n cells k exit
 front_written n cells entry exit k c =
     let H = head_bytes written_version n in
-    let (f, same) = by_fine Written.Refused (write_check n (length cells) (length entry)) (Written.Wrote (record_length n))
+    let (f, same) = by_fine Err (write_check n (length cells) (length entry)) (Ok (record_length n))
     (λ r no. let z : ◌≡◌ {A = ℕ} 0 1 = cc no in omega arith) (sym c.says) in
     let count : record_length n ≡ k = cc same in
     let w = writable n (length cells) (length entry) f in
@@ -162,34 +162,34 @@ front_written n cells entry exit k c =
 
 -- an accepted record fits where it came from
 pub record Fits (s : List ℕ) (v : Venue) : Type 0 where
-  pub fine : shape v.counts (length (venue_cells s)) ≡ Fine
+  pub fine : shape v.counts (length (venue_cells s)) ≡ Ok tt
   pub total : record_length v.counts ≡ length_field + announced s
 
-pub record_fits : (s : List ℕ) (v : Venue) → venue_read s ≡ VenueRead.Read v → Fits s v
+pub record_fits : (s : List ℕ) (v : Venue) → venue_read s ≡ Ok v → Fits s v
 unfolding venue_cells
 record_fits s v e =
     let (w, f) = venue_accepted s v e in
     let within = part_within s v e in
     let long : length (venue_cells s) ≡ v.long = rw e (simp (length-take, length-drop) (omega arith)) in
-    let fine : shape v.counts v.long ≡ Fine = subst (λ (u : Venue). shape u.counts u.long ≡ Fine) f w.shaped in
+    let fine : shape v.counts v.long ≡ Ok tt = subst (λ (u : Venue). shape u.counts u.long ≡ Ok tt) f w.shaped in
     let one = ap venue_head (version_one (version_of s) w.version) in
     let head = w.head in
     let size_is : announced s - venue_head (version_of s) ≡ size v.counts = ap (λ (u : Venue). u.long) f ∙ (shaped v.counts v.long fine).bytes_are in
     record { fine = ap (shape v.counts) long ∙ fine; total = omega arith }
 
 -- written into room that is just enough, it is the same bytes
-pub same_bytes : (s : List ℕ) (v : Venue) (entry exit : List ℕ) (w : Written) → AllBytes s → venue_read s ≡ VenueRead.Read v →
+pub same_bytes : (s : List ℕ) (v : Venue) (entry exit : List ℕ) (w : Written) → AllBytes s → venue_read s ≡ Ok v →
     length entry ≡ length_field + announced s
-    → WritesVenue v.counts (venue_cells s) entry w exit → (w ≡ Written.Wrote (length_field + announced s)) × (exit ≡ take (length_field + announced s) s)
+    → WritesVenue v.counts (venue_cells s) entry w exit → (w ≡ Ok (length_field + announced s)) × (exit ≡ take (length_field + announced s) s)
 unfolding write_check
 same_bytes s v entry exit w bytes e room c =
     let n = v.counts in
     let fits = record_fits s v e in
     let H = head_bytes written_version n in
-    let check : write_check n (length (venue_cells s)) (length entry) ≡ Fine =
+    let check : write_check n (length (venue_cells s)) (length entry) ≡ Ok tt =
     rw (fits.fine, le-ltb (length entry) (record_length n) (omega (arith, fits.total))) in
     let none : drop (record_length n) entry ≡ [] = drop_of_length-le entry {i = record_length n} (omega (arith, fits.total)) in (
-      c.says ∙ ap (by_verdict Written.Refused (Written.Wrote (record_length n))) check ∙ ap Written.Wrote fits.total,
+      c.says ∙ ap (by_verdict Err (Ok (record_length n))) check ∙ ap Ok fits.total,
       c.holds ∙ ap (by_verdict (λ r. entry) (after_writing n (venue_cells s) entry)) check ∙ ap (λ l. H ++ (venue_cells s ++ l)) none
           ∙ ap (λ l. H ++ l) (append-nil (venue_cells s)) ∙ record_back s v bytes e,
     )

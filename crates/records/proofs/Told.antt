@@ -1,4 +1,5 @@
 -- Each answer's case and values tell which answer it is: the definitions that say them have left inverses. Assumes nothing.
+use Rattle.std.specs.Prelude.{Ok, Err}
 use Prim.Native.Nat.{ℕ}
 use mathlib.Core.Path.{◌≡◌, refl, ap}
 use mathlib.Core.Logic.{◌⊎◌}
@@ -16,31 +17,31 @@ use Rattle.records.specs.Venues.{told_venue}
 use Rattle.records.specs.Pairs.{told_pair}
 
 abbrev untold_venue : Told ⊎ (Counts × ℕ × ℕ) → Option VenueRead
-untold_venue = untold_by VenueRead.Refused (λ v. VenueRead.Read (record { counts = v.0; start = v.1; long = v.2 }))
+untold_venue = untold_by Err (λ v. Ok (record { counts = v.0; start = v.1; long = v.2 }))
 
 pub told_venue_back : (r : VenueRead) → untold_venue (told_venue r) ≡ some r
-told_venue_back (VenueRead.Refused r) = ap (map VenueRead.Refused) (told_back r)
-told_venue_back (VenueRead.Read v) = refl
+told_venue_back (Err r) = ap (map Err) (told_back r)
+told_venue_back (Ok v) = refl
 
 pub told_venue_one : (r s : VenueRead) → told_venue r ≡ told_venue s → r ≡ s
 told_venue_one = tells_apart told_venue untold_venue told_venue_back
 
 abbrev untold_pair : Told ⊎ (Cell × Cell × Rule) → Option PairRead
-untold_pair = untold_by PairRead.Refused (λ e. PairRead.Read (record { p = e.0; q = e.1; rule = e.2 }))
+untold_pair = untold_by Err (λ e. Ok (record { p = e.0; q = e.1; rule = e.2 }))
 
 pub told_pair_back : (r : PairRead) → untold_pair (told_pair r) ≡ some r
-told_pair_back (PairRead.Refused r) = ap (map PairRead.Refused) (told_back r)
-told_pair_back (PairRead.Read e) = refl
+told_pair_back (Err r) = ap (map Err) (told_back r)
+told_pair_back (Ok e) = refl
 
 pub told_pair_one : (r s : PairRead) → told_pair r ≡ told_pair s → r ≡ s
 told_pair_one = tells_apart told_pair untold_pair told_pair_back
 
 abbrev untold_written : Told ⊎ ℕ → Option Written
-untold_written = untold_by Written.Refused Written.Wrote
+untold_written = untold_by Err Ok
 
 pub told_written_back : (r : Written) → untold_written (told_written r) ≡ some r
-told_written_back (Written.Refused r) = ap (map Written.Refused) (told_back r)
-told_written_back (Written.Wrote k) = refl
+told_written_back (Err r) = ap (map Err) (told_back r)
+told_written_back (Ok k) = refl
 
 pub told_written_one : (r s : Written) → told_written r ≡ told_written s → r ≡ s
 told_written_one = tells_apart told_written untold_written told_written_back

@@ -1,4 +1,5 @@
 -- Writing a venue: what a fine check says, and the two ways out. Assumes nothing.
+use Rattle.std.specs.Prelude.{Ok, Err}
 use mathlib.Core.Path.{◌≡◌, refl, sym, ap, ap₂, ◌∙◌}
 use mathlib.Core.List.{List, ◌++◌, append_assoc}
 use Prim.Native.Nat.{ℕ, ◌+◌, ◌≤◌}
@@ -9,7 +10,6 @@ use Rattle.buffers.specs.Over.{over}
 use Rattle.buffers.proofs.Over.{over_front, then_over}
 use Rattle.cells.specs.declared.Counts.{Counts}
 use Rattle.cells.specs.declared.Refusal.{Refusal}
-use Rattle.cells.specs.declared.Verdict.TheVariants.{Fine, Refused}
 use Rattle.grids.specs.Grid.{size, shape}
 use Rattle.cells.specs.Checks.{by_verdict}
 use Rattle.cells.proofs.Checks.{fine_first, fine_rest, passed}
@@ -26,12 +26,12 @@ head_length n = refl
 -- ---- what a fine check says
 
 pub record Writable (n : Counts) (bytes room : ℕ) : Type 0 where
-  pub fine : shape n bytes ≡ Fine
+  pub fine : shape n bytes ≡ Ok tt
   pub bytes_are : bytes ≡ size n
   pub small : bytes ≤ 1073741824
   pub roomy : cells_from written_version + bytes ≤ room
 
-pub writable : (n : Counts) (bytes room : ℕ) → write_check n bytes room ≡ Fine → Writable n bytes room
+pub writable : (n : Counts) (bytes room : ℕ) → write_check n bytes room ≡ Ok tt → Writable n bytes room
 unfolding write_check
 writable n bytes room e =
     let f = fine_first (shape n bytes) _ e in
@@ -42,9 +42,9 @@ writable n bytes room e =
 -- ---- the ways out
 
 module _ (n : Counts) (cells entry : List ℕ) where
-  pub not_written : (r : Refusal) → write_check n (length cells) (length entry) ≡ Refused r → WritesVenue n cells entry (Written.Refused r) entry
+  pub not_written : (r : Refusal) → write_check n (length cells) (length entry) ≡ Err r → WritesVenue n cells entry (Err r) entry
   not_written r e = record {
-    says = sym (ap (by_verdict Written.Refused (Written.Wrote (record_length n))) e);
+    says = sym (ap (by_verdict Err (Ok (record_length n))) e);
     holds = sym (ap (by_verdict (λ s. entry) (after_writing n cells entry)) e);
   }
 
@@ -60,11 +60,11 @@ module _ (n : Counts) (cells entry : List ℕ) where
       ∙ ap (λ k. H ++ cells ++ drop k entry) long
       ∙ append_assoc H cells (drop (record_length n) entry)
 
-  pub wrote : {start : ℕ} {m exit : List ℕ} → write_check n (length cells) (length entry) ≡ Fine → start ≡ cells_from written_version
-      → m ≡ over 0 (head_bytes written_version n) entry → exit ≡ over start cells m → WritesVenue n cells entry (Written.Wrote (start + length cells)) exit
+  pub wrote : {start : ℕ} {m exit : List ℕ} → write_check n (length cells) (length entry) ≡ Ok tt → start ≡ cells_from written_version
+      → m ≡ over 0 (head_bytes written_version n) entry → exit ≡ over start cells m → WritesVenue n cells entry (Ok (start + length cells)) exit
   wrote f e head rest =
       let w = writable n (length cells) (length entry) f in
       record {
-        says = ap₂ (λ s b. Written.Wrote (s + b)) e w.bytes_are ∙ sym (ap (by_verdict Written.Refused (Written.Wrote (record_length n))) f);
+        says = ap₂ (λ s b. Ok (s + b)) e w.bytes_are ∙ sym (ap (by_verdict Err (Ok (record_length n))) f);
         holds = filled w e head rest ∙ sym (ap (by_verdict (λ r. entry) (after_writing n cells entry)) f);
       }

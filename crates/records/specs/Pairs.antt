@@ -1,11 +1,12 @@
 -- SCOPE, V and T: reading a pair. Assumes nothing.
+use Rattle.std.specs.Prelude.{Ok, Err}
 use Rattle.std.specs.Prelude.{ℕ, ◌+◌, ◌≡◌, Bool, cond, not, ◌||◌, List, ◌⊎◌, ltb, eqb, ℤ, pos, ◌-ℤ◌, get_or}
 use Rattle.std.proofs.Common.{inl, inr}
 use Rattle.buffers.specs.Numbers.{two_at}
 use Rattle.cells.specs.declared.Cell.{Cell}
 use Rattle.cells.specs.declared.Refusal.TheVariants.{Record, Version}
 use Rattle.cells.specs.declared.Rule.{Rule}
-use Rattle.cells.specs.declared.Verdict.{Verdict}
+use Rattle.cells.specs.Checks.{Verdict}
 use Rattle.cells.specs.Checks.{refuse_when, ◌then◌, by_verdict}
 use Rattle.cells.specs.Manners.{rule_of, rule_check}
 use Rattle.cells.specs.Refusals.{Told, told}
@@ -51,7 +52,7 @@ pair_check s =
 
 -- SCOPE V8: the answer, both ends and the rule, or a refusal
 unfoldable pub pair_read : List ℕ → PairRead
-pair_read s = by_verdict PairRead.Refused (PairRead.Read (pair_in s)) (pair_check s)
+pair_read s = by_verdict Err (Ok (pair_in s)) (pair_check s)
 
 -- the contract of the call
 pub record ReadsPair (s : List ℕ) (r : PairRead) : Type 0 where
@@ -59,5 +60,5 @@ pub record ReadsPair (s : List ℕ) (r : PairRead) : Type 0 where
 
 -- each case of the answer: what is said of a refusal, or P, Q and the rule
 abbrev pub told_pair : PairRead → Told ⊎ (Cell × Cell × Rule)
-told_pair (PairRead.Refused r) = inl (told r)
-told_pair (PairRead.Read e) = inr (e.p, e.q, e.rule)
+told_pair (Err r) = inl (told r)
+told_pair (Ok e) = inr (e.p, e.q, e.rule)

@@ -1,11 +1,12 @@
 -- SCOPE, V and T: reading a venue. Assumes nothing.
+use Rattle.std.specs.Prelude.{Ok, Err}
 use Rattle.std.specs.Prelude.{ℕ, ◌+◌, ◌-◌, ◌≡◌, Bool, not, List, [], ◌⊎◌, ltb, eqb, take, drop}
 use Rattle.std.proofs.Common.{inl, inr}
 use Rattle.std.specs.Borrow.{Bor}
 use Rattle.buffers.specs.Numbers.{two_at}
 use Rattle.cells.specs.declared.Counts.{Counts}
 use Rattle.cells.specs.declared.Refusal.TheVariants.{Record, Version}
-use Rattle.cells.specs.declared.Verdict.{Verdict}
+use Rattle.cells.specs.Checks.{Verdict}
 use Rattle.cells.specs.Checks.{refuse_when, ◌then◌, by_verdict}
 use Rattle.cells.specs.Parts.{StartsAt}
 use Rattle.cells.specs.Refusals.{Told, told}
@@ -53,12 +54,12 @@ venue_check s =
 
 -- SCOPE V8: the answer, the counts and where the cells stand, or a refusal
 unfoldable pub venue_read : List ℕ → VenueRead
-venue_read s = by_verdict VenueRead.Refused (VenueRead.Read (venue_in s)) (venue_check s)
+venue_read s = by_verdict Err (Ok (venue_in s)) (venue_check s)
 
 -- the part itself, empty where the venue is refused
 abbrev pub part_of : VenueRead → List ℕ → List ℕ
-part_of (VenueRead.Read v) s = take v.long (drop v.start s)
-part_of (VenueRead.Refused r) s = []
+part_of (Ok v) s = take v.long (drop v.start s)
+part_of (Err r) s = []
 
 -- what the partner call returns
 unfoldable pub venue_cells : List ℕ → List ℕ
@@ -66,8 +67,8 @@ venue_cells s = part_of (venue_read s) s
 
 -- where it starts among the bytes; the empty part stands at their start
 abbrev pub start_of : VenueRead → ℕ
-start_of (VenueRead.Read v) = v.start
-start_of (VenueRead.Refused r) = 0
+start_of (Ok v) = v.start
+start_of (Err r) = 0
 
 -- the contracts of the two calls: the answer; the cells, and where they lie
 pub record ReadsVenue (s : List ℕ) (r : VenueRead) : Type 0 where
@@ -79,5 +80,5 @@ pub record GivesCells (bytes r : Bor (List ℕ)) : Type 0 where
 
 -- each case of the answer: what is said of a refusal, or the counts and the part's offset and length
 abbrev pub told_venue : VenueRead → Told ⊎ (Counts × ℕ × ℕ)
-told_venue (VenueRead.Refused r) = inl (told r)
-told_venue (VenueRead.Read v) = inr (v.counts, v.start, v.long)
+told_venue (Err r) = inl (told r)
+told_venue (Ok v) = inr (v.counts, v.start, v.long)

@@ -1,4 +1,5 @@
 -- What an accepted refill says, from its contract; and that a refusal before 13 is never 13. Assumes nothing.
+use Rattle.std.specs.Prelude.{Ok, Err}
 use Prim.Native.Nat.{ℕ, ◌<◌}
 use native.Mathlib.Decide.{dec_lt}
 use native.Mathlib.Omega.{arith}
@@ -15,8 +16,7 @@ use Rattle.cells.specs.declared.Counts.{Counts}
 use Rattle.cells.specs.declared.End.{End}
 use Rattle.cells.specs.declared.End.TheVariants.{P, Q}
 use Rattle.cells.specs.declared.Refusal.TheVariants.{Count, Bytes, OffGrid, Room, Stale, Corners}
-use Rattle.cells.specs.declared.Verdict.{Verdict}
-use Rattle.cells.specs.declared.Verdict.TheVariants.{Fine, Refused}
+use Rattle.cells.specs.Checks.{Verdict}
 use Rattle.cells.specs.Checks.{◌then◌, by_verdict}
 use Rattle.cells.specs.Refusals.{told}
 use Rattle.cells.proofs.Tabulate.{is_tabulate}
@@ -25,7 +25,6 @@ use Rattle.grids.specs.Grid.{bad_count, size, count_check, shape, byte_index, so
 use Rattle.grids.specs.Inside.{off_axis, grid_check}
 use Rattle.grids.proofs.Any.{or_neither}
 use Rattle.grids.proofs.Marking.{SameSolid}
-use Rattle.bricks.specs.declared.Tally.TheVariants as Tally
 use Rattle.bricks.specs.declared.Slot.{Slot}
 use Rattle.bricks.specs.Bricks.{bricks, mask_at}
 use Rattle.bricks.specs.Builds.{bricks_check}
@@ -42,21 +41,21 @@ use Rattle.refills.proofs.Single.{one_named, put_one, cell_below}
 
 -- the verdict is fine, and what the three equations then say
 pub record Accepted (n : Counts) (low high : Cell) (byte : ℕ) (l m : List ℕ) (total t : ℕ) (l' m' : List ℕ) : Type 0 where
-  pub checked : box_check n (length l) (length m) low high ≡ Fine
+  pub checked : box_check n (length l) (length m) low high ≡ Ok tt
   pub right : stale n (corner low) (corner high) l m total ≡ false
   pub bytes : l' ≡ refilled n (corner low) (corner high) byte l
   pub masks : m' ≡ remasked n (corner low) (corner high) l' m
   pub total_is : t ≡ moved n (corner low) (corner high) m m' total
 
 pub accepted_says :
-    (n : Counts) (low high : Cell) (byte : ℕ) (l m : List ℕ) (total t : ℕ) (l' m' : List ℕ) → Refills n low high byte l m total (Tally.Total t) l' m' →
+    (n : Counts) (low high : Cell) (byte : ℕ) (l m : List ℕ) (total t : ℕ) (l' m' : List ℕ) → Refills n low high byte l m total (Ok t) l' m' →
     Accepted n low high byte l m total t l' m'
 accepted_says n low high byte l m total t l' m' c =
     let lo = corner low in
     let hi = corner high in
     let first = box_check n (length l) (length m) low high in
     let v = first then stale_check n lo hi l m total in
-    let (fine, is) = by_fine Tally.Refused v (Tally.Total (moved n lo hi m (remasked n lo hi (refilled n lo hi byte l) m) total))
+    let (fine, is) = by_fine Err v (Ok (moved n lo hi m (remasked n lo hi (refilled n lo hi byte l) m) total))
     (λ r no. let z : ◌≡◌ {A = ℕ} 0 1 = cc no in omega arith) (sym c.says) in
     let bytes : l' ≡ refilled n lo hi byte l = c.bytes ∙ ap (by_verdict (λ r. l) (refilled n lo hi byte l)) fine in
     let anew : m' ≡ remasked n lo hi (refilled n lo hi byte l) m = c.masks ∙ ap (by_verdict (λ r. m) (remasked n lo hi
@@ -131,7 +130,7 @@ module _ (n : Counts) (low high : Cell) (byte : ℕ) (l m : List ℕ) (total t :
 
 -- ---- an accepted set
 
-module _ (n : Counts) (cell : Cell) (byte : ℕ) (l m : List ℕ) (total t : ℕ) (l' m' : List ℕ) (c : Sets n cell byte l m total (Tally.Total t) l' m') where
+module _ (n : Counts) (cell : Cell) (byte : ℕ) (l m : List ℕ) (total t : ℕ) (l' m' : List ℕ) (c : Sets n cell byte l m total (Ok t) l' m') where
   a : Accepted n cell cell byte l m total t l' m'
   a = accepted_says n cell cell byte l m total t l' m' c
 
@@ -187,11 +186,11 @@ box_not n bytes lent low high =
 -- a refusal 13 says that they do not agree
 pub stale_says :
     (n : Counts) (low high : Cell) (byte : ℕ) (l m : List ℕ) (total : ℕ) (l' m' : List ℕ) → Refills n low high byte l m total
-    (Tally.Refused Stale) l' m' →
+    (Err Stale) l' m' →
     stale n (corner low) (corner high) l m total ≡ false → ⊥
 stale_says n low high byte l m total l' m' c right =
     go (box_check n (length l) (length m) low high) (box_not n (length l) (length m) low high) _ (rw right at c.says)
   where
-    go : (v : Verdict) → NotBy 13 v → (x : ℕ) → Tally.Refused Stale ≡ by_verdict Tally.Refused (Tally.Total x) (v then Fine) → ⊥
-    go Fine other x e = let z : ◌≡◌ {A = ℕ} 0 1 = cc e in omega arith
-    go (Refused r) other x e = let same : Stale ≡ r = cc e in other (sym (ap (λ u. (told u).number) same))
+    go : (v : Verdict) → NotBy 13 v → (x : ℕ) → Err Stale ≡ by_verdict Err (Ok x) (v then (Ok tt)) → ⊥
+    go (Ok _) other x e = let z : ◌≡◌ {A = ℕ} 0 1 = cc e in omega arith
+    go (Err r) other x e = let same : Stale ≡ r = cc e in other (sym (ap (λ u. (told u).number) same))

@@ -1,4 +1,5 @@
 -- Whether masks are those of the bytes: what holds somewhere in a box holds somewhere in its rows. Assumes nothing.
+use Rattle.std.specs.Prelude.{Some, None, Option}
 use Prim.Native.Nat.{ℕ, ◌+◌, ◌-◌, ◌*◌, ◌/◌, ◌%◌, ◌<◌}
 use native.Mathlib.Omega.{arith}
 use mathlib.Core.Path.{◌≡◌, refl, sym, ap, ◌∙◌}
@@ -16,8 +17,6 @@ use Rattle.grids.proofs.Places.{index_of_cell}
 use Rattle.bricks.specs.Sums.{sum}
 use Rattle.bricks.specs.Bricks.{bricks, mask_at}
 use Rattle.bricks.specs.declared.Slot.{Slot}
-use Rattle.refills.specs.declared.Agreed.{Agreed}
-use Rattle.refills.specs.declared.Agreed.TheVariants.{Ones, Differs}
 use Rattle.refills.specs.Boxes.{in_box_at}
 use Rattle.refills.specs.Rows.{Boxed, wide, rows, row_start, row_number, agreed}
 use Rattle.refills.specs.Refills.{differs}
@@ -56,7 +55,7 @@ module _ (n : Counts) (lo hi : Slot) (box : Boxed n lo hi) where
 module _ (n : Counts) (l m : List ℕ) (from : ℕ) where
   -- a wrong mask is found
   pub part_wrong :
-      (long d mask t : ℕ) → d < long → mask ≡ mask_at n l (from + d) → (get_or m (from + d) 0 ≡ mask → ⊥) → Differs ≡ agreed (any (λ i. differs n l m
+      (long d mask t : ℕ) → d < long → mask ≡ mask_at n l (from + d) → (get_or m (from + d) 0 ≡ mask → ⊥) → None ≡ agreed (any (λ i. differs n l m
       (from + i)) long) t
   part_wrong long d mask t lt e ne =
       let bad : differs n l m (from + d) ≡ true = ap not (ne_eqb (get_or m (from + d) 0) (mask_at n l (from + d)) (λ q. ne (q ∙ sym e))) in
@@ -81,16 +80,16 @@ pub differs_is :
     some_differs n l m lo hi ≡ any (λ r. any (λ i. differs n l m (row_start (bricks n) lo hi r + i)) (wide lo hi)) (rows lo hi)
 differs_is n l m lo hi box = sym (any_box (bricks n) lo hi box (differs n l m))
 
-differs_not_ones : (t : ℕ) → Differs ≡ Ones t → ⊥
+differs_not_ones : (t : ℕ) → None ≡ Some t → ⊥
 differs_not_ones t e = let z : ◌≡◌ {A = ℕ} 0 1 = cc in omega arith
 
 -- an answer that is Ones has found no wrong mask, and gives the sum
-pub ones_tells : (t : Bool) (a b : ℕ) → Ones a ≡ agreed t b → (t ≡ false) × (a ≡ b)
+pub ones_tells : (t : Bool) (a b : ℕ) → Some a ≡ agreed t b → (t ≡ false) × (a ≡ b)
 ones_tells true a b e = absurd (differs_not_ones a (sym e))
 ones_tells false a b e = (refl, cc)
 
 -- and one that is Differs has found one
-pub differs_tells : (t : Bool) (b : ℕ) → Differs ≡ agreed t b → t ≡ true
+pub differs_tells : (t : Bool) (b : ℕ) → None ≡ agreed t b → t ≡ true
 differs_tells true b e = refl
 differs_tells false b e = absurd (differs_not_ones b e)
 
@@ -103,21 +102,21 @@ row_wrong n l m lo hi r = any (λ i. differs n l m (row_start (bricks n) lo hi r
 abbrev row_sum : Counts → List ℕ → Slot → Slot → ℕ → ℕ
 row_sum n l lo hi r = sum (λ i. ones (mask_at n l (row_start (bricks n) lo hi r + i))) (wide lo hi)
 
-module _ (n : Counts) (l m : List ℕ) (lo hi : Slot) (r s w t : ℕ) (a : Agreed) (es : s ≡ row_start (bricks n) lo hi r) (ew : w ≡ wide lo hi)
+module _ (n : Counts) (l m : List ℕ) (lo hi : Slot) (r s w t : ℕ) (a : Option ℕ) (es : s ≡ row_start (bricks n) lo hi r) (ew : w ≡ wide lo hi)
     (says : a ≡ agreed (any (λ i. differs n l m (s + i)) w) (sum (λ i. ones (mask_at n l (s + i))) w)) where
   row_says : a ≡ agreed (row_wrong n l m lo hi r) (row_sum n l lo hi r)
   row_says = says ∙ (λ k. agreed (any (λ i. differs n l m (es k + i)) (ew k)) (sum (λ i. ones (mask_at n l (es k + i))) (ew k)))
 
-  pub box_wrong : Boxed (bricks n) lo hi → (total : ℕ) → r < rows lo hi → a ≡ Differs → Differs ≡ agreed (some_differs n l m lo hi) total
+  pub box_wrong : Boxed (bricks n) lo hi → (total : ℕ) → r < rows lo hi → a ≡ None → None ≡ agreed (some_differs n l m lo hi) total
   box_wrong box total lt e =
       let found : row_wrong n l m lo hi r ≡ true = differs_tells (row_wrong n l m lo hi r) (row_sum n l lo hi r) (sym e ∙ row_says) in
       rw (differs_is n l m lo hi box, any_some (row_wrong n l m lo hi) (rows lo hi) r lt found)
 
-  told : a ≡ Ones t → (row_wrong n l m lo hi r ≡ false) × (t ≡ row_sum n l lo hi r)
+  told : a ≡ Some t → (row_wrong n l m lo hi r ≡ false) × (t ≡ row_sum n l lo hi r)
   told e = ones_tells (row_wrong n l m lo hi r) t (row_sum n l lo hi r) (sym e ∙ row_says)
 
-  pub box_right : a ≡ Ones t → any (row_wrong n l m lo hi) r ≡ false → any (row_wrong n l m lo hi) (r + 1) ≡ false
+  pub box_right : a ≡ Some t → any (row_wrong n l m lo hi) r ≡ false → any (row_wrong n l m lo hi) (r + 1) ≡ false
   box_right e none = let here = (told e).0 in any_more (row_wrong n l m lo hi) r ∙ rw (none, here)
 
-  pub row_ones : a ≡ Ones t → t ≡ row_sum n l lo hi r
+  pub row_ones : a ≡ Some t → t ≡ row_sum n l lo hi r
   row_ones e = (told e).1

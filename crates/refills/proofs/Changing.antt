@@ -1,4 +1,5 @@
 -- The ways out of a refill, once its corners are known to lie in the grid: refused 13, or accepted. Assumes nothing.
+use Rattle.std.specs.Prelude.{Ok, Err, Some, None, Option}
 use Prim.Native.Nat.{ℕ, ◌+◌, ◌-◌, ◌*◌, ◌/◌, ◌^◌, ◌≤◌, ◌<◌}
 use native.Mathlib.Nat.{lt_of_lt_of_le}
 use native.Mathlib.Omega.{arith}
@@ -14,13 +15,10 @@ use Rattle.cells.specs.declared.Refusal.TheVariants.{Stale}
 use Rattle.grids.specs.Grid.{size, index, solid}
 use Rattle.grids.specs.Inside.{Shaped}
 use Rattle.grids.proofs.Any.{or_true}
-use Rattle.bricks.specs.declared.Tally.TheVariants as Tally
 use Rattle.bricks.specs.Sums.{sum, digit, bit}
 use Rattle.bricks.specs.Bricks.{bricks, mask_of, mask_at, brick_there, bit_there}
 use Rattle.bricks.proofs.Totals.{ones_most}
 use Rattle.bricks.specs.declared.Slot.{Slot}
-use Rattle.refills.specs.declared.Agreed.{Agreed}
-use Rattle.refills.specs.declared.Agreed.TheVariants.{Ones, Differs}
 use Rattle.refills.specs.Boxes.{brick_of}
 use Rattle.refills.specs.Rows.{Boxed, rows, BoxFilled, box_sum, agreed}
 use Rattle.refills.specs.Refills.{refilled, holds_named, remasked, ones_in, differs_in, bad_total, stale, stale_check, Changes}
@@ -68,16 +66,16 @@ module _ (n : Counts) (lo hi : Slot) (box : Boxed n lo hi) where
 
 module _ (n : Counts) (lo hi : Slot) (byte : ℕ) (l m : List ℕ) (total : ℕ) where
   -- refused, all as it was
-  stays : stale n lo hi l m total ≡ true → Changes (stale_check n lo hi l m total) n lo hi byte l m total (Tally.Refused Stale) l m
+  stays : stale n lo hi l m total ≡ true → Changes (stale_check n lo hi l m total) n lo hi byte l m total (Err Stale) l m
   stays e = record { says = rw e; bytes = rw e; masks = rw e }
 
-  pub refused_mask : differs_in n lo hi l m ≡ true → Changes (stale_check n lo hi l m total) n lo hi byte l m total (Tally.Refused Stale) l m
+  pub refused_mask : differs_in n lo hi l m ≡ true → Changes (stale_check n lo hi l m total) n lo hi byte l m total (Err Stale) l m
   unfolding stale
   refused_mask e = stays (rw e)
 
   pub refused_total :
       (before : ℕ) → before ≡ ones_in n lo hi m → bad_total total before (size n) ≡ true →
-      Changes (stale_check n lo hi l m total) n lo hi byte l m total (Tally.Refused Stale) l m
+      Changes (stale_check n lo hi l m total) n lo hi byte l m total (Err Stale) l m
   unfolding stale
   refused_total before same e =
       stays (ap (λ (t : Bool). differs_in n lo hi l m || t) (ap (λ (b : ℕ). bad_total total b (size n)) (sym same) ∙ e) ∙ or_true
@@ -87,13 +85,13 @@ module _ (n : Counts) (lo hi : Slot) (byte : ℕ) (l m : List ℕ) (total : ℕ)
   pub accepted :
       (before after : ℕ) (l' m' : List ℕ) → differs_in n lo hi l m ≡ false → before ≡ ones_in n lo hi m → bad_total total before (size n) ≡ false →
       l' ≡ refilled n lo hi byte l → m' ≡ remasked n lo hi l' m → after ≡ ones_in n lo hi m' →
-      Changes (stale_check n lo hi l m total) n lo hi byte l m total (Tally.Total (total - before + after)) l' m'
+      Changes (stale_check n lo hi l m total) n lo hi byte l m total (Ok (total - before + after)) l' m'
   unfolding stale
   accepted before after l' m' none same fits bytes masks anew =
       let fine : stale n lo hi l m total ≡ false = ap₂ (λ (s t : Bool). s || t) none (ap (λ (b : ℕ). bad_total total b (size n)) (sym same) ∙ fits) in
       let is : m' ≡ remasked n lo hi (refilled n lo hi byte l) m = masks ∙ ap (λ (q : List ℕ). remasked n lo hi q m) bytes in
       record {
-        says = rw fine (ap₂ (λ (a b : ℕ). Tally.Total (total - a + b)) same (anew ∙ ap (ones_in n lo hi) is));
+        says = rw fine (ap₂ (λ (a b : ℕ). Ok (total - a + b)) same (anew ∙ ap (ones_in n lo hi) is));
         bytes = rw fine bytes;
         masks = rw fine is;
       }
@@ -101,16 +99,16 @@ module _ (n : Counts) (lo hi : Slot) (byte : ℕ) (l m : List ℕ) (total : ℕ)
 -- ---- of a box, as the code goes through it
 
 module _ (n : Counts) (lo hi : Slot) (box : Boxed n lo hi) (l m : List ℕ) where
-  abbrev answered : Agreed → Type 0
+  abbrev answered : (Option ℕ) → Type 0
   answered a = a ≡ agreed (some_differs n l m (brick_of lo) (brick_of hi)) (sum_of n lo hi box l)
 
   -- the test found a mask that differs
-  pub box_differs : answered Differs → differs_in n lo hi l m ≡ true
+  pub box_differs : answered None → differs_in n lo hi l m ≡ true
   unfolding differs_in
   box_differs e = differs_tells (some_differs n l m (brick_of lo) (brick_of hi)) (sum_of n lo hi box l) e
 
   -- or none, and the ones are those of the masks
-  pub box_agrees : (before : ℕ) → answered (Ones before) → (differs_in n lo hi l m ≡ false) × (before ≡ ones_in n lo hi m)
+  pub box_agrees : (before : ℕ) → answered (Some before) → (differs_in n lo hi l m ≡ false) × (before ≡ ones_in n lo hi m)
   unfolding differs_in
   box_agrees before e =
       let (none, sum) = ones_tells (some_differs n l m (brick_of lo) (brick_of hi)) before (sum_of n lo hi box l) e in
@@ -158,7 +156,7 @@ module _ (n : Counts) (at : Slot) (box : Boxed n at at) (l m : List ℕ) (s : Sh
           (byte total i b turned old new : ℕ) → size (bricks n) ≤ length m → i ≡ index n at.x at.y at.z → b ≡ bit_there at.x at.y at.z →
           turned + digit (bit mask b) * 2 ^ b ≡ mask + digit (solid byte) * 2 ^ b → old ≡ ones mask → bad_total total old (size n) ≡ false →
           new ≡ ones turned →
-          Changes (stale_check n at at l m total) n at at byte l m total (Tally.Total (total - old + new)) (set l i byte) (set m k turned)
+          Changes (stale_check n at at l m total) n at at byte l m total (Ok (total - old + new)) (set l i byte) (set m k turned)
       unfolding refilled remasked
       cell_set byte total i b turned old new room ei eb moved eo fits en =
           let there : ℕ = brick_there n at.x at.y at.z in

@@ -1,4 +1,5 @@
 -- What corners that passed all tests before 13 say; and the ways out of the two calls. Assumes nothing.
+use Rattle.std.specs.Prelude.{Ok, Err, Result}
 use Prim.Native.Nat.{ℕ, ◌≤◌, ◌<◌}
 use native.Mathlib.Omega.{arith}
 use mathlib.Core.Path.{◌≡◌}
@@ -13,7 +14,6 @@ use Rattle.cells.specs.declared.Counts.{Counts}
 use Rattle.cells.specs.declared.End.TheVariants.{P, Q}
 use Rattle.cells.specs.declared.Refusal.{Refusal}
 use Rattle.cells.specs.declared.Refusal.TheVariants.{Corners}
-use Rattle.cells.specs.declared.Verdict.TheVariants.{Fine, Refused}
 use Rattle.cells.specs.Checks.{refuse_when, ◌then◌}
 use Rattle.cells.proofs.Checks.{fine_first, fine_rest, passed}
 use Rattle.cells.proofs.Signed.{lt_z_false, abs_is}
@@ -21,7 +21,6 @@ use Rattle.grids.specs.Inside.{off_axis, InGrid, grid_check, Shaped}
 use Rattle.grids.proofs.Any.{or_neither}
 use Rattle.grids.proofs.Inside.{inside_parts, inside_nat, inside_below, check_inside}
 use Rattle.grids.proofs.Shapes.{shaped}
-use Rattle.bricks.specs.declared.Tally.{Tally}
 use Rattle.bricks.specs.Builds.{bricks_check}
 use Rattle.bricks.proofs.Building.{shape_fine}
 use Rattle.refills.specs.Boxes.{corner}
@@ -41,19 +40,19 @@ natural n bytes s c h =
     one : (v : ℤ) (count : ℕ) → count ≤ 1024 → off_axis v count ≡ false → (v ≡ pos (nat_abs v)) × (nat_abs v < 1024)
     one v count most inside = let below = inside_below v count inside in (inside_nat v count most inside, omega arith)
 
-module _ (n : Counts) (bytes lent : ℕ) (low high : Cell) (e : box_check n bytes lent low high ≡ Fine) where
-  pub bricks_fine : bricks_check n bytes lent ≡ Fine
+module _ (n : Counts) (bytes lent : ℕ) (low high : Cell) (e : box_check n bytes lent low high ≡ Ok tt) where
+  pub bricks_fine : bricks_check n bytes lent ≡ Ok tt
   unfolding box_check
   bricks_fine = fine_first (bricks_check n bytes lent) _ e
 
-  ends_fine : (grid_check P n low then grid_check Q n high then refuse_when (crossed low high) Corners) ≡ Fine
+  ends_fine : (grid_check P n low then grid_check Q n high then refuse_when (crossed low high) Corners) ≡ Ok tt
   unfolding box_check
   ends_fine = fine_rest (bricks_check n bytes lent) _ e
 
   pub low_in : InGrid n low
   low_in = check_inside P n low (fine_first (grid_check P n low) _ ends_fine)
 
-  high_fine : (grid_check Q n high then refuse_when (crossed low high) Corners) ≡ Fine
+  high_fine : (grid_check Q n high then refuse_when (crossed low high) Corners) ≡ Ok tt
   high_fine = fine_rest (grid_check P n low) _ ends_fine
 
   pub high_in : InGrid n high
@@ -91,11 +90,11 @@ module _ (n : Counts) (bytes lent : ℕ) (low high : Cell) (e : box_check n byte
 -- ---- the ways out
 
 module _ (n : Counts) (low high : Cell) (byte : ℕ) (l m : List ℕ) (total : ℕ) where
-  pub refused_before : (r : Refusal) → box_check n (length l) (length m) low high ≡ Refused r → Refills n low high byte l m total (Tally.Refused r) l m
+  pub refused_before : (r : Refusal) → box_check n (length l) (length m) low high ≡ Err r → Refills n low high byte l m total (Err r) l m
   refused_before r e = record { says = rw e; bytes = rw e; masks = rw e }
 
   pub looked_at :
-      (r : Tally) (l' m' : List ℕ) → box_check n (length l) (length m) low high ≡ Fine →
+      (r : Result ℕ Refusal) (l' m' : List ℕ) → box_check n (length l) (length m) low high ≡ Ok tt →
       Changes (stale_check n (corner low) (corner high) l m total) n (corner low) (corner high) byte l m total r l' m' →
       Refills n low high byte l m total r l' m'
   looked_at r l' m' e c = rw e c

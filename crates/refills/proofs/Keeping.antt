@@ -1,4 +1,5 @@
 -- What a refill does to solidity, to the masks and to a fresh count; so what is kept stays kept. Assumes nothing.
+use Rattle.std.specs.Prelude.{Ok}
 use Prim.Native.Nat.{ℕ, ◌+◌, ◌*◌, ◌/◌, ◌%◌, ◌≤◌, ◌<◌}
 use native.Mathlib.Nat.{lt_of_lt_of_le, mul-le-mul_right}
 use native.Mathlib.Omega.{arith}
@@ -11,7 +12,6 @@ use lib.ListN.{length, get_or}
 use borrow.Author.Tests.{ltb-true, ltb-false, le-ltb, eq-eqb, eqb-true, not-false}
 use Rattle.cells.specs.declared.Counts.{Counts}
 use Rattle.cells.proofs.Touching.{and_both}
-use Rattle.cells.specs.declared.Verdict.TheVariants.{Fine}
 use Rattle.grids.specs.Grid.{shape, size, index, solid}
 use Rattle.grids.specs.Inside.{Shaped}
 use Rattle.grids.proofs.Any.{not_so, or_neither, any_none, any_false}
@@ -171,7 +171,7 @@ module _ (n : Counts) (lo hi : Slot) (l m : List ℕ) (total : ℕ) (h : Kept n 
   unfolding remasked
   kept_refilled byte =
       record {
-        grid = subst (λ (t : ℕ). shape n t ≡ Fine) (sym (refilled_long n lo hi byte l s)) h.grid;
+        grid = subst (λ (t : ℕ). shape n t ≡ Ok tt) (sym (refilled_long n lo hi byte l s)) h.grid;
         room = subst (λ (t : ℕ). size (bricks n) ≤ t) (sym (put_long (bricks n) (brick_of lo) (brick_of hi) (mask_at n l') m)) h.room;
         each = λ k lt. each k lt (holds_named n lo hi k) refl;
         fresh =

@@ -1,5 +1,7 @@
 -- SCOPE K5, K7, R13, R14, O9: a box is refilled with one byte, the masks of its bricks are made anew, and the total moves as their ones do; and
 -- what is refused. A set is the refill of one cell. Assumes nothing.
+use Rattle.std.specs.Prelude.{Ok, Err, Result}
+use Rattle.cells.specs.declared.Refusal.{Refusal}
 use Rattle.std.specs.Prelude.{ℕ, ◌+◌, ◌-◌, ◌*◌, ◌≡◌, Bool, not, ◌&&◌, ◌||◌, List, ltb, eqb, length, get_or}
 use Rattle.std.specs.Int.Count.{ones}
 use Rattle.std.specs.Int.Signed.{lt_z}
@@ -7,12 +9,11 @@ use Rattle.cells.specs.declared.Cell.{Cell}
 use Rattle.cells.specs.declared.Counts.{Counts}
 use Rattle.cells.specs.declared.End.TheVariants.{P, Q}
 use Rattle.cells.specs.declared.Refusal.TheVariants.{Stale, Corners}
-use Rattle.cells.specs.declared.Verdict.{Verdict}
+use Rattle.cells.specs.Checks.{Verdict}
 use Rattle.cells.specs.Checks.{refuse_when, ◌then◌, by_verdict}
 use Rattle.grids.specs.Grid.{size}
 use Rattle.grids.specs.Inside.{grid_check}
 use Rattle.grids.specs.Marks.{any}
-use Rattle.bricks.specs.declared.Tally.{Tally}
 use Rattle.bricks.specs.Sums.{sum, digit}
 use Rattle.bricks.specs.Bricks.{bricks, mask_at}
 use Rattle.bricks.specs.Builds.{bricks_check}
@@ -77,16 +78,16 @@ abbrev pub stale_check : Counts → Slot → Slot → List ℕ → List ℕ → 
 stale_check n lo hi l m total = refuse_when (stale n lo hi l m total) Stale
 
 -- ---- one answer and one final memory, by the verdict on the inputs; refused, bytes and masks as they were
-pub record Changes (v : Verdict) (n : Counts) (lo hi : Slot) (byte : ℕ) (l m : List ℕ) (total : ℕ) (r : Tally) (l' m' : List ℕ) : Type 0 where
-  pub says : r ≡ by_verdict Tally.Refused (Tally.Total (moved n lo hi m (remasked n lo hi (refilled n lo hi byte l) m) total)) v
+pub record Changes (v : Verdict) (n : Counts) (lo hi : Slot) (byte : ℕ) (l m : List ℕ) (total : ℕ) (r : Result ℕ Refusal) (l' m' : List ℕ) : Type 0 where
+  pub says : r ≡ by_verdict Err (Ok (moved n lo hi m (remasked n lo hi (refilled n lo hi byte l) m) total)) v
   pub bytes : l' ≡ by_verdict (λ r. l) (refilled n lo hi byte l) v
   pub masks : m' ≡ by_verdict (λ r. m) (remasked n lo hi (refilled n lo hi byte l) m) v
 
 -- the contracts of the two calls: all refusals, 13 last
-abbrev pub Refills : Counts → Cell → Cell → ℕ → List ℕ → List ℕ → ℕ → Tally → List ℕ → List ℕ → Type 0
+abbrev pub Refills : Counts → Cell → Cell → ℕ → List ℕ → List ℕ → ℕ → Result ℕ Refusal → List ℕ → List ℕ → Type 0
 Refills n low high byte l m total =
     Changes (box_check n (length l) (length m) low high then stale_check n (corner low) (corner high) l m total) n (corner low)
     (corner high) byte l m total
 
-abbrev pub Sets : Counts → Cell → ℕ → List ℕ → List ℕ → ℕ → Tally → List ℕ → List ℕ → Type 0
+abbrev pub Sets : Counts → Cell → ℕ → List ℕ → List ℕ → ℕ → Result ℕ Refusal → List ℕ → List ℕ → Type 0
 Sets n cell = Refills n cell cell

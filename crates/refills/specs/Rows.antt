@@ -1,17 +1,16 @@
 -- How the code goes through a box: rows along x, first in y, then in z. Words for the contracts of its inner functions; no promise rests on this
 -- file. Assumes nothing.
+use Rattle.std.specs.Prelude.{Result, Some, None, Option}
+use Rattle.cells.specs.declared.Refusal.{Refusal}
 use Rattle.std.specs.Prelude.{ℕ, ◌+◌, ◌-◌, ◌*◌, ◌/◌, ◌%◌, ◌≤◌, ◌<◌, ◌≡◌, Bool, true, false, ◌&&◌, List, length, get_or, pos, nat_abs}
 use Rattle.std.specs.Int.Count.{ones}
 use Rattle.cells.specs.declared.Cell.{Cell}
 use Rattle.cells.specs.declared.Counts.{Counts}
 use Rattle.grids.specs.Grid.{size, index}
 use Rattle.grids.specs.Marks.{any}
-use Rattle.bricks.specs.declared.Tally.{Tally}
 use Rattle.bricks.specs.Sums.{sum}
 use Rattle.bricks.specs.Bricks.{bricks, mask_at}
 use Rattle.bricks.specs.declared.Slot.{Slot}
-use Rattle.refills.specs.declared.Agreed.{Agreed}
-use Rattle.refills.specs.declared.Agreed.TheVariants.{Ones, Differs}
 use Rattle.refills.specs.Boxes.{in_box_at}
 use Rattle.refills.specs.Refills.{differs, stale_check, Changes}
 
@@ -69,19 +68,19 @@ unfolding sum
 box_sum n lo hi g r = sum (λ j. sum (λ i. g (row_start n lo hi j + i)) (wide lo hi)) r
 
 -- masks that are not all those of the bytes, or their ones
-abbrev pub agreed : Bool → ℕ → Agreed
-agreed true t = Differs
-agreed false t = Ones t
+abbrev pub agreed : Bool → ℕ → Option ℕ
+agreed true t = None
+agreed false t = Some t
 
 -- so of as many masks from number `from` on, and of those of a box of bricks
-abbrev pub row_agreed : Counts → (from long : ℕ) (l m : List ℕ) → Agreed
+abbrev pub row_agreed : Counts → (from long : ℕ) (l m : List ℕ) → Option ℕ
 row_agreed n from long l m = agreed (any (λ i. differs n l m (from + i)) long) (sum (λ i. ones (mask_at n l (from + i))) long)
 
-abbrev pub box_agreed : Counts → Slot → Slot → (l m : List ℕ) → Agreed
+abbrev pub box_agreed : Counts → Slot → Slot → (l m : List ℕ) → Option ℕ
 box_agreed n lo hi l m =
     agreed (any (λ k. in_box_at (bricks n) lo hi k && differs n l m k) (size (bricks n)))
     (box_sum (bricks n) lo hi (λ k. ones (mask_at n l k)) (rows lo hi))
 
 -- what a refill does once its corners are tested: 13, or the change
-abbrev pub Looked : Counts → Slot → Slot → ℕ → (l m : List ℕ) → ℕ → Tally → (l' m' : List ℕ) → Type 0
+abbrev pub Looked : Counts → Slot → Slot → ℕ → (l m : List ℕ) → ℕ → Result ℕ Refusal → (l' m' : List ℕ) → Type 0
 Looked n lo hi byte l m total = Changes (stale_check n lo hi l m total) n lo hi byte l m total

@@ -1,10 +1,10 @@
 -- A call that passed its tests has a route between two cells of the grid. Assumes nothing.
+use Rattle.std.specs.Prelude.{Ok}
 use mathlib.Core.Path.{◌≡◌, sym, ap, ap₂, ◌∙◌, subst}
 use Prim.Native.Nat.{ℕ}
 use Rattle.cells.specs.declared.Cell.{Cell}
 use Rattle.cells.specs.declared.Counts.{Counts}
 use Rattle.cells.specs.declared.Rule.{Rule}
-use Rattle.cells.specs.declared.Verdict.TheVariants.{Fine}
 use Rattle.lines.specs.declared.Order.{Order}
 use Rattle.lines.specs.Preference.{order_of}
 use Rattle.lines.specs.Lines.{differences}
@@ -16,7 +16,7 @@ use Rattle.grids.proofs.Inside.{accepted}
 use Rattle.routes.specs.declared.Route.{Route}
 use Rattle.routes.specs.Route.{strides, RouteOf, Planned}
 
-module _ (n : Counts) (bytes : ℕ) (p q : Cell) (fine : walk_check n bytes p q ≡ Fine) where
+module _ (n : Counts) (bytes : ℕ) (p q : Cell) (fine : walk_check n bytes p q ≡ Ok tt) where
   has_shape : Shaped n bytes
   has_shape = shaped n bytes (accepted n bytes p q fine).shaped
 

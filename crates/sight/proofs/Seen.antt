@@ -1,4 +1,6 @@
 -- The sight answer from what is computed on the way: the two lookups f and t, and what the walk h says. Assumes nothing.
+use Rattle.std.specs.Prelude.{Ok, Err, Result}
+use Rattle.cells.specs.declared.Cell.{Cell}
 use Prim.Native.Nat.{ℕ}
 use mathlib.Core.Path.{◌≡◌, refl, sym, ap, ap₂, ◌∙◌}
 use mathlib.Core.List.{List}
@@ -13,11 +15,9 @@ use Rattle.grids.specs.Grid.{shape}
 use Rattle.walks.specs.declared.Walker.TheVariants.{Adaptive}
 use Rattle.walks.specs.declared.FirstHit.{FirstHit}
 use Rattle.walks.specs.Answers.{first_hit}
-use Rattle.survey.specs.declared.Lookup.{Lookup}
 use Rattle.survey.specs.declared.Placement.{Placement}
 use Rattle.survey.specs.declared.Point.{Point}
 use Rattle.survey.specs.Survey.{placement_check, look_up}
-use Rattle.sight.specs.declared.Sight.TheVariants.{Refused}
 use Rattle.sight.specs.Sight.{sight_of, seen, looked, sight}
 
 module _ (how : Manner) (n : Counts) (l : List ℕ) (at : Placement) (camera ball : Point) where
@@ -25,21 +25,21 @@ module _ (how : Manner) (n : Counts) (l : List ℕ) (at : Placement) (camera bal
   unfolding looked
   looked_is = refl
 
-  pub sight_is : sight how n l at camera ball ≡ by_verdict Refused (looked how n l at camera ball) (shape n (length l) then placement_check at)
+  pub sight_is : sight how n l at camera ball ≡ by_verdict Err (looked how n l at camera ball) (shape n (length l) then placement_check at)
   unfolding sight
   sight_is = refl
 
-  from_lookups : {f t u v : Lookup} → f ≡ look_up P n at camera → f ≡ u → t ≡ look_up Q n at ball → t ≡ v → looked how n l at camera ball ≡ seen how n l u v
+  from_lookups : {f t u v : (Result Cell Refusal)} → f ≡ look_up P n at camera → f ≡ u → t ≡ look_up Q n at ball → t ≡ v → looked how n l at camera ball ≡ seen how n l u v
   from_lookups hf f-is ht t-is = looked_is ∙ ap₂ (seen how n l) (sym hf ∙ f-is) (sym ht ∙ t-is)
 
-  pub camera_refused : {f : Lookup} {r : Refusal} → f ≡ look_up P n at camera → f ≡ Lookup.Refused r → looked how n l at camera ball ≡ Refused r
+  pub camera_refused : {f : (Result Cell Refusal)} {r : Refusal} → f ≡ look_up P n at camera → f ≡ Err r → looked how n l at camera ball ≡ Err r
   camera_refused hf f-is = from_lookups hf f-is refl refl
 
-  pub ball_refused : {f t : Lookup} {c : cell.Cell} {r : Refusal} →
-      f ≡ look_up P n at camera → f ≡ Lookup.Cell c → t ≡ look_up Q n at ball → t ≡ Lookup.Refused r → looked how n l at camera ball ≡ Refused r
+  pub ball_refused : {f t : (Result Cell Refusal)} {c : cell.Cell} {r : Refusal} →
+      f ≡ look_up P n at camera → f ≡ Ok c → t ≡ look_up Q n at ball → t ≡ Err r → looked how n l at camera ball ≡ Err r
   ball_refused hf f-is ht t-is = from_lookups hf f-is ht t-is
 
-  pub both_found : {f t : Lookup} {c b : cell.Cell} {h : FirstHit} →
-      f ≡ look_up P n at camera → f ≡ Lookup.Cell c → t ≡ look_up Q n at ball → t ≡ Lookup.Cell b → h ≡ first_hit Adaptive how n l c b →
+  pub both_found : {f t : (Result Cell Refusal)} {c b : cell.Cell} {h : (Result FirstHit Refusal)} →
+      f ≡ look_up P n at camera → f ≡ Ok c → t ≡ look_up Q n at ball → t ≡ Ok b → h ≡ first_hit Adaptive how n l c b →
       looked how n l at camera ball ≡ sight_of h
   both_found hf f-is ht t-is h-is = from_lookups hf f-is ht t-is ∙ ap sight_of (sym h-is)

@@ -1,4 +1,5 @@
 -- Two cells that were looked up lie in the grid, so a walk between them passes its tests. Assumes nothing.
+use Rattle.std.specs.Prelude.{Ok}
 use Prim.Native.Nat.{ℕ, ◌<◌}
 use native.Mathlib.Omega.{arith}
 use mathlib.Core.Path.{◌≡◌, sym, subst}
@@ -10,13 +11,11 @@ use Rattle.cells.specs.declared.Cell as cell
 use Rattle.cells.specs.declared.Counts.{Counts}
 use Rattle.cells.specs.declared.End.{End}
 use Rattle.cells.specs.declared.End.TheVariants.{P, Q}
-use Rattle.cells.specs.declared.Verdict.TheVariants.{Fine}
 use Rattle.cells.specs.Touching.{on}
 use Rattle.cells.proofs.Signed.{le_lt_z, lt_le_z}
 use Rattle.grids.specs.Grid.{shape}
 use Rattle.grids.specs.Inside.{off_axis, walk_check, count_on, InGrid}
 use Rattle.grids.proofs.Inside.{walk_fine}
-use Rattle.survey.specs.declared.Lookup.TheVariants.{Cell}
 use Rattle.survey.specs.declared.Placement.{Placement}
 use Rattle.survey.specs.declared.Point.{Point}
 use Rattle.survey.specs.Survey.{PlacedGrid, quotients, cell_at, look_up}
@@ -36,10 +35,10 @@ inside_grid n q h = record { inside = on_axis }
     on_axis Y = number_on _ n.ny (number_in n.ny q.y h.y).0
     on_axis Z = number_on _ n.nz (number_in n.nz q.z h.z).0
 
-looked_in : (e : End) (n : Counts) (at : Placement) (p : Point) (c : cell.Cell) → PlacedGrid n at → look_up e n at p ≡ Cell c → InGrid n c
+looked_in : (e : End) (n : Counts) (at : Placement) (p : Point) (c : cell.Cell) → PlacedGrid n at → look_up e n at p ≡ Ok c → InGrid n c
 looked_in e n at p c tested found = let (inside, is) = look_given e n at p c tested found in subst (InGrid n) (sym is) (inside_grid n (quotients at p) inside)
 
-pub walkable : (n : Counts) (bytes : ℕ) (at : Placement) (camera ball : Point) (c b : cell.Cell) → shape n bytes ≡ Fine → PlacedGrid n at →
-    look_up P n at camera ≡ Cell c → look_up Q n at ball ≡ Cell b → walk_check n bytes c b ≡ Fine
+pub walkable : (n : Counts) (bytes : ℕ) (at : Placement) (camera ball : Point) (c b : cell.Cell) → shape n bytes ≡ Ok tt → PlacedGrid n at →
+    look_up P n at camera ≡ Ok c → look_up Q n at ball ≡ Ok b → walk_check n bytes c b ≡ Ok tt
 walkable n bytes at camera ball c b shaped tested from to =
     walk_fine n bytes c b (record { shaped = shaped; p_in = looked_in P n at camera c tested from; q_in = looked_in Q n at ball b tested to })

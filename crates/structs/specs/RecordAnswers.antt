@@ -1,4 +1,5 @@
 -- How the answers of reading and writing a record are flattened for C: what SCOPE says of them, as numbers. Assumes nothing.
+use Rattle.std.specs.Prelude.{Ok, Err}
 use Rattle.std.specs.Prelude.{ℕ, pos}
 use Rattle.cells.specs.declared.Rule.{Rule}
 use Rattle.cells.specs.declared.Rule.TheVariants.{One, Two}
@@ -11,9 +12,9 @@ use Rattle.records.specs.declared.writing.Written.{Written}
 use Rattle.structs.specs.Refusals.{accepted, flat_refusal}
 
 abbrev pub flat_venue : VenueRead → OatVenue
-flat_venue (VenueRead.Read v) =
+flat_venue (Ok v) =
     record { said = accepted; nx = v.counts.nx; ny = v.counts.ny; nz = v.counts.nz; offset = v.start; length = v.long }
-flat_venue (VenueRead.Refused r) =
+flat_venue (Err r) =
     record {
       said = flat_refusal r;
       nx = 0;
@@ -29,7 +30,7 @@ rule_number One = 1
 rule_number Two = 2
 
 abbrev pub flat_pair : PairRead → OatPair
-flat_pair (PairRead.Read e) =
+flat_pair (Ok e) =
     record {
       said = accepted;
       px = e.p.x;
@@ -40,7 +41,7 @@ flat_pair (PairRead.Read e) =
       qz = e.q.z;
       rule = rule_number e.rule;
     }
-flat_pair (PairRead.Refused r) =
+flat_pair (Err r) =
     record {
       said = flat_refusal r;
       px = pos 0;
@@ -53,5 +54,5 @@ flat_pair (PairRead.Refused r) =
     }
 
 abbrev pub flat_written : Written → OatWritten
-flat_written (Written.Wrote many) = record { said = accepted; written = many }
-flat_written (Written.Refused r) = record { said = flat_refusal r; written = 0 }
+flat_written (Ok many) = record { said = accepted; written = many }
+flat_written (Err r) = record { said = flat_refusal r; written = 0 }

@@ -1,17 +1,19 @@
 -- How a point's cell and the sight answer are flattened for C: what SCOPE says of them, as numbers. Assumes nothing.
+use Rattle.std.specs.Prelude.{Ok, Err, Result, Some, None, Option}
+use Rattle.cells.specs.declared.Refusal.{Refusal}
+use Rattle.sight.specs.declared.Block.{Block}
+use Rattle.cells.specs.declared.Cell.{Cell}
 use Rattle.std.specs.Prelude.{pos}
 use Rattle.structs.specs.declared.refusals.OatSaid.{OatSaid}
 use Rattle.structs.specs.declared.sight_answers.OatFound.{OatFound}
-use Rattle.survey.specs.declared.Lookup.{Lookup}
-use Rattle.sight.specs.declared.Sight.{Sight}
 use Rattle.structs.specs.declared.sight_answers.OatSight.{OatSight}
 use Rattle.survey.specs.Quotient.{as_f64}
 use Rattle.structs.specs.Refusals.{accepted, flat_refusal}
 use Rattle.structs.specs.Faces.{face_number}
 
-abbrev pub flat_found : Lookup → OatFound
-flat_found (Lookup.Cell c) = record { said = accepted; x = c.x; y = c.y; z = c.z }
-flat_found (Lookup.Refused r) = record { said = flat_refusal r; x = pos 0; y = pos 0; z = pos 0 }
+abbrev pub flat_found : Result Cell Refusal → OatFound
+flat_found (Ok c) = record { said = accepted; x = c.x; y = c.y; z = c.z }
+flat_found (Err r) = record { said = flat_refusal r; x = pos 0; y = pos 0; z = pos 0 }
 
 -- a sight with nothing in the way, or that was refused
 abbrev pub unblocked : OatSaid → OatSight
@@ -29,8 +31,8 @@ unblocked said =
     }
 
 -- a sight: blocked 1 where something is in the way, 0 where it is clear
-abbrev pub flat_sight : Sight → OatSight
-flat_sight (Sight.Blocked b) =
+abbrev pub flat_sight : Result (Option Block) Refusal → OatSight
+flat_sight (Ok (Some b)) =
     record {
       said = accepted;
       blocked = 1;
@@ -42,5 +44,5 @@ flat_sight (Sight.Blocked b) =
       reads = b.reads;
       face = face_number b.face;
     }
-flat_sight Sight.Clear = unblocked accepted
-flat_sight (Sight.Refused r) = unblocked (flat_refusal r)
+flat_sight (Ok None) = unblocked accepted
+flat_sight (Err r) = unblocked (flat_refusal r)

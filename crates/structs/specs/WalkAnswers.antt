@@ -1,4 +1,6 @@
 -- How the answer of a first-hit call is flattened for C: what SCOPE says of it, as numbers. Assumes nothing.
+use Rattle.std.specs.Prelude.{Ok, Err, Result}
+use Rattle.cells.specs.declared.Refusal.{Refusal}
 use Rattle.std.specs.Prelude.{ℕ, pos}
 use Rattle.walks.specs.declared.FirstHit.{FirstHit}
 use Rattle.structs.specs.declared.refusals.OatSaid.{OatSaid}
@@ -23,8 +25,8 @@ no_hit said many =
     }
 
 -- a walk: hit 1 where it hit, 0 where it is clear
-abbrev pub flat_hit : FirstHit → OatHit
-flat_hit (FirstHit.Hit h) =
+abbrev pub flat_hit : Result FirstHit Refusal → OatHit
+flat_hit (Ok (FirstHit.Hit h)) =
     record {
       said = accepted;
       hit = 1;
@@ -37,5 +39,5 @@ flat_hit (FirstHit.Hit h) =
       face = face_number h.place.face;
       reads = h.reads;
     }
-flat_hit (FirstHit.Clear many) = no_hit accepted many
-flat_hit (FirstHit.Refused r) = no_hit (flat_refusal r) 0
+flat_hit (Ok (FirstHit.Clear many)) = no_hit accepted many
+flat_hit (Err r) = no_hit (flat_refusal r) 0

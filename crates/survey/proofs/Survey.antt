@@ -1,5 +1,6 @@
 -- What passed tests tell: counts from 1 to 1,024, a finite placement with an edge above 0, and so quotients from 0 up to the counts.
 -- Assumes nothing.
+use Rattle.std.specs.Prelude.{Ok}
 use Prim.Native.Nat.{ℕ}
 use native.Mathlib.Omega.{arith}
 use mathlib.Core.Path.{◌≡◌}
@@ -12,7 +13,6 @@ use Rattle.cells.specs.declared.End.{End}
 use Rattle.cells.specs.declared.Counts.{Counts}
 use Rattle.cells.specs.declared.Axis.TheVariants.{X, Y, Z}
 use Rattle.cells.specs.declared.Refusal.{Refusal}
-use Rattle.cells.specs.declared.Verdict.TheVariants.{Fine}
 use Rattle.cells.specs.Checks.{refuse_when}
 use Rattle.cells.proofs.Checks.{each_fine, passed}
 use Rattle.grids.specs.Inside.{Good}
@@ -36,10 +36,10 @@ pub record Placed (at : Placement) : Type 0 where
   pub edge : finite at.edge ≡ true
   pub above : lt (as_f64 0) at.edge ≡ true
 
-finite_passed : (b : Bool) (r : Refusal) → refuse_when (not b) r ≡ Fine → b ≡ true
+finite_passed : (b : Bool) (r : Refusal) → refuse_when (not b) r ≡ Ok tt → b ≡ true
 finite_passed b r h = not-false b (passed (not b) r h)
 
-pub placed : (at : Placement) → placement_check at ≡ Fine → Placed at
+pub placed : (at : Placement) → placement_check at ≡ Ok tt → Placed at
 unfolding placement_check
 placed at h =
     let (x, rest) = each_fine _ _ h in
@@ -51,14 +51,14 @@ placed at h =
 -- ---- a point
 
 value_inside : (e : End) (a : Axis) (count : ℕ) (value origin edge : Float) → Good count → finite origin ≡ true → finite edge ≡ true
-    → lt (as_f64 0) edge ≡ true → value_check e a count value (quotient value origin edge) ≡ Fine → Inside count (quotient value origin edge)
+    → lt (as_f64 0) edge ≡ true → value_check e a count value (quotient value origin edge) ≡ Ok tt → Inside count (quotient value origin edge)
 value_inside e a count value origin edge range o f up h =
     let (finite, within) = each_fine _ _ h in
     let number = quotient_no_nan value origin edge (finite_passed _ _ finite) o f up in
     let inside = passed _ _ within in
     record { some = range.some; small = range.most; from = at_least _ 0 (omega arith) number (not_outside count _ inside).0; within = inside }
 
-pub point_inside : (e : End) (n : Counts) (at : Placement) (p : Point) → PlacedGrid n at → point_check e n p (quotients at p) ≡ Fine →
+pub point_inside : (e : End) (n : Counts) (at : Placement) (p : Point) → PlacedGrid n at → point_check e n p (quotients at p) ≡ Ok tt →
     AllInside n (quotients at p)
 unfolding point_check
 point_inside e n at p t h =
@@ -73,11 +73,11 @@ point_inside e n at p t h =
     }
 
 -- the other way: finite values that are not outside pass
-pub value_fine : (e : End) (a : Axis) (count : ℕ) (value q : Float) → finite value ≡ true → outside count q ≡ false → value_check e a count value q ≡ Fine
+pub value_fine : (e : End) (a : Axis) (count : ℕ) (value q : Float) → finite value ≡ true → outside count q ≡ false → value_check e a count value q ≡ Ok tt
 value_fine e a count value q f o = rw (f, o)
 
 pub point_fine : (e : End) (n : Counts) (p q : Point) → finite p.x ≡ true → finite p.y ≡ true → finite p.z ≡ true
-    → outside n.nx q.x ≡ false → outside n.ny q.y ≡ false → outside n.nz q.z ≡ false → point_check e n p q ≡ Fine
+    → outside n.nx q.x ≡ false → outside n.ny q.y ≡ false → outside n.nz q.z ≡ false → point_check e n p q ≡ Ok tt
 unfolding point_check
 point_fine e n p q fx fy fz ox oy oz =
     rw (value_fine e X n.nx p.x q.x fx ox, value_fine e Y n.ny p.y q.y fy oy, value_fine e Z n.nz p.z q.z fz oz)

@@ -1,4 +1,7 @@
 -- SCOPE, S: placement and surveyed point, their refusals in order, and the cell of a point. Assumes nothing.
+use Rattle.std.specs.Prelude.{Ok, Err, Result}
+use Rattle.cells.specs.declared.Refusal.{Refusal}
+use Rattle.cells.specs.declared.Cell.{Cell}
 use Rattle.std.specs.Prelude.{ℕ, ◌≡◌, Bool, not, ◌||◌, ◌⊎◌, pos, Float}
 use Rattle.std.proofs.Common.{inl, inr}
 use Rattle.std.specs.Float.Ieee.{lt}
@@ -11,15 +14,12 @@ use Rattle.cells.specs.declared.Cell as cell
 use Rattle.cells.specs.declared.Counts.{Counts}
 use Rattle.cells.specs.declared.Part.TheVariants.{OriginX, OriginY, OriginZ, Edge}
 use Rattle.cells.specs.declared.Refusal.TheVariants as Refusal
-use Rattle.cells.specs.declared.Verdict.{Verdict}
-use Rattle.cells.specs.declared.Verdict.TheVariants.{Fine}
+use Rattle.cells.specs.Checks.{Verdict}
 use Rattle.cells.specs.Checks.{refuse_when, ◌then◌, by_verdict}
 use Rattle.cells.specs.Refusals.{Told, told}
 pub use Rattle.grids.specs.Grid.{count_check}
 use Rattle.survey.specs.declared.Placement.{Placement}
 use Rattle.survey.specs.declared.Point.{Point}
-use Rattle.survey.specs.declared.Lookup.{Lookup}
-use Rattle.survey.specs.declared.Lookup.TheVariants.{Cell, Refused}
 use Rattle.survey.specs.Quotient.{as_f64, quotient, outside, cell_number}
 
 -- SCOPE R7: an edge that no cell has
@@ -36,8 +36,8 @@ placement_check at =
 
 -- counts and placement passed their tests
 pub record PlacedGrid (n : Counts) (at : Placement) : Type 0 where
-  pub counts : count_check n ≡ Fine
-  pub placed : placement_check at ≡ Fine
+  pub counts : count_check n ≡ Ok tt
+  pub placed : placement_check at ≡ Ok tt
 
 -- the quotients of a point on the three axes: where it lies, in cells from the origin
 abbrev pub quotients : Placement → Point → Point
@@ -64,20 +64,20 @@ abbrev pub cell_at : Counts → Point → cell.Cell
 cell_at n q = record { x = pos (cell_number n.nx q.x); y = pos (cell_number n.ny q.y); z = pos (cell_number n.nz q.z) }
 
 -- the lookup of an end's point, counts and placement being tested
-unfoldable pub look_up : End → Counts → Placement → Point → Lookup
+unfoldable pub look_up : End → Counts → Placement → Point → Result Cell Refusal
 unfolding point_check cell_number
-look_up e n at p = by_verdict Refused (Cell (cell_at n (quotients at p))) (point_check e n p (quotients at p))
+look_up e n at p = by_verdict Err (Ok (cell_at n (quotients at p))) (point_check e n p (quotients at p))
 
 -- SCOPE S7, O5: the cell of a point alone; counts and placement are tested first, and the point as P
-unfoldable pub cell_of : Counts → Placement → Point → Lookup
+unfoldable pub cell_of : Counts → Placement → Point → Result Cell Refusal
 unfolding count_check placement_check look_up
-cell_of n at p = by_verdict Refused (look_up P n at p) (count_check n then placement_check at)
+cell_of n at p = by_verdict Err (look_up P n at p) (count_check n then placement_check at)
 
 -- the contract of the call
-pub record LooksUp (n : Counts) (at : Placement) (p : Point) (r : Lookup) : Type 0 where
+pub record LooksUp (n : Counts) (at : Placement) (p : Point) (r : Result Cell Refusal) : Type 0 where
   pub says : r ≡ cell_of n at p
 
 -- each case of the answer: what is said of a refusal, or the cell
-abbrev pub told_lookup : Lookup → Told ⊎ cell.Cell
-told_lookup (Refused r) = inl (told r)
-told_lookup (Cell c) = inr c
+abbrev pub told_lookup : Result Cell Refusal → Told ⊎ cell.Cell
+told_lookup (Err r) = inl (told r)
+told_lookup (Ok c) = inr c

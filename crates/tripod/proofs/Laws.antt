@@ -25,7 +25,7 @@ use Rattle.lines.proofs.Centres.{longest_most, moved_grows, moved_by_one, moved_
 use Rattle.lines.proofs.Signs.{figure_6_is_next, shift_most, stays_small, first_longest, second_longest}
 use Rattle.lines.proofs.TieSigns.{tie_by_signs_is}
 use Rattle.tripod.specs.declared.Diffs.{Diffs}
-use Rattle.tripod.specs.declared.Moves.{Moves}
+use Rattle.cells.specs.declared.Each.{Each}
 use Rattle.tripod.specs.Tripod.{steps, Short, SmallTripod, SmallDoubled, NextFace, NextTie, LongMoves, bit, moves_on}
 
 -- ---- coordinates
@@ -153,7 +153,7 @@ module _ (D : Steps) (m : ℕ) (lt : m < longest D) where
       moves_bit (le_z (decision D (place_26 D m) b a) (pos (D b))) D m b lt (λ t. i.1 (k.0 t), λ e. k.1 (i.0 e))
 
 -- the tests of a long step, the longest axis being a
-abbrev pub by_long : Axis → Steps → Tripod → Moves
+abbrev pub by_long : Axis → Steps → Tripod → Each Bool
 by_long X D e = record { x = true; y = le_z (pos 0) (e.xy +ℤ pos (D Y)); z = le_z (pos 0) (e.xz +ℤ pos (D Z)) }
 by_long Y D e = record { x = le_z e.xy (pos (D X)); y = true; z = le_z e.zy (pos (D Z)) }
 by_long Z D e = record { x = le_z e.xz (pos (D X)); y = le_z (pos 0) (e.zy +ℤ pos (D Y)); z = true }

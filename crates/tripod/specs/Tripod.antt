@@ -12,7 +12,7 @@ use Rattle.lines.specs.Touching.{next_tie}
 use Rattle.lines.specs.Lines.{centres, longest, place_26}
 use Rattle.lines.specs.Decisions.{values, lowered}
 use Rattle.tripod.specs.declared.Diffs.{Diffs}
-use Rattle.tripod.specs.declared.Moves.{Moves}
+use Rattle.cells.specs.declared.Each.{Each}
 
 -- the differences by axis
 abbrev pub steps : Diffs → Steps
@@ -49,11 +49,11 @@ abbrev pub bit : Bool → ℕ
 bit true = 1
 bit false = 0
 
-abbrev pub moves_on : Moves → Steps
+abbrev pub moves_on : Each Bool → Steps
 moves_on m X = bit m.x
 moves_on m Y = bit m.y
 moves_on m Z = bit m.z
 
 -- where e are the values at 26-line cell m, which is not the last, r are the moves to cell m + 1
-pub record LongMoves (D : Steps) (e : Tripod) (r : Moves) : Type 0 where
+pub record LongMoves (D : Steps) (e : Tripod) (r : Each Bool) : Type 0 where
   pub go_on : (m : ℕ) → m < longest D → e ≡ values D (place_26 D m) → (a : Axis) → place_26 D (m + 1) a ≡ place_26 D m a + moves_on r a

@@ -7,11 +7,11 @@ ghost use Rattle.std.specs.Prelude.{◌≡◌, ◌≤◌, true};
 ghost use Rattle.cells.specs.Touching.{apart};
 ghost use Rattle.lines.specs.Steps.{at, total};
 ghost use Rattle.lines.specs.Lines.{differences, longest, in_limit, InLimit};
-ghost use Rattle.lines.specs.Preference.{below, comes_before, order_of};
+ghost use Rattle.lines.specs.Preference.{comes_before, order_of};
 ghost use Rattle.lines.specs.Decisions.{values, doubled, moved_values, shift, lowered, raised};
 ghost use Rattle.tripod.specs.Tripod.{steps, Short, SmallTripod, SmallDoubled, NextFace, NextTie, LongMoves};
 
-use cells::{Axis, Cell, Rule};
+use cells::{Axis, Cell, Each, Rule};
 use lines::{Doubled, Order, Tie, Tripod};
 
 // The differences of a line's ends.
@@ -20,14 +20,6 @@ pub struct Diffs {
     pub a: u32,
     pub b: u32,
     pub c: u32,
-}
-
-// The axes that a long step moves along.
-#[derive(Clone, Copy)]
-pub struct Moves {
-    pub x: bool,
-    pub y: bool,
-    pub z: bool,
 }
 
 impl Diffs {
@@ -48,8 +40,10 @@ impl Diffs {
     {
         if self.a < self.b {
             if self.b < self.c { Axis::Z } else { Axis::Y }
+        } else if self.a < self.c {
+            Axis::Z
         } else {
-            if self.a < self.c { Axis::Z } else { Axis::X }
+            Axis::X
         }
     }
 
@@ -57,11 +51,7 @@ impl Diffs {
     pub fn longest(self) -> u32
         ensures { result ≡ longest (steps self) }
     {
-        if self.a < self.b {
-            if self.b < self.c { self.c } else { self.b }
-        } else {
-            if self.a < self.c { self.c } else { self.a }
-        }
+        self.a.max(self.b).max(self.c)
     }
 
     // Their sum.
@@ -78,11 +68,7 @@ pub fn difference(p: i32, q: i32) -> u32
     requires { (in_limit p ≡ true) × (in_limit q ≡ true) }
     ensures { result ≡ apart p q }
 {
-    if p < q {
-        (q - p) as u32
-    } else {
-        (p - q) as u32
-    }
+    p.abs_diff(q)
 }
 
 // The differences of two ends within the coordinate limit.
@@ -93,23 +79,14 @@ pub fn measured(p: Cell, q: Cell) -> Diffs
     let a = difference(p.x, q.x);
     let b = difference(p.y, q.y);
     let c = difference(p.z, q.z);
-    Diffs { a: a, b: b, c: c }
-}
-
-// Whether p is below q; where they are equal, `after` decides.
-fn below(p: i32, q: i32, after: bool) -> bool
-    ensures { result ≡ below p q after }
-{
-    if p == q { after } else { p < q }
+    Diffs { a, b, c }
 }
 
 // Whether p comes before q in the order z, then y, then x.
 fn comes_before(p: Cell, q: Cell) -> bool
     ensures { result ≡ comes_before p q }
 {
-    let by_x = below(p.x, q.x, false);
-    let by_y = below(p.y, q.y, by_x);
-    below(p.z, q.z, by_y)
+    (p.z, p.y, p.x) < (q.z, q.y, q.x)
 }
 
 // The order of the axes in the ties of the line from p to q.
@@ -118,13 +95,8 @@ pub fn order_of(rule: Rule, p: Cell, q: Cell) -> Order
 {
     match rule {
         Rule::One => Order::Yzx,
-        Rule::Two => {
-            if comes_before(q, p) {
-                Order::Xzy
-            } else {
-                Order::Yzx
-            }
-        }
+        Rule::Two if comes_before(q, p) => Order::Xzy,
+        Rule::Two => Order::Yzx,
     }
 }
 
@@ -187,11 +159,7 @@ pub fn twice(d: Diffs) -> Doubled
     let a2 = (2 * d.a) as i32;
     let b2 = (2 * d.b) as i32;
     let c2 = (2 * d.c) as i32;
-    Doubled {
-        a2: a2,
-        b2: b2,
-        c2: c2,
-    }
+    Doubled { a2, b2, c2 }
 }
 
 // The axis of the next face: at a place that is not the end, the crossing that comes first.
@@ -243,54 +211,48 @@ pub fn moved(e: Tripod, d: Doubled, n: Axis) -> Tripod
     requires { SmallTripod e × SmallDoubled d }
     ensures { result ≡ moved_values d n e }
 {
-    let xy = e.xy;
-    let xz = e.xz;
-    let zy = e.zy;
     match n {
         Axis::X => Tripod {
-            xy: xy + d.b2,
-            xz: xz + d.c2,
-            zy: zy,
+            xy: e.xy + d.b2,
+            xz: e.xz + d.c2,
+            ..e
         },
         Axis::Y => Tripod {
-            xy: xy - d.a2,
-            xz: xz,
-            zy: zy - d.c2,
+            xy: e.xy - d.a2,
+            zy: e.zy - d.c2,
+            ..e
         },
         Axis::Z => Tripod {
-            xy: xy,
-            xz: xz - d.a2,
-            zy: zy + d.b2,
+            xz: e.xz - d.a2,
+            zy: e.zy + d.b2,
+            ..e
         },
     }
 }
 
 // The moves of the long step from a 26-line cell that is not the last. `long` is an axis with the longest difference: it moves, and each other one
 // moves by the sign of its decision value with that axis.
-pub fn long_moves(e: Tripod, d: Diffs, long: Axis) -> Moves
+pub fn long_moves(e: Tripod, d: Diffs, long: Axis) -> Each<bool>
     requires { SmallTripod e × Short d × (steps d long ≡ longest (steps d)) }
     ensures { LongMoves (steps d) e result }
 {
     let a = d.a as i32;
     let b = d.b as i32;
     let c = d.c as i32;
-    let xy = e.xy;
-    let xz = e.xz;
-    let zy = e.zy;
     match long {
-        Axis::X => Moves {
+        Axis::X => Each {
             x: true,
-            y: 0 <= xy + b,
-            z: 0 <= xz + c,
+            y: 0 <= e.xy + b,
+            z: 0 <= e.xz + c,
         },
-        Axis::Y => Moves {
-            x: xy <= a,
+        Axis::Y => Each {
+            x: e.xy <= a,
             y: true,
-            z: zy <= c,
+            z: e.zy <= c,
         },
-        Axis::Z => Moves {
-            x: xz <= a,
-            y: 0 <= zy + b,
+        Axis::Z => Each {
+            x: e.xz <= a,
+            y: 0 <= e.zy + b,
             z: true,
         },
     }

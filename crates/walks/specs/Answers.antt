@@ -1,5 +1,7 @@
 -- SCOPE W4, W5, W6, W8: the answer of a first-hit call, from its walk, with a hit's place and face and the reads; refusals 2, 3, then 5 (P before Q;
 -- x, y, z). Assumes nothing.
+use Rattle.std.specs.Prelude.{Ok, Err, Result}
+use Rattle.cells.specs.declared.Refusal.{Refusal}
 use Rattle.std.specs.Prelude.{ℕ, zero, suc, ◌-◌, ◌*◌, ◌≡◌, cond, List, [], ◌∷◌, ◌⊎◌, length}
 use Rattle.std.proofs.Math.Option.{Option, none, some}
 use Rattle.std.proofs.Common.{inl, inr}
@@ -49,24 +51,24 @@ last_of c [] = c
 last_of c (d ∷ l) = last_of d l
 
 -- SCOPE W4, W6: a hit where its last cell is one, else clear; its length is the reads
-unfoldable pub answer_of : Conduct → Counts → List ℕ → Cell → Cell → List Cell → FirstHit
+unfoldable pub answer_of : Conduct → Counts → List ℕ → Cell → Cell → List Cell → Result FirstHit Refusal
 unfolding place_of
 answer_of how n l p q cells =
     let w : Cell = last_of p cells in
     cond (hit_at how n l p w)
-    (FirstHit.Hit (record { cell = w; code = byte_of n l w; place = place_of how.preference p q w; reads = length cells }))
-    (FirstHit.Clear (length cells))
+    (Ok (FirstHit.Hit (record { cell = w; code = byte_of n l w; place = place_of how.preference p q w; reads = length cells })))
+    (Ok (FirstHit.Clear (length cells)))
 
 -- ---- the calls, by their walk
 
-unfoldable pub first_hit : Walker → Manner → Counts → List ℕ → Cell → Cell → FirstHit
+unfoldable pub first_hit : Walker → Manner → Counts → List ℕ → Cell → Cell → Result FirstHit Refusal
 unfolding walk_check answer_of walk_of order_of
 first_hit k how n l p q =
     let c : Conduct = conduct how p q in
-    by_verdict FirstHit.Refused (answer_of c n l p q (walk_of k c n l p q)) (walk_check n (length l) p q)
+    by_verdict Err (answer_of c n l p q (walk_of k c n l p q)) (walk_check n (length l) p q)
 
 -- their contract
-pub record Finds (k : Walker) (how : Manner) (n : Counts) (l : List ℕ) (p q : Cell) (r : FirstHit) : Type 0 where
+pub record Finds (k : Walker) (how : Manner) (n : Counts) (l : List ℕ) (p q : Cell) (r : Result FirstHit Refusal) : Type 0 where
   pub says : r ≡ first_hit k how n l p q
 
 -- what a walk that was made says: clear with its reads, or the hit's values
@@ -75,7 +77,7 @@ pub data WalkSaid : Type 0 where
   hit : Hit → WalkSaid
 
 -- each case of the answer: what is said of a refusal, or what the walk says
-abbrev pub told_hit : FirstHit → Told ⊎ WalkSaid
-told_hit (FirstHit.Refused r) = inl (told r)
-told_hit (FirstHit.Clear reads) = inr (clear reads)
-told_hit (FirstHit.Hit h) = inr (hit h)
+abbrev pub told_hit : Result FirstHit Refusal → Told ⊎ WalkSaid
+told_hit (Err r) = inl (told r)
+told_hit (Ok (FirstHit.Clear reads)) = inr (clear reads)
+told_hit (Ok (FirstHit.Hit h)) = inr (hit h)

@@ -1,10 +1,9 @@
 -- `bricks::build` meets its contract: a refusal stores nothing; else the masks of all bricks are filled in, and their ones are the solid bytes.
 -- Assumes nothing.
+use Rattle.std.specs.Prelude.{Ok}
 use mathlib.Core.Path.{◌≡◌, sym, ap, ◌∙◌}
 use lib.ListN.{length}
-use Rattle.cells.specs.declared.Verdict.TheVariants.{Fine}
 use Rattle.grids.proofs.Shapes.{shaped}
-use Rattle.bricks.specs.declared.Tally.TheVariants as Tally
 use Rattle.bricks.specs.Builds.{bricks_check}
 use Rattle.bricks.proofs.Totals.{ones_are_solids}
 use Rattle.bricks.proofs.Building.{shape_fine, masks_lent, filled_built}
@@ -13,7 +12,7 @@ use Rattle.bricks.proofs.build.Goals.{In-Fine}
 
 -- the verdict, where it is fine
 fine : (c : In-Fine) → let a = c.args in bricks_check a.n (length a.cells.now) (length
-    a.masks.now) ≡ Fine
+    a.masks.now) ≡ Ok tt
 fine c = sym c.check_bricks.ensures ∙ c.in-Fine.is
 
 pub fill_all-requires : goal.fill_all-requires
@@ -30,6 +29,6 @@ returns-in-Fine c =
     let e = fine ((goal.at.returns-in-Fine c).In-Fine) in
     let f = c.fill_all.ensures in
     record {
-      says = rw e (ap Tally.Total (f.value ∙ ones_are_solids a.n a.cells.now (shaped _ _ (shape_fine _ _ _ e))));
+      says = rw e (ap Ok (f.value ∙ ones_are_solids a.n a.cells.now (shaped _ _ (shape_fine _ _ _ e))));
       holds = rw e (filled_built a.n a.cells.now a.masks.now _ f.filled);
     }

@@ -1,10 +1,10 @@
 -- `bricks::check_bricks` meets its contract: the shape's refusal is the answer, else the test of the room. Assumes nothing.
+use Rattle.std.specs.Prelude.{Ok}
 use mathlib.Core.Path.{◌≡◌, sym, ap, ◌∙◌}
 use lib.Dec.{ltb}
 use native.Mathlib.Omega.{arith}
 use borrow.Author.Tests.{lt-ltb, le-ltb}
 use Rattle.cells.specs.declared.Refusal.TheVariants.{Room}
-use Rattle.cells.specs.declared.Verdict.TheVariants.{Fine}
 use Rattle.cells.specs.Checks.{refuse_when, ◌then◌}
 use Rattle.grids.specs.Grid.{shape, size}
 use Rattle.grids.proofs.Shapes.{counted, shape_counts}
@@ -13,7 +13,7 @@ use Rattle.bricks.specs.Builds.{bricks_check}
 use Rattle.bricks.proofs.check_bricks.Goals as goal
 use Rattle.bricks.proofs.check_bricks.Goals.{In-Fine}
 
-fine : (c : In-Fine) → let a = c.args in shape a.n a.bytes ≡ Fine
+fine : (c : In-Fine) → let a = c.args in shape a.n a.bytes ≡ Ok tt
 fine c = sym c.shape.ensures.says ∙ c.in-Fine.is
 
 pub brick_count-requires : goal.brick_count-requires

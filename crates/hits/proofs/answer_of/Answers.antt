@@ -97,7 +97,7 @@ returns c =
       passed_is earlier.After-is_passed made,
       c.if-is_passed.false,
     )
-    (λ i. FirstHit.Hit (record {
+    (λ i. FIXMEokhit (record {
       cell = cell_is earlier.After-cell_at-cell i;
       code = c.byte_at-code.ensures i;
       place = place i;

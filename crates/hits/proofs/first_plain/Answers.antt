@@ -1,7 +1,7 @@
 -- `hits::first_plain` meets its contract: a refusal is the verdict's, and an accepted walk answers along its route. Assumes nothing.
+use Rattle.std.specs.Prelude.{Ok}
 use mathlib.Core.Path.{◌≡◌, sym, ◌∙◌}
 use lib.ListN.{length}
-use Rattle.cells.specs.declared.Verdict.TheVariants.{Fine}
 use Rattle.walks.specs.declared.Walker.TheVariants.{Plain}
 use Rattle.grids.specs.Inside.{walk_check}
 use Rattle.routes.proofs.Accepting.{ends_enclosed, route_planned}
@@ -10,7 +10,7 @@ use Rattle.hits.proofs.first_plain.Goals as goal
 use Rattle.hits.proofs.first_plain.Goals.{In-Fine}
 
 -- where the call has passed its tests
-fine : (c : In-Fine) → let a = c.args in walk_check a.n (length a.cells.now) a.p a.q ≡ Fine
+fine : (c : In-Fine) → let a = c.args in walk_check a.n (length a.cells.now) a.p a.q ≡ Ok tt
 fine c = sym c.check_walk.ensures ∙ c.in-Fine.is
 
 pub route_of-requires : goal.route_of-requires

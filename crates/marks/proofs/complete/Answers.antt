@@ -1,8 +1,8 @@
 -- `marks::complete` meets its contract: the marks are complete exactly when no row has a gap. Assumes nothing.
+use Rattle.std.specs.Prelude.{Ok}
 use native.Mathlib.Omega.{arith}
 use mathlib.Core.Path.{◌≡◌, sym, ◌∙◌}
 use lib.ListN.{length}
-use Rattle.cells.specs.declared.Verdict.TheVariants.{Fine}
 use Rattle.grids.specs.Grid.{shape}
 use Rattle.grids.specs.Marks.{completeness}
 use Rattle.grids.proofs.Shapes.{shaped}
@@ -11,7 +11,7 @@ use Rattle.marks.proofs.RowMarks.{complete_is}
 use Rattle.marks.proofs.complete.Goals as goal
 use Rattle.marks.proofs.complete.Goals.{In-Fine}
 
-fine : (c : In-Fine) → let a = c.args in shape a.n (length a.cells.now) ≡ Fine
+fine : (c : In-Fine) → let a = c.args in shape a.n (length a.cells.now) ≡ Ok tt
 fine c = sym c.shape.ensures.says ∙ c.in-Fine.is
 
 pub has_gap-requires : goal.has_gap-requires

@@ -6,7 +6,7 @@ use Rattle.cells.specs.declared.Cell.{Cell}
 use Rattle.cells.specs.declared.Counts.{Counts}
 use Rattle.cells.specs.declared.End.TheVariants.{P, Q}
 use Rattle.cells.specs.declared.Refusal.TheVariants.{Corners}
-use Rattle.cells.specs.declared.Verdict.{Verdict}
+use Rattle.cells.specs.Checks.{Verdict}
 use Rattle.cells.specs.Checks.{refuse_when, ◌then◌}
 use Rattle.cells.proofs.Checks.{then_assoc}
 use Rattle.grids.specs.Inside.{grid_check}

@@ -1,14 +1,14 @@
 -- `refills::refill` meets its contract: refused before memory is read, or handed on with its corners. Assumes nothing.
+use Rattle.std.specs.Prelude.{Ok}
 use mathlib.Core.Path.{◌≡◌, sym, ◌∙◌}
 use lib.ListN.{length}
-use Rattle.cells.specs.declared.Verdict.TheVariants.{Fine}
 use Rattle.bricks.proofs.Building.{shape_fine, masks_lent}
 use Rattle.refills.specs.Refills.{box_check}
 use Rattle.refills.proofs.Checked.{natural, bricks_fine, low_in, high_in, counts_shaped, boxed, refused_before, looked_at}
 use Rattle.refills.proofs.refill.Goals as goal
 use Rattle.refills.proofs.refill.Goals.{In-Fine}
 
-fine : (c : In-Fine) → let a = c.args in box_check a.n (length a.cells.now) (length a.masks.now) a.low a.high ≡ Fine
+fine : (c : In-Fine) → let a = c.args in box_check a.n (length a.cells.now) (length a.masks.now) a.low a.high ≡ Ok tt
 fine c = sym c.check_box.ensures ∙ c.in-Fine.is
 
 pub corner_of-lo-requires : goal.corner_of-lo-requires

@@ -1,14 +1,14 @@
 -- `refills::set` meets its contract: refused before memory is read, or handed on with its corner. Assumes nothing.
+use Rattle.std.specs.Prelude.{Ok}
 use mathlib.Core.Path.{◌≡◌, sym, ◌∙◌}
 use lib.ListN.{length}
-use Rattle.cells.specs.declared.Verdict.TheVariants.{Fine}
 use Rattle.bricks.proofs.Building.{shape_fine, masks_lent}
 use Rattle.refills.specs.Refills.{box_check}
 use Rattle.refills.proofs.Checked.{natural, bricks_fine, low_in, counts_shaped, boxed, refused_before, looked_at}
 use Rattle.refills.proofs.set.Goals as goal
 use Rattle.refills.proofs.set.Goals.{In-Fine}
 
-fine : (c : In-Fine) → let a = c.args in box_check a.n (length a.cells.now) (length a.masks.now) a.cell a.cell ≡ Fine
+fine : (c : In-Fine) → let a = c.args in box_check a.n (length a.cells.now) (length a.masks.now) a.cell a.cell ≡ Ok tt
 fine c = sym c.check_box.ensures ∙ c.in-Fine.is
 
 pub corner_of-at-requires : goal.corner_of-at-requires

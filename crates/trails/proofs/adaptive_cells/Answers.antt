@@ -1,7 +1,7 @@
 -- `trails::adaptive_cells` meets its contract: a refusal is the verdict's, and an accepted call lists along its route. Assumes nothing.
+use Rattle.std.specs.Prelude.{Ok}
 use mathlib.Core.Path.{◌≡◌, sym, ◌∙◌, subst₂}
 use lib.ListN.{length}
-use Rattle.cells.specs.declared.Verdict.TheVariants.{Fine}
 use Rattle.lines.specs.Preference.{prefers}
 use Rattle.grids.specs.Inside.{walk_check}
 use Rattle.walks.specs.declared.Walker.TheVariants.{Adaptive}
@@ -14,7 +14,7 @@ use Rattle.trails.proofs.adaptive_cells.Goals as goal
 use Rattle.trails.proofs.adaptive_cells.Goals.{In-Fine}
 
 -- where the call has passed its tests
-fine : (c : In-Fine) → let a = c.args in walk_check a.n (length a.cells.now) a.p a.q ≡ Fine
+fine : (c : In-Fine) → let a = c.args in walk_check a.n (length a.cells.now) a.p a.q ≡ Ok tt
 fine c = sym c.check_walk.ensures ∙ c.in-Fine.is
 
 pub route_of-requires : goal.route_of-requires

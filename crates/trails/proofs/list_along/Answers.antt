@@ -1,12 +1,11 @@
 -- `trails::list_along` meets its contract: the walk's reads are how many cells there are; with room for them they are filled in. Assumes nothing.
+use Rattle.std.specs.Prelude.{Ok}
 use mathlib.Core.Path.{◌≡◌, refl, sym, ap, ◌∙◌, subst}
 use native.Mathlib.Omega.{arith}
 use lib.ListN.{length}
-use Rattle.cells.specs.declared.Verdict.TheVariants.{Fine}
 use Rattle.walks.specs.declared.Walker.TheVariants.{Adaptive}
 use Rattle.walks.specs.Walks.{walk_of}
 use Rattle.hits.specs.Found.{conduct_of}
-use Rattle.lists.specs.declared.Listed.TheVariants.{Cells}
 use Rattle.lists.specs.Lists.{filled, Lists}
 use Rattle.lists.proofs.Front.{refused_room, listed_all}
 use Rattle.trails.specs.Standing.{stand_cells, CanList}
@@ -21,7 +20,7 @@ long : (c : After-walk_adaptive-stop) →
 long c = let a = c.args in walked_long a.cells.now a.k a.how.start ∙ sym c.walk_adaptive-stop.ensures.reads
 
 pub returns-then-out-count : goal.returns-then-out-count
-returns-then-out-count c = let a = c.args in refused_room _ Fine a.out.now refl (omega (arith, long ((goal.at.returns-then-out-count c).After-walk_adaptive-stop), c.if-out-count.true))
+returns-then-out-count c = let a = c.args in refused_room _ (Ok tt) a.out.now refl (omega (arith, long ((goal.at.returns-then-out-count c).After-walk_adaptive-stop), c.if-out-count.true))
 
 pub fill-requires : goal.fill-requires
 fill-requires c =
@@ -34,7 +33,7 @@ returns c =
     let a = c.args in
     let line = walk_of Adaptive (conduct_of a.how.start a.k) a.k.n a.cells.now a.k.p a.k.q in
     let reads = c.walk_adaptive-stop.ensures.reads in
-    subst (λ n. Lists line Fine a.out.now (Cells n) c.fill.new.out) (long earlier.After-walk_adaptive-stop)
-    (listed_all line Fine a.out.now _ refl (omega (arith, long earlier.After-walk_adaptive-stop, c.if-out-count.false))
+    subst (λ n. Lists line (Ok tt) a.out.now (Ok n) c.fill.new.out) (long earlier.After-walk_adaptive-stop)
+    (listed_all line (Ok tt) a.out.now _ refl (omega (arith, long earlier.After-walk_adaptive-stop, c.if-out-count.false))
     (c.fill.ensures ∙ ap (λ n. filled (stand_cells a.cells.now a.k n) a.out.now) reads
     ∙ ap (λ x. filled x a.out.now) (sym (walked_is a.cells.now a.k a.how.start))))

@@ -1,28 +1,19 @@
 -- `tripod::long_moves` meets its contract: with the longest axis known, each test is that of the 26-line by the decision values. Assumes nothing.
 use mathlib.Core.Path.{◌≡◌, sym, subst}
-use mathlib.Core.Bool.{true}
+use mathlib.Core.Bool.{Bool, true}
 use Rattle.lines.specs.Steps.{Axis, X, Y, Z}
 use Rattle.lines.specs.Lines.{longest}
 use Rattle.lines.specs.declared.Tripod.{Tripod}
 use Rattle.tripod.specs.declared.Diffs.{Diffs}
-use Rattle.tripod.specs.declared.Moves.{Moves}
+use Rattle.cells.specs.declared.Each.{Each}
 use Rattle.tripod.specs.Tripod.{steps, LongMoves}
 use Rattle.tripod.proofs.Laws.{by_long, by_long_goes, plus_fits, plus_test, most_test}
 use Rattle.tripod.proofs.long_moves.Goals as goal
 
 -- moves that are the tests' are the long step's
-by : (e : Tripod) (d : Diffs) {long : Axis} (a : Axis) (r : Moves) → long ≡ a → steps d long ≡ longest (steps d) → r ≡ by_long a (steps d) e →
+by : (e : Tripod) (d : Diffs) {long : Axis} (a : Axis) (r : Each Bool) → long ≡ a → steps d long ≡ longest (steps d) → r ≡ by_long a (steps d) e →
     LongMoves (steps d) e r
 by e d a r l long h = subst (LongMoves (steps d) e) (sym h) (by_long_goes a (steps d) e (rw l at long))
-
-pub overflow_add-result : goal.overflow_add-result
-overflow_add-result c = let (e, d, long) = c.requires in plus_fits _ _ e.xy d.b
-
-pub overflow_add-result-in-X : goal.overflow_add-result-in-X
-overflow_add-result-in-X c = let (e, d, long) = c.requires in plus_fits _ _ e.xz d.c
-
-pub overflow_add-result-in-Z : goal.overflow_add-result-in-Z
-overflow_add-result-in-Z c = let (e, d, long) = c.requires in plus_fits _ _ e.zy d.b
 
 pub returns-in-X : goal.returns-in-X
 returns-in-X c =

@@ -3,24 +3,6 @@ use Rattle.cells.proofs.Machine.{small_held, sum_fits, sum_held, diff_fits, diff
 use Rattle.lines.proofs.Signs.{same_values}
 use Rattle.tripod.proofs.moved.Goals as goal
 
-pub overflow_add-result : goal.overflow_add-result
-overflow_add-result c = let (e, d) = c.requires in search (sum_fits, e, d)
-
-pub overflow_add-result-in-X : goal.overflow_add-result-in-X
-overflow_add-result-in-X c = let (e, d) = c.requires in search (sum_fits, e, d)
-
-pub overflow_sub-result : goal.overflow_sub-result
-overflow_sub-result c = let (e, d) = c.requires in search (diff_fits, e, d)
-
-pub overflow_sub-result-in-Y : goal.overflow_sub-result-in-Y
-overflow_sub-result-in-Y c = let (e, d) = c.requires in search (diff_fits, e, d)
-
-pub overflow_sub-result-in-Z : goal.overflow_sub-result-in-Z
-overflow_sub-result-in-Z c = let (e, d) = c.requires in search (diff_fits, e, d)
-
-pub overflow_add-result-in-Z : goal.overflow_add-result-in-Z
-overflow_add-result-in-Z c = let (e, d) = c.requires in search (sum_fits, e, d)
-
 pub returns-in-X : goal.returns-in-X
 returns-in-X c =
     let (e, d) = c.requires in

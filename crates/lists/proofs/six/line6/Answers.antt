@@ -1,20 +1,19 @@
 -- `lists::six::line6` meets its contract: each way out has the verdict that led there, and an accepted call is filled in. Assumes nothing.
+use Rattle.std.specs.Prelude.{Ok}
 use mathlib.Core.Path.{◌≡◌, sym, ap, ◌∙◌, subst}
 use Prim.Native.Nat.{◌+◌}
 use native.Mathlib.Omega.{arith}
-use Rattle.cells.specs.declared.Verdict.TheVariants.{Fine}
 use Rattle.lines.specs.Steps.{total}
 use Rattle.lines.specs.Preference.{by_rule}
 use Rattle.lines.specs.Lines.{differences, six_line}
 use Rattle.lines.proofs.Cells.{six_length}
-use Rattle.lists.specs.declared.Listed.TheVariants.{Cells}
 use Rattle.lists.specs.Lists.{ends_check, Line6}
 use Rattle.lists.proofs.Front.{refused_first, refused_room, listed_all, ends_fine}
 use Rattle.lists.proofs.six.line6.Goals as goal
 use Rattle.lists.proofs.six.line6.Goals.{After-total-cells, In-Fine}
 
 -- where both ends have passed
-fine : (c : In-Fine) → ends_check c.args.p c.args.q ≡ Fine
+fine : (c : In-Fine) → ends_check c.args.p c.args.q ≡ Ok tt
 fine c = sym c.check_ends.ensures ∙ c.in-Fine.is
 
 -- how many cells there are
@@ -48,5 +47,5 @@ returns-else-out-cells c =
     let p = c.args.p in
     let q = c.args.q in
     let r = by_rule c.args.rule p q in
-    subst (λ n. Line6 c.args.rule p q c.args.out.now (Cells n) c.fill6.new.out) (six_length r p q ∙ ap (λ k. k + 1) (count earlier.After-total-cells))
+    subst (λ n. Line6 c.args.rule p q c.args.out.now (Ok n) c.fill6.new.out) (six_length r p q ∙ ap (λ k. k + 1) (count earlier.After-total-cells))
     (listed_all (six_line r p q) (ends_check p q) c.args.out.now _ (fine earlier.In-Fine) (omega (arith, six_length r p q, count earlier.After-total-cells)) c.fill6.ensures)

@@ -1,18 +1,17 @@
 -- `lists::twenty_six::line26` meets its contract: each way out has the verdict that led there, and an accepted call is filled in. Assumes nothing.
+use Rattle.std.specs.Prelude.{Ok}
 use mathlib.Core.Path.{◌≡◌, sym, ap, ◌∙◌, subst}
 use Prim.Native.Nat.{◌+◌}
 use native.Mathlib.Omega.{arith}
-use Rattle.cells.specs.declared.Verdict.TheVariants.{Fine}
 use Rattle.lines.specs.Lines.{differences, longest, line_26}
 use Rattle.lines.proofs.Cells.{length_26}
-use Rattle.lists.specs.declared.Listed.TheVariants.{Cells}
 use Rattle.lists.specs.Lists.{ends_check, Line26}
 use Rattle.lists.proofs.Front.{refused_first, refused_room, listed_all, ends_fine}
 use Rattle.lists.proofs.twenty_six.line26.Goals as goal
 use Rattle.lists.proofs.twenty_six.line26.Goals.{After-longest-last, In-Fine}
 
 -- where both ends have passed
-fine : (c : In-Fine) → ends_check c.args.p c.args.q ≡ Fine
+fine : (c : In-Fine) → ends_check c.args.p c.args.q ≡ Ok tt
 fine c = sym c.check_ends.ensures ∙ c.in-Fine.is
 
 -- the last cell's number
@@ -44,5 +43,5 @@ returns-else-out-count c =
     let earlier = goal.at.returns-else-out-count c in
     let p = c.args.p in
     let q = c.args.q in
-    subst (λ n. Line26 p q c.args.out.now (Cells n) c.fill26.new.out) (length_26 p q ∙ ap (λ k. k + 1) (count earlier.After-longest-last))
+    subst (λ n. Line26 p q c.args.out.now (Ok n) c.fill26.new.out) (length_26 p q ∙ ap (λ k. k + 1) (count earlier.After-longest-last))
     (listed_all (line_26 p q) (ends_check p q) c.args.out.now _ (fine earlier.In-Fine) (omega (arith, length_26 p q, count earlier.After-longest-last)) c.fill26.ensures)

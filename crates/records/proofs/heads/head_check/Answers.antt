@@ -1,12 +1,12 @@
 -- `records::heads::head_check` meets its contract: each test is the definition's, in its order. Assumes nothing.
+use Rattle.std.specs.Prelude.{Ok}
 use mathlib.Core.Path.{◌≡◌, sym, ◌∙◌}
-use Rattle.cells.specs.declared.Verdict.TheVariants.{Fine}
 use Rattle.records.specs.Heads.{whole_check}
 use Rattle.records.proofs.heads.head_check.Goals as goal
 use Rattle.records.proofs.heads.head_check.Goals.{In-Fine}
 
 -- the record is not cut short
-opened : (c : In-Fine) → whole_check c.args.s.now ≡ Fine
+opened : (c : In-Fine) → whole_check c.args.s.now ≡ Ok tt
 opened c = sym c.check_whole-v.ensures ∙ c.in-Fine.is
 
 pub returns-in_default : goal.returns-in_default

@@ -1,8 +1,8 @@
 -- `records::pairs::read_pair` meets its contract: the check, and where it is fine both ends, which either length has room for, and the rule. Assumes
 -- nothing.
+use Rattle.std.specs.Prelude.{Ok}
 use mathlib.Core.Path.{◌≡◌, sym, ap, ◌∙◌}
 use native.Mathlib.Omega.{arith}
-use Rattle.cells.specs.declared.Verdict.TheVariants.{Fine}
 use Rattle.cells.specs.Manners.{rule_of}
 use Rattle.records.specs.Heads.{version_of}
 use Rattle.records.specs.Pairs.{pair_check, pair_read}
@@ -10,7 +10,7 @@ use Rattle.records.proofs.HeadTests.{pair_whole, pair_least}
 use Rattle.records.proofs.pairs.read_pair.Goals as goal
 use Rattle.records.proofs.pairs.read_pair.Goals.{In-Fine}
 
-fine : (c : In-Fine) → pair_check c.args.bytes.now ≡ Fine
+fine : (c : In-Fine) → pair_check c.args.bytes.now ≡ Ok tt
 fine c = sym c.pair_check.ensures ∙ c.in-Fine.is
 
 pub cell_in-p-requires : goal.cell_in-p-requires

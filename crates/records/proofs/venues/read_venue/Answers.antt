@@ -1,12 +1,12 @@
 -- `records::venues::read_venue` meets its contract: the check, and where it is fine the venue in the record. Assumes nothing.
+use Rattle.std.specs.Prelude.{Ok}
 use mathlib.Core.Path.{◌≡◌, sym, ◌∙◌}
-use Rattle.cells.specs.declared.Verdict.TheVariants.{Fine}
 use Rattle.records.specs.Venues.{venue_check, venue_read}
 use Rattle.records.proofs.HeadTests.{venue_whole}
 use Rattle.records.proofs.venues.read_venue.Goals as goal
 use Rattle.records.proofs.venues.read_venue.Goals.{In-Fine}
 
-fine : (c : In-Fine) → venue_check c.args.bytes.now ≡ Fine
+fine : (c : In-Fine) → venue_check c.args.bytes.now ≡ Ok tt
 fine c = sym c.venue_check.ensures ∙ c.in-Fine.is
 
 pub venue_in-requires : goal.venue_in-requires

@@ -1,9 +1,9 @@
 -- `records::writing::write_check` meets its contract: the shape's verdict, and where it is fine the test of the room: the definition's order.
 -- Assumes nothing.
+use Rattle.std.specs.Prelude.{Ok}
 use native.Mathlib.Omega.{arith}
 use mathlib.Core.Path.{◌≡◌, sym, ◌∙◌}
 use borrow.Author.Tests.{lt-ltb, le-ltb}
-use Rattle.cells.specs.declared.Verdict.TheVariants.{Fine}
 use Rattle.grids.specs.Grid.{shape}
 use Rattle.grids.proofs.Shapes.{shaped}
 use Rattle.records.specs.Writing.{written_version, record_length, write_check}
@@ -11,7 +11,7 @@ use Rattle.records.proofs.HeadTests.{head_most}
 use Rattle.records.proofs.writing.write_check.Goals as goal
 use Rattle.records.proofs.writing.write_check.Goals.{In-Fine}
 
-fine : (c : In-Fine) → shape c.args.n c.args.bytes ≡ Fine
+fine : (c : In-Fine) → shape c.args.n c.args.bytes ≡ Ok tt
 fine c = sym c.shape-v.ensures.says ∙ c.in-Fine.is
 
 pub returns-in_default : goal.returns-in_default

@@ -1,10 +1,10 @@
 -- `records::writing::write_venue` meets its contract: where the check is fine, the head and then the cells are stored; else nothing is. Assumes
 -- nothing.
+use Rattle.std.specs.Prelude.{Ok}
 use Prim.Native.Nat.{◌+◌, ◌≤◌}
 use native.Mathlib.Omega.{arith}
 use mathlib.Core.Path.{◌≡◌, sym, ap, ◌∙◌}
 use lib.ListN.{length}
-use Rattle.cells.specs.declared.Verdict.TheVariants.{Fine}
 use Rattle.records.specs.Venues.{cells_from}
 use Rattle.records.specs.Writing.{written_version, write_check}
 use Rattle.records.proofs.HeadTests.{head_most}
@@ -14,7 +14,7 @@ use Rattle.records.proofs.writing.write_venue.Goals as goal
 use Rattle.records.proofs.writing.write_venue.Goals.{In-Fine}
 
 fine : (c : In-Fine) → let a = c.args in
-    write_check a.n (length a.cells.now) (length a.out.now) ≡ Fine
+    write_check a.n (length a.cells.now) (length a.out.now) ≡ Ok tt
 fine c = sym c.write_check.ensures ∙ c.in-Fine.is
 
 pub overflow_add-start : goal.overflow_add-start

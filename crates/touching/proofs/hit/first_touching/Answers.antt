@@ -1,7 +1,7 @@
 -- `touching::hit::first_touching` meets its contract: a refusal is the verdict's, and an accepted walk answers along its route. Assumes nothing.
+use Rattle.std.specs.Prelude.{Ok, Err}
 use mathlib.Core.Path.{◌≡◌, sym, ap, ◌∙◌}
 use lib.ListN.{length}
-use Rattle.cells.specs.declared.Verdict.TheVariants.{Fine}
 use Rattle.cells.specs.Checks.{by_verdict}
 use Rattle.lines.specs.Preference.{order_of}
 use Rattle.lines.specs.Touching.{visits, crossings}
@@ -14,7 +14,7 @@ use Rattle.touching.proofs.hit.first_touching.Goals as goal
 use Rattle.touching.proofs.hit.first_touching.Goals.{In-Fine}
 
 -- where the call has passed its tests
-fine : (c : In-Fine) → let a = c.args in walk_check a.n (length a.cells.now) a.p a.q ≡ Fine
+fine : (c : In-Fine) → let a = c.args in walk_check a.n (length a.cells.now) a.p a.q ≡ Ok tt
 fine c = sym c.check_walk.ensures ∙ c.in-Fine.is
 
 pub route_of-requires : goal.route_of-requires
@@ -26,7 +26,7 @@ touching_answer-requires c = (route_planned _ _ _ _ (fine ((goal.at.touching_ans
 
 pub returns-in-Refused : goal.returns-in-Refused
 unfolding first_touching
-returns-in-Refused c = record { says = sym (ap (by_verdict FirstHit.Refused _) (sym c.check_walk.ensures ∙ c.in-Refused.is)) }
+returns-in-Refused c = record { says = sym (ap (by_verdict Err _) (sym c.check_walk.ensures ∙ c.in-Refused.is)) }
 
 pub returns-in-Fine : goal.returns-in-Fine
 unfolding first_touching
@@ -37,5 +37,5 @@ returns-in-Fine c =
           c.touching_answer.ensures
           ∙ of_route _ _ _ _ _ c.route_of.ensures
           (λ m p q o. found_in (hit_at (walking a.start) m a.cells.now p) m a.cells.now p q 0 (visits (crossings p q)))
-          ∙ sym (ap (by_verdict FirstHit.Refused _) (fine ((goal.at.returns-in-Fine c).In-Fine)));
+          ∙ sym (ap (by_verdict Err _) (fine ((goal.at.returns-in-Fine c).In-Fine)));
     }

@@ -1,13 +1,12 @@
 -- `touching::list::line_touching` meets its contract: each way out has the verdict that led there, and an accepted call is filled in. Assumes nothing.
+use Rattle.std.specs.Prelude.{Ok}
 use mathlib.Core.Path.{◌≡◌, sym, ap, ◌∙◌, subst}
 use Prim.Native.Nat.{◌*◌, ◌≤◌}
 use borrow.Author.Tests.{ltb-true, ltb-false}
 use lib.Dec.{ltb}
 use lib.ListN.{length}
-use Rattle.cells.specs.declared.Verdict.TheVariants.{Fine}
 use Rattle.lines.specs.Touching.{touching_line, visits}
 use Rattle.lines.proofs.Touched.{touching_length}
-use Rattle.lists.specs.declared.Listed.TheVariants.{Cells}
 use Rattle.lists.specs.Lists.{ends_check}
 use Rattle.lists.proofs.Front.{refused_first, refused_room, listed_all, ends_fine}
 use Rattle.touching.specs.Touching.{LineTouching}
@@ -16,7 +15,7 @@ use Rattle.touching.proofs.list.line_touching.Goals as goal
 use Rattle.touching.proofs.list.line_touching.Goals.{After-lacks_room, Else-lacks_room, In-Fine}
 
 -- where both ends have passed
-fine : (c : In-Fine) → ends_check c.args.p c.args.q ≡ Fine
+fine : (c : In-Fine) → ends_check c.args.p c.args.q ≡ Ok tt
 fine c = sym c.check_ends.ensures ∙ c.in-Fine.is
 
 pub measured-d-requires : goal.measured-d-requires
@@ -59,5 +58,5 @@ returns-else-lacks_room c =
     let p = c.args.p in
     let q = c.args.q in
     let (stored, many) = c.fill.ensures in
-    subst (λ n. LineTouching p q c.args.out.now (Cells n) c.fill.new.out) (sym many)
+    subst (λ n. LineTouching p q c.args.out.now (Ok n) c.fill.new.out) (sym many)
     (listed_all (touching_line p q) (ends_check p q) c.args.out.now _ (fine earlier.In-Fine) (enough earlier.Else-lacks_room (room earlier.After-lacks_room)) stored)
