@@ -7,7 +7,7 @@ use Rattle.lines.specs.declared.Tripod.{Tripod}
 use Rattle.tripod.specs.declared.Diffs.{Diffs}
 use Rattle.cells.specs.declared.Each.{Each}
 use Rattle.tripod.specs.Tripod.{steps, LongMoves}
-use Rattle.tripod.proofs.Laws.{by_long, by_long_goes, plus_fits, plus_test, most_test}
+use Rattle.tripod.proofs.Laws.{by_long, by_long_goes, plus_test, most_test}
 use Rattle.tripod.proofs.long_moves.Goals as goal
 
 -- moves that are the tests' are the long step's

@@ -1,5 +1,5 @@
 -- `tripod::moved` meets its contract: small numbers have sums and differences that fit and are read back as they are. Assumes nothing.
-use Rattle.cells.proofs.Machine.{small_held, sum_fits, sum_held, diff_fits, diff_held}
+use Rattle.cells.proofs.Machine.{small_held, sum_held, diff_held}
 use Rattle.lines.proofs.Signs.{same_values}
 use Rattle.tripod.proofs.moved.Goals as goal
 

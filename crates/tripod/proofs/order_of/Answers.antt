@@ -16,14 +16,14 @@ pub returns-in-One : goal.returns-in-One
 unfolding order_of
 returns-in-One c = let a = c.args in sym (ap (λ rule. order_of rule a.p a.q) c.in-One.is)
 
-pub returns-then-comes_before : goal.returns-then-comes_before
-returns-then-comes_before c =
+pub returns-in-Two : goal.returns-in-Two
+returns-in-Two c =
     let a = c.args in
     let rule = ap (λ rule. order_of rule a.p a.q) c.in-Two.is in
     sym (rule ∙ by_answer a.p a.q true (sym c.if-comes_before.true ∙ c.comes_before.ensures))
 
-pub returns-else-comes_before : goal.returns-else-comes_before
-returns-else-comes_before c =
+pub returns-in-Two-2 : goal.returns-in-Two-2
+returns-in-Two-2 c =
     let a = c.args in
-    let rule = ap (λ rule. order_of rule a.p a.q) c.in-Two.is in
+    let rule = ap (λ rule. order_of rule a.p a.q) c.in-Two-2.is in
     sym (rule ∙ by_answer a.p a.q false (sym c.if-comes_before.false ∙ c.comes_before.ensures))
