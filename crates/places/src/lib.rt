@@ -37,13 +37,7 @@ fn is_behind(i: u32, a: u32, j: u32, b: u32, shift: u32) -> bool
     ensures { result ≡ behind i a j b shift }
 {
     let later = j * a + added(j, shift) <= i * b;
-    if i == 0 { false } else { later }
-}
-
-fn both(s: bool, t: bool) -> bool
-    ensures { result ≡ (s && t) }
-{
-    if s { t } else { false }
+    0 < i && later
 }
 
 // Which axis was crossed last: x; or else z where it comes after y; or else y.
@@ -64,47 +58,23 @@ fn last_made(d: Diffs, t: Diffs, o: Order) -> Last
     let k = numerator_of(t.c);
     let y_before = is_behind(i, d.a, j, d.b, shift);
     let z_before = is_behind(i, d.a, k, d.c, shift);
-    let x = both(y_before, z_before);
-    let z = is_behind(k, d.c, j, d.b, shift);
-    Last { x: x, z: z }
-}
-
-// Of a number for each axis, that of the axis crossed last.
-fn of_last(w: Last, a: u32, b: u32, c: u32) -> u32
-    ensures { result ≡ of_last w a b c }
-{
-    let x = w.x;
-    let z = w.z;
-    if x { a } else { if z { c } else { b } }
-}
-
-// The same of an answer for each axis.
-fn so_of_last(w: Last, a: bool, b: bool, c: bool) -> bool
-    ensures { result ≡ of_last w a b c }
-{
-    let x = w.x;
-    let z = w.z;
-    if x { a } else { if z { c } else { b } }
-}
-
-// The axis itself.
-fn last_axis(w: Last) -> Axis
-    ensures { result ≡ of_last w X Y Z }
-{
-    let x = w.x;
-    let z = w.z;
-    if x {
-        Axis::X
-    } else {
-        if z { Axis::Z } else { Axis::Y }
+    Last {
+        x: y_before && z_before,
+        z: is_behind(k, d.c, j, d.b, shift),
     }
 }
 
-// Whether a coordinate moves to larger numbers.
-fn rises(p: i32, q: i32) -> bool
-    ensures { result ≡ le_z p q }
+// Of what x, y and z have, that of the axis crossed last.
+fn of_last<T: Copy>(w: Last, x: T, y: T, z: T) -> T
+    ensures { result ≡ of_last w x y z }
 {
-    p <= q
+    if w.x {
+        x
+    } else if w.z {
+        z
+    } else {
+        y
+    }
 }
 
 // The face of axis n, by the sign of the move.
@@ -122,13 +92,12 @@ fn face_of(rising: bool, n: Axis) -> Face
 fn last_face(p: Cell, q: Cell, w: Last) -> Face
     ensures { result ≡ face_along p q (of_last w X Y Z) }
 {
-    let along_x = rises(p.x, q.x);
-    let along_y = rises(p.y, q.y);
-    let along_z = rises(p.z, q.z);
-    face_of(so_of_last(w, along_x, along_y, along_z), last_axis(w))
+    let rising = of_last(w, p.x <= q.x, p.y <= q.y, p.z <= q.z);
+    face_of(rising, of_last(w, Axis::X, Axis::Y, Axis::Z))
 }
 
 // The place of a hit on the line from p to q, after t steps of d.
+#[tactic(auto, unfolding(crate::specs::Entered::entered))]
 pub fn place_after(p: Cell, q: Cell, o: Order, d: Diffs, t: Diffs) -> Place
     requires { Short d × Short t }
     ensures { result ≡ entered p q o (steps d) (steps t) }
@@ -141,12 +110,9 @@ pub fn place_after(p: Cell, q: Cell, o: Order, d: Diffs, t: Diffs) -> Place
         };
     }
     let w = last_made(d, t, o);
-    let num = numerator_of(of_last(w, t.a, t.b, t.c));
-    let den = 2 * of_last(w, d.a, d.b, d.c);
-    let face = last_face(p, q, w);
     Place {
-        num: num,
-        den: den,
-        face: face,
+        num: numerator_of(of_last(w, t.a, t.b, t.c)),
+        den: 2 * of_last(w, d.a, d.b, d.c),
+        face: last_face(p, q, w),
     }
 }
