@@ -70,8 +70,5 @@ module _ (e : ℤ) (n : ℕ) (he : Small e) (hn : n ≤ 16383) where
 
 -- a number taken from 0
 module _ (e : ℤ) (he : Small e) where
-  pub zero_less_fits : SFits w32 (pos 0 -ℤ held e)
-  zero_less_fits = less_fits e 0 he (omega arith)
-
   pub zero_less_held : held (pos 0 -ℤ held e) ≡ pos 0 -ℤ e
   zero_less_held = less_held e 0 he (omega arith)

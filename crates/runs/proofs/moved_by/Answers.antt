@@ -2,18 +2,13 @@
 use Rattle.runs.proofs.Sums.{move_fits, move_held}
 use Rattle.runs.proofs.moved_by.Goals as goal
 
-pub overflow_add-at : goal.overflow_add-at
-overflow_add-at c =
-    let m = c.requires in
-    move_fits _ _ _ _ m.from.at m.from.due m.go.at m.stay.at _ c.by_sign.ensures
-
-pub overflow_add-next : goal.overflow_add-next
-overflow_add-next c =
+pub overflow_add-result-2 : goal.overflow_add-result-2
+overflow_add-result-2 c =
     let m = c.requires in
     move_fits _ _ _ _ m.from.due m.from.due m.go.due m.stay.due _ c.by_sign-2.ensures
 
-pub overflow_add-wv : goal.overflow_add-wv
-overflow_add-wv c =
+pub overflow_add-result-3 : goal.overflow_add-result-3
+overflow_add-result-3 c =
     let m = c.requires in
     move_fits _ _ _ _ m.from.wv m.from.due m.go.wv m.stay.wv _ c.by_sign-3.ensures
 

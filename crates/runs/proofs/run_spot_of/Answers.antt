@@ -3,28 +3,9 @@ use mathlib.Core.Path.{sym, ap, ◌∙◌}
 use borrow.Author.Rules.{rules}
 use Rattle.cells.proofs.Machine.{held_is, small_held}
 use Rattle.tripod.specs.Tripod.{steps}
-use Rattle.tripod.proofs.Laws.{plus_fits}
 use Rattle.runs.specs.Run.{run_spot}
-use Rattle.runs.proofs.Sums.{plus_held, less_fits, less_held}
+use Rattle.runs.proofs.Sums.{plus_held, less_held}
 use Rattle.runs.proofs.run_spot_of.Goals as goal
-
-pub overflow_add-result : goal.overflow_add-result
-overflow_add-result c = let (e, d) = c.requires in search (plus_fits, e, d)
-
-pub overflow_add-result-in-X : goal.overflow_add-result-in-X
-overflow_add-result-in-X c = let (e, d) = c.requires in search (plus_fits, e, d)
-
-pub overflow_sub-result : goal.overflow_sub-result
-overflow_sub-result c = let (e, d) = c.requires in search (less_fits, e, d)
-
-pub overflow_sub-result-in-Y : goal.overflow_sub-result-in-Y
-overflow_sub-result-in-Y c = let (e, d) = c.requires in search (less_fits, e, d)
-
-pub overflow_add-result-in-Z : goal.overflow_add-result-in-Z
-overflow_add-result-in-Z c = let (e, d) = c.requires in search (plus_fits, e, d)
-
-pub overflow_sub-result-in-Z : goal.overflow_sub-result-in-Z
-overflow_sub-result-in-Z c = let (e, d) = c.requires in search (less_fits, e, d)
 
 pub returns-in-X : goal.returns-in-X
 returns-in-X c =

@@ -1,20 +1,8 @@
 -- `runs::sides_of` meets its contract: small numbers have sums and differences that fit. Assumes nothing.
 use lib.IntN.{pos}
-use Rattle.cells.proofs.Machine.{small_held, sum_fits, sum_held, diff_fits, diff_held}
-use Rattle.runs.proofs.Sums.{zero_less_fits, zero_less_held}
+use Rattle.cells.proofs.Machine.{small_held, sum_held, diff_held}
+use Rattle.runs.proofs.Sums.{zero_less_held}
 use Rattle.runs.proofs.sides_of.Goals as goal
-
-pub overflow_add-v : goal.overflow_add-v
-overflow_add-v c = let k = c.requires in search (sum_fits, k)
-
-pub overflow_sub-v : goal.overflow_sub-v
-overflow_sub-v c = let k = c.requires in search (diff_fits, k)
-
-pub overflow_sub-v-2 : goal.overflow_sub-v-2
-overflow_sub-v-2 c = let k = c.requires in search (zero_less_fits, k)
-
-pub overflow_sub-w : goal.overflow_sub-w
-overflow_sub-w c = let k = c.requires in search (diff_fits, k)
 
 pub returns : goal.returns
 returns c =

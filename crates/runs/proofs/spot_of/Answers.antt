@@ -4,26 +4,8 @@ use borrow.Author.Rules.{rules}
 use Rattle.cells.proofs.Machine.{held_is}
 use Rattle.tripod.specs.Tripod.{steps}
 use Rattle.runs.specs.Run.{spot_back}
-use Rattle.runs.proofs.Sums.{back_fits, back_held, less_fits, less_held}
+use Rattle.runs.proofs.Sums.{back_held, less_held}
 use Rattle.runs.proofs.spot_of.Goals as goal
-
-pub overflow_sub-result : goal.overflow_sub-result
-overflow_sub-result c = let (e, d) = c.requires in search (back_fits, e, d)
-
-pub overflow_sub-result-in-X : goal.overflow_sub-result-in-X
-overflow_sub-result-in-X c = let (e, d) = c.requires in search (back_fits, e, d)
-
-pub overflow_sub-result-in-Y : goal.overflow_sub-result-in-Y
-overflow_sub-result-in-Y c = let (e, d) = c.requires in search (less_fits, e, d)
-
-pub overflow_sub-result-in-Y-2 : goal.overflow_sub-result-in-Y-2
-overflow_sub-result-in-Y-2 c = let (e, d) = c.requires in search (less_fits, e, d)
-
-pub overflow_sub-result-in-Z : goal.overflow_sub-result-in-Z
-overflow_sub-result-in-Z c = let (e, d) = c.requires in search (less_fits, e, d)
-
-pub overflow_sub-result-in-Z-2 : goal.overflow_sub-result-in-Z-2
-overflow_sub-result-in-Z-2 c = let (e, d) = c.requires in search (back_fits, e, d)
 
 pub returns-in-X : goal.returns-in-X
 returns-in-X c =
