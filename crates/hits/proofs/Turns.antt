@@ -15,7 +15,7 @@ use Rattle.lines.specs.Lines.{differences, longest, place_26, six_cell, number_2
 use Rattle.lines.specs.Decisions.{raised}
 use Rattle.lines.proofs.Centres.{within_26, grows_26}
 use Rattle.lines.proofs.Cells.{six_at_26}
-use Rattle.tripod.specs.declared.Moves.{Moves}
+use Rattle.cells.specs.declared.Each.{Each}
 use Rattle.tripod.proofs.Laws.{place_small}
 use Rattle.tripod.specs.Tripod.{steps, SmallTripod, LongMoves, moves_on}
 use Rattle.grids.specs.Grid.{byte_of, solid, clear}
@@ -126,7 +126,7 @@ module _ (from : Start) (bytes : ℕ) (k : Route) (plan : Planned bytes k) (l : 
               (runs_on (left - e) (omega arith) (subst (ClearTo l k m) (sym is) cl));
         }
 
-    module _ (r : Moves) (moves : LongMoves D (raised k.order s.e) r) where
+    module _ (r : Each Bool) (moves : LongMoves D (raised k.order s.e) r) where
       -- else the faces between, one at a time
       pub near_faces : (byte_of_spot l s ≡ 0 → ⊥) → Crossing from l k tested s reads (total (moves_on r)) go (at_number m)
       near_faces not-zero =

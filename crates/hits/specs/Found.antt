@@ -1,7 +1,5 @@
 -- Where each walk is, where it stops and what it answers, by the numbers of the 6-line's cells: words for the contracts of inner functions.
 -- No promise rests on this file. Assumes nothing.
-use Rattle.std.specs.Prelude.{Result}
-use Rattle.cells.specs.declared.Refusal.{Refusal}
 use Rattle.std.specs.Prelude.{ℕ, suc, ◌+◌, ◌-◌, ◌≤◌, ◌<◌, ◌≡◌, Bool, true, false, ◌&&◌, List, length}
 use Rattle.cells.specs.declared.Start.{Start}
 use Rattle.lines.specs.Steps.{Axis}
@@ -90,7 +88,7 @@ module _ (from : Start) (l : List ℕ) (k : Route) where
     pub test : 0 < r.left → TestedAt (number_26 k.p k.q (cell_left k r.left)) true
 
   -- what a walk answers
-  abbrev pub found : Walker → Result FirstHit Refusal
+  abbrev pub found : Walker → FirstHit
   found w =
       let how : Conduct = conduct_of from k in
       answer_at how k.n l k.p k.q (end_of how k.n l k.p k.q w) (reads_of how k.n l k.p k.q w)

@@ -18,7 +18,7 @@ use Rattle.walks.specs.declared.FirstHit.TheVariants as FirstHit
 use Rattle.routes.specs.Route.{byte_of_spot, HasByte}
 use Rattle.places.specs.Entered.{entered}
 use Rattle.hits.specs.Answer.{answer_from}
-use Rattle.cells.proofs.Held.{abs_nat, cast_32}
+use Rattle.cells.proofs.Held.{abs_nat}
 use Rattle.routes.proofs.Spots.{p_limit, byte_limit}
 use Rattle.hits.proofs.answer_of.Goals as goal
 use Rattle.hits.proofs.answer_of.Goals.{After-cell_at-cell, After-is_passed, After-is_solid, After-measured-made, Start}
@@ -46,12 +46,6 @@ cell_is c = c.cell_at-cell.ensures ∙ ap (cell_at c.args.k.n) (at_is _ _ c.requ
 pub returns-then-not-is_solid : goal.returns-then-not-is_solid
 unfolding answer_from
 returns-then-not-is_solid c = rw (solid_is ((goal.at.returns-then-not-is_solid c).After-is_solid) ∙ c.if-not-is_solid.true)
-
-pub overflow_cast-spot : goal.overflow_cast-spot
-overflow_cast-spot c = let h = c.requires.1 in cast_32 _ h.index h.is (omega arith)
-
-pub cell_at-cell-requires : goal.cell_at-cell-requires
-cell_at-cell-requires c = (c.requires.0.shaped.x, c.requires.0.shaped.y, below ((goal.at.cell_at-cell-requires c).Start))
 
 pub measured-made-requires : goal.measured-made-requires
 measured-made-requires c =
@@ -91,13 +85,13 @@ unfolding answer_from
 returns c =
     let earlier = goal.at.returns c in
     let made = made_is earlier.After-measured-made (cell_is earlier.After-cell_at-cell) in
-    let place = c.place_after-place.ensures ∙ ap (entered c.args.k.p c.args.k.q c.args.k.order (steps c.args.k.d)) made in
+    let place = c.place_after.ensures ∙ ap (entered c.args.k.p c.args.k.q c.args.k.order (steps c.args.k.d)) made in
     rw (
       solid_is earlier.After-is_solid ∙ c.if-not-is_solid.false,
       passed_is earlier.After-is_passed made,
       c.if-is_passed.false,
     )
-    (λ i. FIXMEokhit (record {
+    (λ i. FirstHit.Hit (record {
       cell = cell_is earlier.After-cell_at-cell i;
       code = c.byte_at-code.ensures i;
       place = place i;

@@ -30,7 +30,7 @@ walk_from-t-requires c =
     let (g, near) = c.requires in
     let l = c.args.cells.now in (
       g.plan,
-      subst (CanWalk l c.args.k c.args.tested c.args.s c.args.reads) (sym c.faces_of.ensures)
+      subst (CanWalk l c.args.k c.args.tested c.args.s c.args.reads) (sym c.faces_of-faces.ensures)
           (record {
             from = g.from;
             next = going l c.args.k Adaptive;
@@ -51,6 +51,6 @@ returns c =
           near_turn from _ c.args.k g.plan l c.args.tested c.args.left c.args.s c.args.reads at _ (moves ((goal.at.returns c).After-long_moves))
           c.walk_from-t.result near
           (subst (λ f. Walked l c.args.k c.args.tested c.args.s c.args.reads f c.walk_from-t.result)
-          c.faces_of.ensures
+          c.faces_of-faces.ensures
           c.walk_from-t.ensures);
     }

@@ -11,7 +11,7 @@ use Rattle.runs.specs.Run.{run_spot}
 use Rattle.hits.specs.Found.{Reached}
 use Rattle.hits.proofs.Turns.{turn_small, turn_raised_small, can_run, end_small, end_values_small, run_leads}
 use Rattle.hits.proofs.run_on.Goals as goal
-use Rattle.hits.proofs.run_on.Goals.{After-lowered-spot, After-run_spot_of-start}
+use Rattle.hits.proofs.run_on.Goals.{After-lowered, After-run_spot_of-start}
 
 pub raised-requires : goal.raised-requires
 raised-requires c = turn_small _ _ _ _ _ _ _ c.requires.0
@@ -39,21 +39,21 @@ spot_of-requires c =
     let (g, is, clear) = c.requires in
     (end_small _ _ _ _ _ _ _ g _ is _ (begins ((goal.at.spot_of-requires c).After-run_spot_of-start)) _ c.clear_run-r.ensures, g.plan.short)
 
-pub lowered-spot-requires : goal.lowered-spot-requires
-lowered-spot-requires c =
+pub lowered-requires : goal.lowered-requires
+lowered-requires c =
     let (g, is, clear) = c.requires in
-    rw c.spot_of.ensures (end_values_small _ _ _ _ _ _ _ g _ is _ (begins ((goal.at.lowered-spot-requires c).After-run_spot_of-start)) _ c.clear_run-r.ensures)
+    rw c.spot_of.ensures (end_values_small _ _ _ _ _ _ _ g _ is _ (begins ((goal.at.lowered-requires c).After-run_spot_of-start)) _ c.clear_run-r.ensures)
 
 -- where the run led
-led : (c : After-lowered-spot) →
+led : (c : After-lowered) →
     c.run_spot_of-start.result ≡ run_spot c.args.long (steps c.args.k.d) (raised_spot c.args.k.order c.args.s) →
     let r = c.clear_run-r.result in
     Reached c.args.cells.now c.args.k true c.args.s c.args.reads c.args.left
-    (record { spot = c.lowered-spot.result; reads = c.args.reads + (c.args.left - r.left); hit = false; left = r.left })
+    (record { spot = c.lowered.result; reads = c.args.reads + (c.args.left - r.left); hit = false; left = r.left })
 led c begun =
     let (g, is, clear) = c.requires in
     run_leads _ _ _ _ _ _ _ g _ is _ begun _ c.clear_run-r.ensures _
-    (c.lowered-spot.ensures ∙ ap (lowered_spot c.args.k.order) c.spot_of.ensures)
+    (c.lowered.ensures ∙ ap (lowered_spot c.args.k.order) c.spot_of.ensures)
 
 pub overflow_sub-made : goal.overflow_sub-made
 overflow_sub-made c = omega (arith, c.clear_run-r.ensures.fewer)
@@ -62,7 +62,7 @@ pub overflow_add-result : goal.overflow_add-result
 overflow_add-result c =
     let g = c.requires.0 in
     let at = goal.at.overflow_add-result c in
-    let w = (led at.After-lowered-spot (begins at.After-run_spot_of-start)).outcome g.from g.at in
+    let w = (led at.After-lowered (begins at.After-run_spot_of-start)).outcome g.from g.at in
     record {
       fits = omega (
         arith,
@@ -75,4 +75,4 @@ overflow_add-result c =
     }
 
 pub returns : goal.returns
-returns c = let at = goal.at.returns c in led at.After-lowered-spot (begins at.After-run_spot_of-start)
+returns c = let at = goal.at.returns c in led at.After-lowered (begins at.After-run_spot_of-start)

@@ -6,7 +6,7 @@ use Rattle.lines.specs.Lines.{differences, longest}
 use Rattle.hits.specs.Found.{At26}
 use Rattle.hits.proofs.Starting.{p_byte, not_clear, from_p, passed_26, turn_came}
 use Rattle.hits.proofs.set_out.Goals as goal
-use Rattle.hits.proofs.set_out.Goals.{Start, Then-passes_solid}
+use Rattle.hits.proofs.set_out.Goals.{Start, Then-passes_solid, else-left-gt0-via-then-left-gt0+else-passes_solid, else-left-gt0-via-else-left-gt0}
 
 -- all long steps of the ends are left
 all : (c : Start) → c.args.left ≡ longest (differences c.args.k.p c.args.k.q)
@@ -34,13 +34,11 @@ returns-then-passes_solid c =
     let a = c.args in
     turn_came a.how.start a.cells.now a.k c.requires.0 false a.start 0 a.left _ c.near_turn.ensures (here ((goal.at.returns-then-passes_solid c).Then-passes_solid))
 
-pub returns-else-passes_solid : goal.returns-else-passes_solid
-returns-else-passes_solid c =
+pub returns : goal.returns
+returns c =
     let a = c.args in
-    from_p a.how.start a.cells.now a.k c.requires.0 a.start c.requires.1 a.left (all ((goal.at.returns-else-passes_solid c).Start))
-    (λ some. sym c.passes_solid.ensures ∙ c.if-passes_solid.false)
-
-pub returns-else-left-gt0 : goal.returns-else-left-gt0
-returns-else-left-gt0 c =
-    let a = c.args in
-    from_p a.how.start a.cells.now a.k c.requires.0 a.start c.requires.1 a.left (all ((goal.at.returns-else-left-gt0 c).Start)) (λ some. absurd (omega (arith, c.if-left-gt0.false)))
+    from_p a.how.start a.cells.now a.k c.requires.0 a.start c.requires.1 a.left (all ((goal.at.returns c).Start)) (
+    elim c.else-left-gt0.branch [
+      | else-left-gt0-via-then-left-gt0+else-passes_solid w ↦ λ some. sym w.passes_solid.ensures ∙ w.if-passes_solid.false
+      | else-left-gt0-via-else-left-gt0 w ↦ λ some. absurd (omega (arith, w.if-left-gt0.false))
+    ])

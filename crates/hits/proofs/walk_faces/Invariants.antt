@@ -1,9 +1,5 @@
-use Prim.Native.Nat.{◌-◌}
 use Rattle.hits.proofs.Walking.{Following}
 use Rattle.hits.proofs.walk_faces.Given as goal
 
 abbrev pub invariant-loop-j : goal.invariant-loop-j
 invariant-loop-j l = Following l.cells l.k l.initial.s l.reads l.past l.faces l.j l.s
-
-abbrev pub decreases-loop-j : goal.decreases-loop-j
-decreases-loop-j l = l.faces - l.j
