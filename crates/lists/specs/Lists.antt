@@ -1,8 +1,7 @@
 -- SCOPE A2, A3, O3: lists of cells, what they write into the lent slice and what they answer. Refusals: of a line list 1 (P before Q; x, y, z), of every list
 -- then 6. Assumes nothing.
-use Rattle.std.specs.Prelude.{Ok, Err, Result}
+use Rattle.std.specs.Prelude.{Ok, Err, Result, ℕ, ◌*◌, ◌≡◌, not, List, [], ◌∷◌, ◌++◌, ◌⊎◌, ltb, ℤ, length, drop}
 use Rattle.cells.specs.declared.Refusal.{Refusal}
-use Rattle.std.specs.Prelude.{ℕ, ◌*◌, ◌≡◌, not, List, [], ◌∷◌, ◌++◌, ◌⊎◌, ltb, ℤ, length, drop}
 use Rattle.std.proofs.Common.{inl, inr}
 use Rattle.cells.specs.declared.Axis.TheVariants.{X, Y, Z}
 use Rattle.cells.specs.declared.End.{End}
@@ -10,8 +9,7 @@ use Rattle.cells.specs.declared.End.TheVariants.{P, Q}
 use Rattle.cells.specs.declared.Cell.{Cell}
 use Rattle.cells.specs.declared.Refusal.TheVariants.{Limit, Room}
 use Rattle.cells.specs.declared.Rule.{Rule}
-use Rattle.cells.specs.Checks.{Verdict}
-use Rattle.cells.specs.Checks.{refuse_when, ◌then◌, by_verdict}
+use Rattle.cells.specs.Checks.{Verdict, refuse_when, ◌then◌, by_verdict}
 use Rattle.cells.specs.Refusals.{Told, told}
 use Rattle.lines.specs.Preference.{by_rule}
 use Rattle.lines.specs.Lines.{six_line, line_26, in_limit}
