@@ -12,8 +12,7 @@ use Rattle.cells.specs.declared.Cell.{Cell}
 use Rattle.cells.specs.declared.Counts.{Counts}
 use Rattle.cells.specs.declared.Refusal.{Refusal}
 use Rattle.cells.specs.declared.Rule.{Rule}
-use Rattle.cells.specs.Checks.{Verdict}
-use Rattle.cells.specs.Checks.{◌then◌, by_verdict}
+use Rattle.cells.specs.Checks.{Verdict, ◌then◌, by_verdict}
 use Rattle.cells.specs.Manners.{rule_of, rule_check}
 use Rattle.lines.specs.Preference.{comes_before, order_of, by_rule}
 use Rattle.lines.specs.Lines.{six_line, line_26}
@@ -36,7 +35,6 @@ use Rattle.survey.specs.declared.Placement.{Placement}
 use Rattle.survey.specs.declared.Point.{Point}
 use Rattle.sight.specs.Sight.{sight, Sees}
 use Rattle.records.specs.Venues.{venue_head}
-use Rattle.records.specs.declared.writing.Written.TheVariants as Written
 use Rattle.records.specs.Writing.{record_length, write_check, after_writing}
 use Rattle.structs.specs.declared.inputs.OatManner.{OatManner}
 use Rattle.structs.specs.declared.refusals.OatSaid.{OatSaid}

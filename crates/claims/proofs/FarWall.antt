@@ -20,8 +20,7 @@ use Rattle.cells.specs.declared.End.{End}
 use Rattle.cells.specs.declared.End.TheVariants.{P, Q}
 use Rattle.cells.specs.declared.Manner.{Manner}
 use Rattle.cells.specs.declared.Refusal.{Refusal}
-use Rattle.cells.specs.Checks.{Verdict}
-use Rattle.cells.specs.Checks.{refuse_when, ◌then◌, by_verdict}
+use Rattle.cells.specs.Checks.{Verdict, refuse_when, ◌then◌, by_verdict}
 use Rattle.cells.proofs.Checks.{fine_rest, each_fine, passed, by_fine}
 use Rattle.grids.specs.Grid.{shape, count_check}
 use Rattle.grids.proofs.Any.{or_false}
@@ -35,8 +34,7 @@ use Rattle.survey.proofs.Numbers.{below_in, number_off_face, off_face, far_not_o
 use Rattle.survey.proofs.Lookups.{no_refusal}
 use Rattle.sight.specs.Sight.{seen, Sees}
 use Rattle.sight.proofs.Seen.{looked_is, sight_is}
-use Rattle.claims.specs.FarWall.{outside_before, value_before, point_before, cell_before, look_up_before, cell_of_before, sight_before}
-use Rattle.claims.specs.FarWall.{AxisKept, on_wall, SameOrWall, OnlyWalls, CallsKept}
+use Rattle.claims.specs.FarWall.{outside_before, value_before, point_before, cell_before, look_up_before, cell_of_before, sight_before, AxisKept, on_wall, SameOrWall, OnlyWalls, CallsKept}
 
 -- ---- one axis
 

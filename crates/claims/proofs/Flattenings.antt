@@ -1,4 +1,6 @@
 -- The claims about the structs for C, from one law over an answer and its struct. Assumes nothing.
+use Rattle.records.specs.declared.venues.Venue.{Venue}
+use Rattle.records.specs.declared.pairs.Pair.{Pair}
 use Rattle.std.specs.Prelude.{Ok, Err, Result, Some, None}
 use Rattle.cells.specs.declared.Cell.{Cell}
 use Prim.Native.Nat.{ℕ, zero, suc}
@@ -22,8 +24,7 @@ use Rattle.cells.specs.declared.Refusal.{Refusal}
 use Rattle.cells.specs.declared.Rule.{Rule}
 use Rattle.cells.specs.declared.Rule.TheVariants.{One, Two}
 use Rattle.cells.specs.declared.Start.TheVariants.{Untested, Tested}
-use Rattle.cells.specs.declared.Refusal.TheVariants.{Limit, Count, Bytes, Layer, OffGrid, Room, Placement, NotFinite, OffSurvey}
-use Rattle.cells.specs.declared.Refusal.TheVariants.{Record, Version, NoRule, Stale, Corners}
+use Rattle.cells.specs.declared.Refusal.TheVariants.{Limit, Count, Bytes, Layer, OffGrid, Room, Placement, NotFinite, OffSurvey, Record, Version, NoRule, Stale, Corners}
 use Rattle.cells.specs.Checks.{Verdict}
 use Rattle.cells.specs.Manners.{rule_of, rule_check}
 use Rattle.cells.specs.Refusals.{Told, told, told_verdict}
@@ -42,11 +43,8 @@ use Rattle.survey.specs.Survey.{told_lookup}
 use Rattle.sight.specs.declared.Block.{Block}
 use Rattle.sight.specs.Sight as sights
 use Rattle.sight.specs.Sight.{told_sight}
-use Rattle.records.specs.declared.venues.VenueRead.{VenueRead}
-use Rattle.records.specs.declared.pairs.PairRead.{PairRead}
 use Rattle.records.specs.Venues.{told_venue}
 use Rattle.records.specs.Pairs.{told_pair}
-use Rattle.records.specs.declared.writing.Written.{Written}
 use Rattle.records.specs.Writing.{told_written}
 use Rattle.structs.specs.declared.refusals.OatSaid.{OatSaid}
 use Rattle.structs.specs.declared.line_answers.OatListed.{OatListed}
@@ -334,10 +332,10 @@ sight_case (Ok (Some b)) =
     refl refl
 sight_case (Err r) = refused r refl refl refl
 
-abbrev venue_values : OatVenue → VenueRead
+abbrev venue_values : OatVenue → Result Venue Refusal
 venue_values f = Ok (record { counts = record { nx = f.nx; ny = f.ny; nz = f.nz }; start = f.offset; long = f.length })
 
-venue_case : (a : VenueRead) → Case told_venue flat_venue (λ f. f.said) Err venue_values a
+venue_case : (a : Result Venue Refusal) → Case told_venue flat_venue (λ f. f.said) Err venue_values a
 venue_case (Ok v) = fine (v.counts, v.start, v.long) refl refl refl
 venue_case (Err r) = refused r refl refl refl
 
@@ -346,7 +344,7 @@ unfolding rule_check rule_of
 named_rule One = (refl, refl)
 named_rule Two = (refl, refl)
 
-abbrev pair_values : OatPair → PairRead
+abbrev pair_values : OatPair → Result Pair Refusal
 pair_values f =
     Ok (record {
       p = record { x = f.px; y = f.py; z = f.pz };
@@ -354,15 +352,15 @@ pair_values f =
       rule = rule_of f.rule;
     })
 
-pair_case : (a : PairRead) → Case told_pair flat_pair (λ f. f.said) Err pair_values a
+pair_case : (a : Result Pair Refusal) → Case told_pair flat_pair (λ f. f.said) Err pair_values a
 pair_case (Ok e) =
     fine (e.p, e.q, e.rule) (λ i. Ok (record { p = e.p; q = e.q; rule = (named_rule e.rule).1 i })) refl refl
 pair_case (Err r) = refused r refl refl refl
 
-abbrev written_values : OatWritten → Written
+abbrev written_values : OatWritten → Result ℕ Refusal
 written_values f = Ok f.written
 
-written_case : (a : Written) → Case told_written flat_written (λ f. f.said) Err written_values a
+written_case : (a : Result ℕ Refusal) → Case told_written flat_written (λ f. f.said) Err written_values a
 written_case (Ok many) = fine many refl refl refl
 written_case (Err r) = refused r refl refl refl
 

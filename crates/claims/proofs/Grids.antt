@@ -14,8 +14,7 @@ use borrow.Author.Tests.{ltb-true, lt-ltb, eqb-true}
 use denote.Ref.{Bor}
 use Rattle.cells.specs.Parts.{StartsAt}
 use Rattle.cells.specs.declared.Counts.{Counts}
-use Rattle.cells.specs.Checks.{Verdict}
-use Rattle.cells.specs.Checks.{by_verdict}
+use Rattle.cells.specs.Checks.{Verdict, by_verdict}
 use Rattle.cells.specs.Touching.{touching, Touches}
 use Rattle.cells.proofs.Checks.{by_fine}
 use Rattle.cells.proofs.Touching.{and_both, touching_iff}

@@ -1,4 +1,5 @@
 -- The table of refusals, from what each call's verdict says (`Judged`). Assumes nothing.
+use Rattle.records.specs.declared.venues.Venue.{Venue}
 use Rattle.std.specs.Prelude.{Ok, Err, Result, Option}
 use Rattle.sight.specs.declared.Block.{Block}
 use Rattle.cells.specs.declared.Cell.{Cell}
@@ -17,8 +18,7 @@ use Rattle.cells.specs.declared.Manner.{Manner}
 use Rattle.cells.specs.declared.End.TheVariants.{P, Q}
 use Rattle.cells.specs.declared.Refusal.{Refusal}
 use Rattle.cells.specs.declared.Start.{Start}
-use Rattle.cells.specs.Checks.{Verdict}
-use Rattle.cells.specs.Checks.{◌then◌, by_verdict}
+use Rattle.cells.specs.Checks.{Verdict, ◌then◌, by_verdict}
 use Rattle.cells.specs.Manners.{rule_of, rule_check}
 use Rattle.cells.specs.Refusals.{Told, told_verdict}
 use Rattle.cells.specs.Tests.{Tests, ◌else◌, First, ByTests}
@@ -56,20 +56,14 @@ use Rattle.survey.proofs.Lookups.{lookup_found}
 use Rattle.sight.specs.Sight as sights
 use Rattle.sight.specs.Sight.{sight_of, seen, looked, sight, Sees, told_sight, SightSaid}
 use Rattle.sight.proofs.Walkable.{walkable}
-use Rattle.records.specs.declared.venues.VenueRead.{VenueRead}
-use Rattle.records.specs.declared.pairs.PairRead.TheVariants as PairRead
-use Rattle.records.specs.declared.writing.Written.TheVariants as Written
 use Rattle.records.specs.Venues.{venue_in, venue_read, ReadsVenue, part_of, venue_cells, GivesCells, told_venue}
 use Rattle.records.specs.Pairs.{pair_in, pair_read, told_pair}
 use Rattle.records.specs.Writing.{record_length, told_written}
 use Rattle.oatmarten.specs.Flattening.{After}
 use Rattle.structs.specs.Inputs.{as_manner}
-use Rattle.claims.specs.Refused.{box_tests, set_tests, TalliesTold}
-use Rattle.claims.specs.Refused.{list_tests, rule_test, LinesTold, TrailsTold, layer_tests, GridsTold, cell_tests, sight_tests, PointsTold, venue_tests, RecordsTold, RulesTold}
+use Rattle.claims.specs.Refused.{box_tests, set_tests, TalliesTold, list_tests, rule_test, LinesTold, TrailsTold, layer_tests, GridsTold, cell_tests, sight_tests, PointsTold, venue_tests, RecordsTold, RulesTold}
 use Rattle.claims.proofs.Records.{the_part}
-use Rattle.claims.proofs.Judged.{list_judged, ends_judged, counts_judged, shape_judged, layer_judged, walk_judged, placement_judged}
-use Rattle.claims.proofs.Judged.{bricks_judged, box_judged, one_corner, set_judged, point_judged, rule_judged}
-use Rattle.claims.proofs.Judged.{venue_judged, pair_judged, write_judged}
+use Rattle.claims.proofs.Judged.{list_judged, ends_judged, counts_judged, shape_judged, layer_judged, walk_judged, placement_judged, bricks_judged, box_judged, one_corner, set_judged, point_judged, rule_judged, venue_judged, pair_judged, write_judged}
 
 -- ---- line lists
 
@@ -262,15 +256,15 @@ points_told n at = record { cell_of = cell_told n at; see = λ how l. see_told h
 
 -- ---- records
 
-venue_told : (s : List ℕ) (r : VenueRead) → ReadsVenue s r → ByTests (venue_tests s) (told_venue r)
+venue_told : (s : List ℕ) (r : Result Venue Refusal) → ReadsVenue s r → ByTests (venue_tests s) (told_venue r)
 unfolding venue_read
 venue_told s r c = answered told_venue (by_verdict Err (Ok (venue_in s))) (λ r. refl) (venue_judged s) (λ fine. (_, refl)) c.says
 
-no_cells : (a : VenueRead) (s : List ℕ) (t : Told) → told_venue a ≡ inl t → part_of a s ≡ []
+no_cells : (a : Result Venue Refusal) (s : List ℕ) (t : Told) → told_venue a ≡ inl t → part_of a s ≡ []
 no_cells (Err r) s t e = refl
 no_cells (Ok v) s t e = one_of_two (sym e)
 
-some_cells : (bytes part : Bor (List ℕ)) → GivesCells bytes part → (a : VenueRead) (w : Counts × ℕ × ℕ) → a ≡ venue_read bytes.now → told_venue a ≡ inr w →
+some_cells : (bytes part : Bor (List ℕ)) → GivesCells bytes part → (a : Result Venue Refusal) (w : Counts × ℕ × ℕ) → a ≡ venue_read bytes.now → told_venue a ≡ inr w →
     1 ≤ length part.now
 some_cells bytes part c (Ok v) w is e = ((the_part bytes part).accepted v (record { says = is }) c).2
 some_cells bytes part c (Err r) w is e = one_of_two e

@@ -19,8 +19,7 @@ use Rattle.cells.specs.declared.Manner.{Manner}
 use Rattle.cells.specs.declared.Rule.TheVariants.{One, Two}
 use Rattle.cells.specs.declared.Start.{Start}
 use Rattle.cells.specs.declared.Start.TheVariants.{Untested, Tested}
-use Rattle.cells.specs.Checks.{Verdict}
-use Rattle.cells.specs.Checks.{by_verdict}
+use Rattle.cells.specs.Checks.{Verdict, by_verdict}
 use Rattle.cells.specs.Manners.{usual, tested_by}
 use Rattle.lines.specs.Preference.{comes_before}
 use Rattle.lines.specs.Lines.{six_cell}

@@ -35,8 +35,7 @@ use Rattle.sight.specs.declared.Block.{Block}
 use Rattle.sight.specs.Sight.{share_of, sight_of, seen, looked, sight, Sees}
 use Rattle.sight.proofs.Seen.{looked_is, sight_is, camera_refused, both_found}
 use Rattle.claims.proofs.Story.{nothing_in_the_way}
-use Rattle.claims.specs.Sights.{SeenOnce, AsTheWalk, NothingInSight, CameraFirst, BlockedAsHit, SeenAlike, SeenThere, SeenBack, Housed, WrongSights}
-use Rattle.claims.specs.Sights.{FarCorner}
+use Rattle.claims.specs.Sights.{SeenOnce, AsTheWalk, NothingInSight, CameraFirst, BlockedAsHit, SeenAlike, SeenThere, SeenBack, Housed, WrongSights, FarCorner}
 use Rattle.claims.specs.Example.{example_counts, at}
 use Rattle.claims.specs.Points.{metres, one_metre, point}
 use Rattle.claims.specs.Starred.{halves}

@@ -1,9 +1,8 @@
 -- The surveyed box is closed (SCOPE S13), and nothing else moved when it was closed: told by the half-open rule that stood before, by which a quotient
 -- equal to the count was outside. Assumes nothing.
-use Rattle.std.specs.Prelude.{Ok, Err, Result, Option}
+use Rattle.std.specs.Prelude.{Ok, Err, Result, Option, ℕ, ◌≤◌, ◌<◌, ◌≡◌, Bool, true, false, not, ◌||◌, List, ◌⊎◌, pos, Float, length}
 use Rattle.sight.specs.declared.Block.{Block}
 use Rattle.cells.specs.declared.Cell.{Cell}
-use Rattle.std.specs.Prelude.{ℕ, ◌≤◌, ◌<◌, ◌≡◌, Bool, true, false, not, ◌||◌, List, ◌⊎◌, pos, Float, length}
 use Rattle.std.specs.Float.Ieee.{lt, le}
 use Rattle.std.specs.Float.Ieee.Scale.{finite}
 use Rattle.cells.specs.declared.Axis.{Axis}
@@ -14,8 +13,7 @@ use Rattle.cells.specs.declared.End.{End}
 use Rattle.cells.specs.declared.End.TheVariants.{P, Q}
 use Rattle.cells.specs.declared.Manner.{Manner}
 use Rattle.cells.specs.declared.Refusal.{Refusal}
-use Rattle.cells.specs.Checks.{Verdict}
-use Rattle.cells.specs.Checks.{refuse_when, ◌then◌, by_verdict}
+use Rattle.cells.specs.Checks.{Verdict, refuse_when, ◌then◌, by_verdict}
 use Rattle.grids.specs.Grid.{shape, count_check}
 use Rattle.grids.specs.Inside.{count_on}
 use Rattle.survey.specs.declared.Placement.{Placement}

@@ -1,7 +1,6 @@
 -- What is claimed of the structs that the calls for C answer by: what C reads of an answer is what SCOPE says of it, as numbers; and of those that
 -- the calls take: what they mean. Assumes nothing.
-use Rattle.std.specs.Prelude.{Ok, Err, Some, None}
-use Rattle.std.specs.Prelude.{ℕ, ◌≤◌, ◌≡◌, ◌⊎◌, ◌↔◌, ℤ, pos, negsuc, Float}
+use Rattle.std.specs.Prelude.{Ok, Err, Some, None, ℕ, ◌≤◌, ◌≡◌, ◌⊎◌, ◌↔◌, ℤ, pos, negsuc, Float}
 use Rattle.std.proofs.Common.{inr}
 use Rattle.cells.specs.declared.Axis.{Axis}
 use Rattle.cells.specs.declared.Axis.TheVariants.{X, Y, Z}
@@ -25,9 +24,6 @@ use Rattle.walks.specs.Answers.{told_hit}
 use Rattle.survey.specs.Quotient.{as_f64}
 use Rattle.survey.specs.Survey.{told_lookup}
 use Rattle.sight.specs.Sight.{told_sight}
-use Rattle.records.specs.declared.venues.VenueRead.TheVariants as VenueRead
-use Rattle.records.specs.declared.pairs.PairRead.TheVariants as PairRead
-use Rattle.records.specs.declared.writing.Written.TheVariants as Written
 use Rattle.records.specs.Venues.{told_venue}
 use Rattle.records.specs.Pairs.{told_pair}
 use Rattle.records.specs.Writing.{told_written}

@@ -1,8 +1,7 @@
 -- Which marks are enough for demand 3 (SCOPE D3, N5 to N7). The number k says which cells beside a solid one are to be marked: 1 those that share a face with
 -- it; 2 a face or an edge, the thin shell; 3 a face, an edge or a corner, the full one, which the calls mark and test. Assumes nothing.
-use Rattle.std.specs.Prelude.{Ok, Result, None}
+use Rattle.std.specs.Prelude.{Ok, Result, None, ℕ, ◌≤◌, ◌≡◌, true, false, List}
 use Rattle.cells.specs.declared.Refusal.{Refusal}
-use Rattle.std.specs.Prelude.{ℕ, ◌≤◌, ◌≡◌, true, false, List}
 use Rattle.cells.specs.declared.Axis.TheVariants.{Z}
 use Rattle.cells.specs.declared.Cell.{Cell}
 use Rattle.cells.specs.declared.Counts.{Counts}

@@ -1,6 +1,5 @@
 -- What is claimed of the sight call, by its contract: for either start mode and rule, every grid, placement, camera and ball. Assumes nothing.
-use Rattle.std.specs.Prelude.{Ok, Err, Result, Some, None, Option}
-use Rattle.std.specs.Prelude.{ℕ, ◌≡◌, true, false, List, length}
+use Rattle.std.specs.Prelude.{Ok, Err, Result, Some, None, Option, ℕ, ◌≡◌, true, false, List, length}
 use Rattle.cells.specs.declared.Cell as cell
 use Rattle.cells.specs.declared.Counts.{Counts}
 use Rattle.cells.specs.declared.Axis.TheVariants.{Y}

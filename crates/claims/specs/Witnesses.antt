@@ -1,7 +1,6 @@
 -- Nothing is claimed of nothing: each record that stands as a premise in the claims is met, on a named input. So a premise that nobody can meet is
 -- refused here. Assumes nothing.
-use Rattle.std.specs.Prelude.{Ok, Err, Some, None}
-use Rattle.std.specs.Prelude.{ℕ, ◌+◌, ◌≤◌, ◌≡◌, true, false, List, [], ◌∷◌, ◌++◌, pos, length}
+use Rattle.std.specs.Prelude.{Ok, Err, Some, None, ℕ, ◌+◌, ◌≤◌, ◌≡◌, true, false, List, [], ◌∷◌, ◌++◌, pos, length}
 use Rattle.std.specs.Borrow.{Bor}
 use Rattle.bricks.specs.Bricks.{brick_there, bit_there}
 use Rattle.claims.specs.Grids.{Inside}
@@ -36,9 +35,6 @@ use Rattle.touching.specs.Touching.{LineTouching, FindsTouching}
 use Rattle.trails.specs.Trails.{AdaptiveCells}
 use Rattle.survey.specs.Survey.{PlacedGrid, quotients, look_up, LooksUp}
 use Rattle.sight.specs.Sight.{share_of, Sees}
-use Rattle.records.specs.declared.venues.VenueRead.TheVariants as VenueRead
-use Rattle.records.specs.declared.pairs.PairRead.TheVariants as PairRead
-use Rattle.records.specs.declared.writing.Written.TheVariants as Written
 use Rattle.records.specs.Heads.{announced, version_of}
 use Rattle.records.specs.Venues.{counts_at, ReadsVenue, GivesCells}
 use Rattle.records.specs.Pairs.{ReadsPair}

@@ -1,6 +1,5 @@
 -- The contracts of a point's cell and of the sight for C: each struct is the flattening of an answer that meets the call's own contract. Assumes nothing.
-use Rattle.std.specs.Prelude.{Err}
-use Rattle.std.specs.Prelude.{◌≡◌, ℕ, List}
+use Rattle.std.specs.Prelude.{Err, ◌≡◌, ℕ, List}
 use Rattle.cells.specs.declared.Counts.{Counts}
 use Rattle.cells.specs.Manners.{rule_check}
 use Rattle.structs.specs.declared.inputs.OatManner.{OatManner}

@@ -1,9 +1,8 @@
 -- How a point's cell and the sight answer are flattened for C: what SCOPE says of them, as numbers. Assumes nothing.
-use Rattle.std.specs.Prelude.{Ok, Err, Result, Some, None, Option}
+use Rattle.std.specs.Prelude.{Ok, Err, Result, Some, None, Option, pos}
 use Rattle.cells.specs.declared.Refusal.{Refusal}
 use Rattle.sight.specs.declared.Block.{Block}
 use Rattle.cells.specs.declared.Cell.{Cell}
-use Rattle.std.specs.Prelude.{pos}
 use Rattle.structs.specs.declared.refusals.OatSaid.{OatSaid}
 use Rattle.structs.specs.declared.sight_answers.OatFound.{OatFound}
 use Rattle.structs.specs.declared.sight_answers.OatSight.{OatSight}
