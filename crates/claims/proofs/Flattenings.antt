@@ -1,7 +1,7 @@
 -- The claims about the structs for C, from one law over an answer and its struct. Assumes nothing.
+use Rattle.std.specs.Prelude.{Ok, Err, Result}
 use Rattle.records.specs.declared.venues.Venue.{Venue}
 use Rattle.records.specs.declared.pairs.Pair.{Pair}
-use Rattle.std.specs.Prelude.{Ok, Err, Result, Some, None}
 use Rattle.cells.specs.declared.Cell.{Cell}
 use Prim.Native.Nat.{ℕ, zero, suc}
 use mathlib.Core.Path.{◌≡◌, refl, sym, ap, ◌∙◌}
@@ -41,6 +41,7 @@ use Rattle.walks.specs.Answers as walk
 use Rattle.walks.specs.Answers.{first_hit, told_hit}
 use Rattle.survey.specs.Survey.{told_lookup}
 use Rattle.sight.specs.declared.Block.{Block}
+use Rattle.sight.specs.declared.Sight.{Sight}
 use Rattle.sight.specs.Sight as sights
 use Rattle.sight.specs.Sight.{told_sight}
 use Rattle.records.specs.Venues.{told_venue}
@@ -321,16 +322,16 @@ block_values f =
       face = face_of f.face;
     }
 
-abbrev sight_values : OatSight → Result (Option Block) Refusal
-sight_values f = cond (eqb f.blocked 1) (Ok (Some (block_values f))) (Ok None)
+abbrev sight_values : OatSight → Sight
+sight_values f = cond (eqb f.blocked 1) (Sight.Blocked (block_values f)) Sight.Clear
 
-sight_case : (a : Result (Option Block) Refusal) → Case told_sight flat_sight (λ f. f.said) Err sight_values a
-sight_case (Ok None) = fine sights.clear refl refl refl
-sight_case (Ok (Some b)) =
+sight_case : (a : Sight) → Case told_sight flat_sight (λ f. f.said) Sight.Refused sight_values a
+sight_case Sight.Clear = fine sights.clear refl refl refl
+sight_case (Sight.Blocked b) =
     fine (sights.blocked b)
-    (λ i. Ok (Some (record { share = b.share; cell = b.cell; code = b.code; reads = b.reads; face = face_back b.face i })))
+    (λ i. Sight.Blocked (record { share = b.share; cell = b.cell; code = b.code; reads = b.reads; face = face_back b.face i }))
     refl refl
-sight_case (Err r) = refused r refl refl refl
+sight_case (Sight.Refused r) = refused r refl refl refl
 
 abbrev venue_values : OatVenue → Result Venue Refusal
 venue_values f = Ok (record { counts = record { nx = f.nx; ny = f.ny; nz = f.nz }; start = f.offset; long = f.length })

@@ -1,7 +1,6 @@
 -- The table of refusals, from what each call's verdict says (`Judged`). Assumes nothing.
+use Rattle.std.specs.Prelude.{Ok, Err, Result}
 use Rattle.records.specs.declared.venues.Venue.{Venue}
-use Rattle.std.specs.Prelude.{Ok, Err, Result, Option}
-use Rattle.sight.specs.declared.Block.{Block}
 use Rattle.cells.specs.declared.Cell.{Cell}
 use Prim.Native.Nat.{ℕ, ◌≤◌}
 use native.Mathlib.Omega.{arith}
@@ -53,6 +52,7 @@ use Rattle.survey.specs.declared.Placement.{Placement}
 use Rattle.survey.specs.declared.Point.{Point}
 use Rattle.survey.specs.Survey.{placement_check, PlacedGrid, quotients, point_check, cell_at, look_up, cell_of, LooksUp, told_lookup}
 use Rattle.survey.proofs.Lookups.{lookup_found}
+use Rattle.sight.specs.declared.Sight.{Sight}
 use Rattle.sight.specs.Sight as sights
 use Rattle.sight.specs.Sight.{sight_of, seen, looked, sight, Sees, told_sight, SightSaid}
 use Rattle.sight.proofs.Walkable.{walkable}
@@ -187,13 +187,13 @@ module _ (how : Manner) (n : Counts) (l : List ℕ) (at : Placement) (camera bal
   abbrev sight_check : Verdict
   sight_check = shape n (length l) then placement_check at then point_check P n camera (quotients at camera) then point_check Q n ball (quotients at ball)
 
-  sight_by : sight how n l at camera ball ≡ by_verdict Err (sight_of (first_hit Adaptive how n l from to)) sight_check
+  sight_by : sight how n l at camera ball ≡ by_verdict Sight.Refused (sight_of (first_hit Adaptive how n l from to)) sight_check
   unfolding sight looked look_up
   sight_by = in_one (shape n (length l)) (placement_check at) (point_check P n camera (quotients at camera)) (point_check Q n ball (quotients at ball))
     where
-      in_one : (u v w x : Verdict) → by_verdict Err
+      in_one : (u v w x : Verdict) → by_verdict Sight.Refused
           (seen how n l (by_verdict Err (Ok from) w) (by_verdict Err (Ok to) x)) (u then v)
-          ≡ by_verdict Err (sight_of (first_hit Adaptive how n l from to)) (u then v then w then x)
+          ≡ by_verdict Sight.Refused (sight_of (first_hit Adaptive how n l from to)) (u then v then w then x)
       in_one (Err r) v w x = refl
       in_one (Ok _) (Err r) w x = refl
       in_one (Ok _) (Ok _) (Err r) x = refl
@@ -219,9 +219,9 @@ module _ (how : Manner) (n : Counts) (l : List ℕ) (at : Placement) (camera bal
   sight_is : sight_check ≡ Ok tt → (v : SightSaid) × (told_sight (sight_of (first_hit Adaptive how n l from to)) ≡ inr v)
   sight_is fine = let (w, is) = walked fine in sight_told (first_hit Adaptive how n l from to) w is
 
-  see_told : (r : Result (Option Block) Refusal) → Sees how n l at camera ball r → ByTests (sight_tests n (length l) at camera ball) (told_sight r)
+  see_told : (r : Sight) → Sees how n l at camera ball r → ByTests (sight_tests n (length l) at camera ball) (told_sight r)
   see_told r c =
-      answered told_sight (by_verdict Err (sight_of (first_hit Adaptive how n l from to))) (λ r. refl) sight_judged sight_is (c.says ∙ sight_by)
+      answered told_sight (by_verdict Sight.Refused (sight_of (first_hit Adaptive how n l from to))) (λ r. refl) sight_judged sight_is (c.says ∙ sight_by)
 
 pub tallies_told : (n : Counts) (l m : List ℕ) → TalliesTold n l m
 tallies_told n l m =
@@ -333,9 +333,9 @@ rules_told =
           let x = sight_of (first_hit Adaptive manner n l (from manner n l at camera ball) (to manner n l at camera ball)) in (
             h.answer,
             h.flat,
-            answered told_sight (by_verdict Err x) (λ r. refl) (rule_judged how.rule next sight_judged manner n l at camera ball)
+            answered told_sight (by_verdict Sight.Refused x) (λ r. refl) (rule_judged how.rule next sight_judged manner n l at camera ball)
                 (λ fine. sight_is manner n l at camera ball (each_fine (rule_check how.rule) _ fine).1)
-                (after_says Err x (rule_check how.rule) (sight_check manner n l at camera ball) (λ r m. m)
+                (after_says Sight.Refused x (rule_check how.rule) (sight_check manner n l at camera ball) (λ r m. m)
                 (λ m. m.says ∙ sight_by manner n l at camera ball) h.meets),
           );
     }

@@ -1,5 +1,5 @@
 -- The claims about shells of marks: over k from the laws, and faces alone by computation on named grids. Assumes nothing.
-use Rattle.std.specs.Prelude.{Ok, Err, Result, None}
+use Rattle.std.specs.Prelude.{Ok, Err, Result}
 use Rattle.cells.specs.declared.Refusal.{Refusal}
 use Prim.Native.Nat.{ℕ, ◌≤◌}
 use mathlib.Core.Path.{◌≡◌, refl, sym, ap, ◌∙◌, subst, subst₂}
@@ -39,6 +39,7 @@ use Rattle.walks.proofs.Modes.{as_usual}
 use Rattle.walks.proofs.MoreClear.{MoreClear, same_hits, plain_alike, clearer_reads}
 use Rattle.walks.proofs.Testing.{hit_solid}
 use Rattle.survey.specs.Survey.{placement_check, look_up}
+use Rattle.sight.specs.declared.Sight.TheVariants as Sight
 use Rattle.sight.specs.Sight.{Sees}
 use Rattle.claims.proofs.Cases.{on_axes}
 use Rattle.claims.specs.Example.{counts, at, faces_there, faces_back, far_counts, faces_inside}
@@ -211,7 +212,7 @@ ball_in : look_up Q far_counts one_metre ball_inside ≡ Ok (at 3 2 2)
 unfolding look_up eq le lt of_int div sub
 ball_in = refl
 
-seen_inside : (how : Manner) → Sees how far_counts faces_inside one_metre camera_inside ball_inside (Ok None)
+seen_inside : (how : Manner) → Sees how far_counts faces_inside one_metre camera_inside ball_inside Sight.Clear
 unfolding shape placement_check eq le lt of_int div sub
 seen_inside how =
     record {

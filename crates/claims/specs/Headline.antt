@@ -1,7 +1,7 @@
 -- The users' three demands, the kept counts and the touching line, a record each, in the words of the calls' contracts. A tester may read this page alone; each name leads to its file.
 -- Assumes nothing.
+use Rattle.std.specs.Prelude.{Ok, Result, ℕ, ◌≤◌, ◌≡◌, List, ◌++◌, ℤ, take}
 use Rattle.records.specs.declared.venues.Venue.{Venue}
-use Rattle.std.specs.Prelude.{Ok, Result, None, ℕ, ◌≤◌, ◌≡◌, List, ◌++◌, ℤ, take}
 use Rattle.std.specs.Borrow.{Bor}
 use Rattle.cells.specs.declared.Cell.{Cell}
 use Rattle.cells.specs.declared.Counts.{Counts}
@@ -21,6 +21,7 @@ use Rattle.walks.specs.declared.FirstHit.{FirstHit}
 use Rattle.walks.specs.Answers.{Finds}
 use Rattle.survey.specs.declared.Placement.{Placement}
 use Rattle.survey.specs.declared.Point.{Point}
+use Rattle.sight.specs.declared.Sight.TheVariants as Sight
 use Rattle.sight.specs.Sight.{Sees}
 use Rattle.records.specs.Venues.{ReadsVenue, GivesCells}
 use Rattle.records.specs.Writing.{WritesVenue}
@@ -110,7 +111,7 @@ pub record TellOneStory : Type 0 where
   pub same : (how : Manner) (n : Counts) (l : List ℕ) (p q : Cell) → Completes n l (Ok true) → (plain adaptive : Result FirstHit Refusal) →
       Finds Plain how n l p q plain → Finds Adaptive how n l p q adaptive → SameStory plain adaptive
   pub clear : (how : Manner) (n : Counts) (l : List ℕ) (at : Placement) (camera ball : Point) → Completes n l (Ok true) →
-      Sees how n l at camera ball (Ok None) → OpenWay how n l at camera ball
+      Sees how n l at camera ball Sight.Clear → OpenWay how n l at camera ball
   pub shells : Shells
   pub faces_alone : FacesAlone
   pub less : (n : Counts) (l : List ℕ) → AsksLess n l

@@ -1,10 +1,9 @@
 -- SCOPE, R and O: for each public call its tests in order, each in plain inequalities on the call's inputs and with the
 -- number and details that it gives; and the claim that every answer that meets the call's contract is given by them. Assumes nothing.
+use Rattle.std.specs.Prelude.{Result, ℕ, ◌+◌, ◌*◌, ◌/◌, ◌<◌, ◌≡◌, true, false, List, [], ◌↔◌, ◌⊎◌, ℤ, pos, neg_ℤ, ◌<ℤ◌, ◌≤ℤ◌, length, get_or, Float}
+use Rattle.cells.specs.declared.Refusal.{Refusal}
 use Rattle.records.specs.declared.venues.Venue.{Venue}
 use Rattle.records.specs.declared.pairs.Pair.{Pair}
-use Rattle.std.specs.Prelude.{Result, Option, ℕ, ◌+◌, ◌*◌, ◌/◌, ◌<◌, ◌≡◌, true, false, List, [], ◌↔◌, ◌⊎◌, ℤ, pos, neg_ℤ, ◌<ℤ◌, ◌≤ℤ◌, length, get_or, Float}
-use Rattle.cells.specs.declared.Refusal.{Refusal}
-use Rattle.sight.specs.declared.Block.{Block}
 use Rattle.std.specs.Borrow.{Bor}
 use Rattle.std.specs.Float.{binary64}
 use Rattle.std.specs.Float.Ieee.{sub, div, lt}
@@ -44,6 +43,7 @@ use Rattle.survey.specs.declared.Placement.{Placement}
 use Rattle.survey.specs.declared.Point.{Point}
 use Rattle.survey.specs.Quotient.{as_f64}
 use Rattle.survey.specs.Survey.{LooksUp, told_lookup}
+use Rattle.sight.specs.declared.Sight.{Sight}
 use Rattle.sight.specs.Sight.{Sees, told_sight}
 use Rattle.buffers.specs.Numbers.{two_at, four_at}
 use Rattle.records.specs.Venues.{ReadsVenue, GivesCells, told_venue}
@@ -249,7 +249,7 @@ pub record TalliesTold (n : Counts) (l m : List ℕ) : Type 0 where
 -- surveyed points
 pub record PointsTold (n : Counts) (at : Placement) : Type 0 where
   pub cell_of : (p : Point) (r : Result Cell Refusal) → LooksUp n at p r → ByTests (cell_tests n at p) (told_lookup r)
-  pub see : (how : Manner) (l : List ℕ) (camera ball : Point) (r : Result (Option Block) Refusal) → Sees how n l at camera ball r →
+  pub see : (how : Manner) (l : List ℕ) (camera ball : Point) (r : Sight) → Sees how n l at camera ball r →
       ByTests (sight_tests n (length l) at camera ball) (told_sight r)
 
 -- records; a venue's part is empty exactly where its partner refuses
@@ -270,4 +270,4 @@ pub record RulesTold : Type 0 where
   pub walks : (w : Walker) (how : OatManner) (n : Counts) (l : List ℕ) (p q : Cell) (r : OatHit) → FlatFinds w how n l p q r →
       (a : Result FirstHit Refusal) × (r ≡ flat_hit a) × ByTests (rule_test how.rule else walk_tests n (length l) p q) (told_hit a)
   pub seen : (how : OatManner) (n : Counts) (l : List ℕ) (at : Placement) (camera ball : Point) (r : OatSight) → FlatSees how n l at camera ball r →
-      (a : Result (Option Block) Refusal) × (r ≡ flat_sight a) × ByTests (rule_test how.rule else sight_tests n (length l) at camera ball) (told_sight a)
+      (a : Sight) × (r ≡ flat_sight a) × ByTests (rule_test how.rule else sight_tests n (length l) at camera ball) (told_sight a)

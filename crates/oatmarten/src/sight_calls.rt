@@ -3,6 +3,7 @@ ghost use Rattle.structs.specs.Inputs.{as_counts, as_placement, as_point};
 ghost use Rattle.oatmarten.specs.SightCalls.{FlatLooksUp, FlatSees};
 
 use cells::Manner;
+use sight::Sight;
 use structs::{OatCounts, OatFound, OatManner, OatPlacement, OatPoint, OatSight};
 
 // The cell of a surveyed point.
@@ -23,7 +24,8 @@ pub fn oat_sight(
 ) -> OatSight
     ensures { FlatSees how (as_counts n) cells.now (as_placement at) (as_point camera) (as_point ball) result }
 {
-    Manner::try_from(how)
-        .and_then(|how| sight::see(n.into(), cells, at.into(), camera.into(), ball.into(), how))
-        .into()
+    match Manner::try_from(how) {
+        Err(r) => Sight::Refused(r).into(),
+        Ok(how) => sight::see(n.into(), cells, at.into(), camera.into(), ball.into(), how).into(),
+    }
 }

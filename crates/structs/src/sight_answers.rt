@@ -5,7 +5,7 @@ ghost use Rattle.structs.specs.SightAnswers.{flat_found, unblocked, flat_sight};
 use crate::faces::face_code;
 use crate::refusals::{ACCEPTED, OatSaid};
 use cells::{Cell, Refusal};
-use sight::Block;
+use sight::{Block, Sight};
 
 // The cell of a point.
 #[repr(C)]
@@ -71,7 +71,7 @@ fn unblocked(said: OatSaid) -> OatSight
 }
 
 fn flat_blocked(b: Block) -> OatSight
-    ensures { result ≡ flat_sight (Ok (Some b)) }
+    ensures { result ≡ flat_sight (Sight.Blocked b) }
 {
     OatSight {
         said: ACCEPTED,
@@ -86,14 +86,14 @@ fn flat_blocked(b: Block) -> OatSight
     }
 }
 
-impl From<Result<Option<Block>, Refusal>> for OatSight {
+impl From<Sight> for OatSight {
     ghost from_gives = { λ s r. r ≡ flat_sight s };
 
-    fn from(s: Result<Option<Block>, Refusal>) -> OatSight {
+    fn from(s: Sight) -> OatSight {
         match s {
-            Ok(Some(b)) => flat_blocked(b),
-            Ok(None) => unblocked(ACCEPTED),
-            Err(r) => unblocked(r.into()),
+            Sight::Blocked(b) => flat_blocked(b),
+            Sight::Clear => unblocked(ACCEPTED),
+            Sight::Refused(r) => unblocked(r.into()),
         }
     }
 }
