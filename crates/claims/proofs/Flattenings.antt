@@ -251,7 +251,7 @@ abbrev part_values : OatPart → Result LayerPart Refusal
 part_values f = Ok (part_at f.offset f.length)
 
 part_case : (a : Result LayerPart Refusal) → Case told_part flat_part (λ f. f.said) Err part_values a
-part_case (Ok (part_at start many)) = fine (start, many) refl refl refl
+part_case (Ok p) = fine (p.start, p.long) refl refl refl
 part_case (Err r) = refused r refl refl refl
 
 abbrev tally_values : OatTally → Result ℕ Refusal
@@ -296,12 +296,12 @@ hit_case : (a : Result FirstHit Refusal) → Case told_hit flat_hit (λ f. f.sai
 hit_case (Ok (FirstHit.Clear reads)) = fine (walk.clear reads) refl refl refl
 hit_case (Ok (FirstHit.Hit h)) =
     fine (walk.hit h)
-    (λ i. FIXMEokhit (record {
+    (λ i. Ok (FirstHit.Hit (record {
       cell = h.cell;
       code = h.code;
       place = record { num = h.place.num; den = h.place.den; face = face_back h.place.face i };
       reads = h.reads;
-    }))
+    })))
     refl refl
 hit_case (Err r) = refused r refl refl refl
 

@@ -110,7 +110,7 @@ one_of_two e = absurd (let z : ◌≡◌ {A = ℕ} 0 1 = cc in omega arith)
 
 no_bytes : (a : Result LayerPart Refusal) (l : List ℕ) (t : Told) → told_part a ≡ inl t → bytes_of a l ≡ []
 no_bytes (Err r) l t e = refl
-no_bytes (Ok (part_at start long)) l t e = one_of_two (sym e)
+no_bytes (Ok p) l t e = one_of_two (sym e)
 
 layer_told : (n : Counts) (z : ℤ) (cells part : Bor (List ℕ)) → GivesLayer n cells z part →
     (part.now ≡ []) ↔ ((t : Told) × First (layer_tests n (length cells.now) z) t)

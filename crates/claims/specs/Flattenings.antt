@@ -126,8 +126,9 @@ pub record FlatRows : Type 0 where
   pub tally_refused : (r : Refusal) → flat_tally (Err r) ≡ record { said = flat_refusal r; total = 0 }
   -- a walk: `hit` is 1 where it hit, with the cell, its code, the place num over den, the face, and the reads; 0 where it is clear, with the reads
   pub hit : (x y z : ℤ) (code num den : ℕ) (f : Face) (reads : ℕ) →
-      flat_hit ((λ x. Ok (FirstHit.Hit x))
-      (record { cell = record { x = x; y = y; z = z }; code = code; place = record { num = num; den = den; face = f }; reads = reads })) ≡
+      flat_hit
+      (Ok
+      (FirstHit.Hit (record { cell = record { x = x; y = y; z = z }; code = code; place = record { num = num; den = den; face = f }; reads = reads }))) ≡
       record { said = three 0 0 0; hit = 1; x = x; y = y; z = z; code = code; num = num; den = den; face = face_number f; reads = reads }
   pub walk_clear : (reads : ℕ) → flat_hit (Ok (FirstHit.Clear reads)) ≡
       record { said = three 0 0 0; hit = 0; x = pos 0; y = pos 0; z = pos 0; code = 0; num = 0; den = 0; face = pos 0; reads = reads }

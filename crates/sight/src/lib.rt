@@ -2,7 +2,7 @@
 #![tactic(auto)]
 
 ghost use Rattle.std.specs.Prelude.{◌≡◌, length};
-ghost use Rattle.cells.specs.Checks.{by_verdict};
+ghost use Rattle.cells.specs.Checks.{◌then◌};
 ghost use Rattle.grids.specs.Grid.{shape};
 ghost use Rattle.walks.specs.declared.Walker.TheVariants.{Adaptive};
 ghost use Rattle.grids.specs.Inside.{walk_check};
@@ -73,39 +73,30 @@ fn look(n: Counts, cells: &[u8], at: Placement, camera: Point, ball: Point, how:
 {
     let from = survey::look_up(End::P, n, at, camera);
     let Ok(p) = from else {
-        return refused_by(from);
+        return Sight::Refused(from.unwrap_err());
     };
     let to = survey::look_up(End::Q, n, at, ball);
     let Ok(q) = to else {
-        return refused_by(to);
+        return Sight::Refused(to.unwrap_err());
     };
     sight_of(walked(n, cells, p, q, how))
 }
 
-// Where the shape passed its test: refusal 7, then the lookups.
-fn look_from(
-    n: Counts,
-    cells: &[u8],
-    at: Placement,
-    camera: Point,
-    ball: Point,
-    how: Manner,
-) -> Sight
-    requires { shape n (length cells.now) ≡ Ok tt }
-    ensures { result ≡ by_verdict Sight.Refused (looked how n cells.now at camera ball) (placement_check at) }
+// What is tested before any point: refusals 2, 3, then 7.
+fn check(n: Counts, bytes: usize, at: Placement) -> Result<(), Refusal>
+    ensures { result ≡ (shape n bytes then placement_check at) }
 {
-    match survey::check_placement(at) {
-        Err(r) => Sight::Refused(r),
-        Ok(()) => look(n, cells, at, camera, ball, how),
-    }
+    grids::shape(n, bytes)?;
+    survey::check_placement(at)
 }
 
 // Whether anything is in the way from the camera to the ball.
+#[tactic(auto, unfolding(crate::specs::Sight::sight))]
 pub fn see(n: Counts, cells: &[u8], at: Placement, camera: Point, ball: Point, how: Manner) -> Sight
     ensures { Sees how n cells.now at camera ball result }
 {
-    match grids::shape(n, cells.len()) {
+    match check(n, cells.len(), at) {
         Err(r) => Sight::Refused(r),
-        Ok(()) => look_from(n, cells, at, camera, ball, how),
+        Ok(()) => look(n, cells, at, camera, ball, how),
     }
 }
