@@ -1,5 +1,6 @@
 -- The spot of a cell of the 26-line, and the faces from there to the next one. Assumes nothing.
 use mathlib.Core.Path.{◌≡◌, sym, ap, ◌∙◌, subst, fun_ext}
+use mathlib.Core.Bool.{Bool}
 use Prim.Native.Nat.{ℕ, ◌+◌, ◌≤◌, ◌<◌}
 use native.Mathlib.Omega.{arith}
 use Rattle.lines.specs.Steps.{X, Y, Z, Steps, total}
@@ -8,7 +9,7 @@ use Rattle.lines.specs.Lines.{differences, longest, place_26, number_26}
 use Rattle.lines.specs.Decisions.{values, raised}
 use Rattle.lines.proofs.Centres.{is_place_26, moved_start, moved_end, longest_most}
 use Rattle.lines.proofs.Signs.{raised_back}
-use Rattle.tripod.specs.declared.Moves.{Moves}
+use Rattle.cells.specs.declared.Each.{Each}
 use Rattle.tripod.specs.Tripod.{LongMoves, moves_on}
 use Rattle.routes.specs.declared.Route.{Route}
 use Rattle.routes.specs.declared.Spot.{Spot}
@@ -44,7 +45,7 @@ module _ (k : Route) where
 
   -- so many faces lie before the next
   pub faces_between :
-      (m : ℕ) (s : Spot) (r : Moves) → m < longest D → SpotAt k (place (course k) (number_26 k.p k.q m)) s → LongMoves D (raised k.order s.e) r →
+      (m : ℕ) (s : Spot) (r : Each Bool) → m < longest D → SpotAt k (place (course k) (number_26 k.p k.q m)) s → LongMoves D (raised k.order s.e) r →
       number_26 k.p k.q (m + 1) ≡ number_26 k.p k.q m + total (moves_on r)
   faces_between m s r lt h moves =
       let value = figure_6_values m s (omega arith) h in

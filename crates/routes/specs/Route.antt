@@ -3,6 +3,7 @@ use Rattle.std.specs.Prelude.{ℕ, ◌*◌, ◌≤◌, ◌<◌, ◌≡◌, cond,
 use Rattle.std.specs.Int.Signed.{le_z}
 use Rattle.cells.specs.declared.Cell.{Cell}
 use Rattle.cells.specs.declared.Counts.{Counts}
+use Rattle.cells.specs.declared.Each.{Each}
 use Rattle.cells.specs.declared.Rule.{Rule}
 use Rattle.cells.specs.Small.{Small}
 use Rattle.lines.specs.declared.Order.{Order}
@@ -14,7 +15,6 @@ use Rattle.lines.specs.Decisions.{values, doubled, moved_values, lowered, raised
 use Rattle.tripod.specs.Tripod.{steps, Short, SmallTripod, SmallDoubled}
 use Rattle.grids.specs.Grid.{byte_index}
 use Rattle.grids.specs.Inside.{Shaped, InGrid}
-use Rattle.routes.specs.declared.Strides.{Strides}
 use Rattle.routes.specs.declared.Route.{Route}
 use Rattle.routes.specs.declared.Spot.{Spot}
 
@@ -23,11 +23,11 @@ abbrev pub stride : ℤ → ℤ → ℕ → ℤ
 stride p q width = cond (le_z p q) (pos width) (pos 0 -ℤ pos width)
 
 -- on each axis: x fastest, then y, then z
-abbrev pub strides : Counts → Cell → Cell → Strides
+abbrev pub strides : Counts → Cell → Cell → Each ℤ
 strides n p q = record { x = stride p.x q.x 1; y = stride p.y q.y n.nx; z = stride p.z q.z (n.nx * n.ny) }
 
 -- the stride along an axis
-abbrev pub stride_on : Strides → Axis → ℤ
+abbrev pub stride_on : Each ℤ → Axis → ℤ
 stride_on h X = h.x
 stride_on h Y = h.y
 stride_on h Z = h.z

@@ -7,19 +7,11 @@ ghost use Rattle.lines.specs.Steps.{at};
 ghost use Rattle.lines.specs.Lines.{differences};
 ghost use Rattle.tripod.specs.Tripod.{steps, Short, SmallTripod};
 ghost use Rattle.grids.specs.Inside.{Enclosed};
-ghost use Rattle.routes.specs.Route.{stride, strides, RouteOf, SpotAt, HasByte, byte_of_spot, crossed_spot, raised_spot, lowered_spot, CanCross};
+ghost use Rattle.routes.specs.Route.{stride, strides, RouteOf, SpotAt, HasByte, byte_there, byte_of_spot, crossed_spot, raised_spot, lowered_spot, CanCross};
 
-use cells::{Axis, Cell, Counts, Rule};
+use cells::{Axis, Cell, Counts, Each, Rule};
 use lines::{Doubled, Order, Tripod};
 use tripod::Diffs;
-
-// How far the place of a byte moves with a cell towards Q, on each axis.
-#[derive(Clone, Copy)]
-pub struct Strides {
-    pub x: i32,
-    pub y: i32,
-    pub z: i32,
-}
 
 // What stays the same along a walk.
 #[derive(Clone, Copy)]
@@ -29,7 +21,8 @@ pub struct Route {
     pub q: Cell,
     pub order: Order,
     pub d: Diffs,
-    pub strides: Strides,
+    // how far the place of a byte moves with a cell towards Q
+    pub strides: Each<i32>,
     pub twice: Doubled,
 }
 
@@ -46,18 +39,19 @@ fn stride_to(p: i32, q: i32, width: u32) -> i32
     ensures { result ≡ stride p q width }
 {
     let forward = width as i32;
-    if p <= q { forward } else { 0 - forward }
+    if p <= q { forward } else { -forward }
 }
 
 // The strides from p towards q.
-fn strides_of(n: Counts, p: Cell, q: Cell) -> Strides
+fn strides_of(n: Counts, p: Cell, q: Cell) -> Each<i32>
     requires { Enclosed n p × Enclosed n q }
     ensures { result ≡ strides n p q }
 {
-    let x = stride_to(p.x, q.x, 1);
-    let y = stride_to(p.y, q.y, n.nx);
-    let z = stride_to(p.z, q.z, n.nx * n.ny);
-    Strides { x: x, y: y, z: z }
+    Each {
+        x: stride_to(p.x, q.x, 1),
+        y: stride_to(p.y, q.y, n.nx),
+        z: stride_to(p.z, q.z, n.nx * n.ny),
+    }
 }
 
 // The route from p to q, ties by a rule.
@@ -66,17 +60,14 @@ pub fn route_of(n: Counts, p: Cell, q: Cell, rule: Rule) -> Route
     ensures { RouteOf rule n p q result }
 {
     let d = tripod::measured(p, q);
-    let strides = strides_of(n, p, q);
-    let twice = tripod::twice(d);
-    let order = tripod::order_of(rule, p, q);
     Route {
-        n: n,
-        p: p,
-        q: q,
-        order: order,
-        d: d,
-        strides: strides,
-        twice: twice,
+        n,
+        p,
+        q,
+        order: tripod::order_of(rule, p, q),
+        d,
+        strides: strides_of(n, p, q),
+        twice: tripod::twice(d),
     }
 }
 
@@ -85,10 +76,10 @@ pub fn first_spot(k: Route) -> Spot
     requires { Enclosed k.n k.p × Short k.d × (steps k.d ≡ differences k.p k.q) }
     ensures { SpotAt k (at 0 0 0) result }
 {
-    let order = k.order;
-    let e = tripod::lowered(tripod::first_values(k.d), order);
-    let index = grids::index_of(k.n, k.p) as i32;
-    Spot { at: index, e: e }
+    Spot {
+        at: grids::index_of(k.n, k.p) as i32,
+        e: tripod::lowered(tripod::first_values(k.d), k.order),
+    }
 }
 
 // A spot with the values of figure 6 themselves.
@@ -96,10 +87,10 @@ pub fn raised(s: Spot, k: Route) -> Spot
     requires { SmallTripod s.e }
     ensures { result ≡ raised_spot k.order s }
 {
-    let at = s.at;
-    let order = k.order;
-    let e = tripod::raised(s.e, order);
-    Spot { at: at, e: e }
+    Spot {
+        e: tripod::raised(s.e, k.order),
+        ..s
+    }
 }
 
 // And with those that are kept along the route again.
@@ -107,10 +98,18 @@ pub fn lowered(s: Spot, k: Route) -> Spot
     requires { SmallTripod s.e }
     ensures { result ≡ lowered_spot k.order s }
 {
-    let at = s.at;
-    let order = k.order;
-    let e = tripod::lowered(s.e, order);
-    Spot { at: at, e: e }
+    Spot {
+        e: tripod::lowered(s.e, k.order),
+        ..s
+    }
+}
+
+// The byte there.
+pub fn byte_there(cells: &[u8], at: i32) -> u8
+    requires { HasByte (length cells.now) at }
+    ensures { result ≡ byte_there cells.now at }
+{
+    cells[at as usize]
 }
 
 // The byte of a spot.
@@ -118,8 +117,7 @@ pub fn byte_at(cells: &[u8], s: Spot) -> u8
     requires { HasByte (length cells.now) s.at }
     ensures { result ≡ byte_of_spot cells.now s }
 {
-    let index = s.at as usize;
-    cells[index]
+    byte_there(cells, s.at)
 }
 
 // The spot across the next face along n.
@@ -127,23 +125,13 @@ pub fn crossed(s: Spot, k: Route, n: Axis) -> Spot
     requires { CanCross s k }
     ensures { result ≡ crossed_spot k n s }
 {
-    let at = s.at;
-    let e = s.e;
-    let strides = k.strides;
-    let twice = k.twice;
-    let moved = tripod::moved(e, twice, n);
-    match n {
-        Axis::X => Spot {
-            at: at + strides.x,
-            e: moved,
-        },
-        Axis::Y => Spot {
-            at: at + strides.y,
-            e: moved,
-        },
-        Axis::Z => Spot {
-            at: at + strides.z,
-            e: moved,
-        },
+    let stride = match n {
+        Axis::X => k.strides.x,
+        Axis::Y => k.strides.y,
+        Axis::Z => k.strides.z,
+    };
+    Spot {
+        at: s.at + stride,
+        e: tripod::moved(s.e, k.twice, n),
     }
 }

@@ -47,9 +47,10 @@ module _ (r : Preference) (n : Counts) (l : List ℕ) (p q : Cell) where
       let e : ℕ = ends hits (last_number p q) (step r n l p q k) (six_count p q) 0 in
       let many : ℕ = visits hits (last_number p q) (step r n l p q k) (six_count p q) 0 in
       by_verdict Err
+      (Ok
       (cond (hits e)
-      (Ok (FirstHit.Hit (record { cell = six_cell r p q e; code = byte_of n l (six_cell r p q e); place = entered_at r p q e; reads = many })))
-      (Ok (FirstHit.Clear many))) (walk_check n (length l) p q)
+      (FirstHit.Hit (record { cell = six_cell r p q e; code = byte_of n l (six_cell r p q e); place = entered_at r p q e; reads = many }))
+      (FirstHit.Clear many))) (walk_check n (length l) p q)
 
 -- where P is not solid both starts give one answer, under either rule
 pub modes_alike : (n : Counts) (l : List ℕ) (p q : Cell) (k : Walker) (rule : Rule) (one other : Start) → solid (byte_of n l p) ≡ false →
@@ -86,18 +87,18 @@ module _ (n : Counts) (l : List ℕ) (p : Cell) where
       either false r = refl
 
   -- and where it is not tested the answer is clear
-  clear_at : (how : Conduct) → is_tested how.start ≡ false → (e many : ℕ) → e ≡ 0 → many ≡ 1 → answer_at how n l p p e many ≡ Ok (FirstHit.Clear 1)
+  clear_at : (how : Conduct) → is_tested how.start ≡ false → (e many : ℕ) → e ≡ 0 → many ≡ 1 → answer_at how n l p p e many ≡ FirstHit.Clear 1
   clear_at how h e many start one =
-      none (hits_at how n l p p e) _ (ap (hits_at how n l p p) start ∙ start_exempt n l p p how h) ∙ ap Ok (FirstHit.Clear one)
+      none (hits_at how n l p p e) _ (ap (hits_at how n l p p) start ∙ start_exempt n l p p how h) ∙ ap FirstHit.Clear one
     where
-      none : (b : Bool) (hit : Hit) → b ≡ false → cond b (Ok (FirstHit.Hit hit)) (Ok (FirstHit.Clear many)) ≡ Ok (FirstHit.Clear many)
-      none b hit e = ap (λ t. cond t (Ok (FirstHit.Hit hit)) (Ok (FirstHit.Clear many))) e
+      none : (b : Bool) (hit : Hit) → b ≡ false → cond b (FirstHit.Hit hit) (FirstHit.Clear many) ≡ FirstHit.Clear many
+      none b hit e = ap (λ t. cond t (FirstHit.Hit hit) (FirstHit.Clear many)) e
 
   pub equal_ends : (k : Walker) (how : Manner) → is_tested how.start ≡ false →
       first_hit k how n l p p ≡ by_verdict Err (Ok (FirstHit.Clear 1)) (walk_check n (length l) p p)
   equal_ends k how h =
       let c : Conduct = conduct how p p in
-      first_hit_is how n l p p k ∙ ap (λ a. by_verdict Err a (walk_check n (length l) p p))
+      first_hit_is how n l p p k ∙ ap (λ a. by_verdict Err (Ok a) (walk_check n (length l) p p))
       (clear_at c h (end_of c n l p p k) (reads_of c n l p p k) (omega (arith, end_below c n l p p k, no_steps)) (one_read k c))
 
 -- ---- the rule
@@ -106,7 +107,7 @@ module _ (n : Counts) (l : List ℕ) (p : Cell) where
 pub same_conduct : (n : Counts) (l : List ℕ) (p q : Cell) (k : Walker) (how other : Manner) → conduct how p q ≡ conduct other p q →
     first_hit k how n l p q ≡ first_hit k other n l p q
 unfolding first_hit
-same_conduct n l p q k how other e = ap (λ c. by_verdict Err (answer_of c n l p q (walk_of k c n l p q)) (walk_check n (length l) p q)) e
+same_conduct n l p q k how other e = ap (λ c. by_verdict Err (Ok (answer_of c n l p q (walk_of k c n l p q))) (walk_check n (length l) p q)) e
 
 -- from an end that does not come after the other, both rules make the same walk
 pub first_alike : (n : Counts) (l : List ℕ) (p q : Cell) (k : Walker) (how : Manner) → comes_before q p ≡ false →

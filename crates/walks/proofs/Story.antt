@@ -44,9 +44,9 @@ module _ (how : Conduct) (n : Counts) (l : List ℕ) (p q : Cell) where
   answer_is : (cells : List Cell) (e r : ℕ) → e ≤ N → last_of p cells ≡ f e → length cells ≡ r → answer_of how n l p q cells ≡ answer_at how n l p q e r
   unfolding answer_of place_of
   answer_is cells e r le last many =
-      ap₂ (λ w k. cond (hit_at how n l p w) (Ok (FirstHit.Hit (record { cell = w; code = byte_of n l w; place = place_of how.preference p q w; reads = k })))
-      (Ok (FirstHit.Clear k))) last many
-      ∙ ap (λ a. cond (hit_at how n l p (f e)) (Ok (FirstHit.Hit (record { cell = f e; code = byte_of n l (f e); place = a; reads = r }))) (Ok (FirstHit.Clear r)))
+      ap₂ (λ w k. cond (hit_at how n l p w) (FirstHit.Hit (record { cell = w; code = byte_of n l w; place = place_of how.preference p q w; reads = k }))
+      (FirstHit.Clear k)) last many
+      ∙ ap (λ a. cond (hit_at how n l p (f e)) (FirstHit.Hit (record { cell = f e; code = byte_of n l (f e); place = a; reads = r })) (FirstHit.Clear r))
       (ap (place_by how.preference p q) (six_found how.preference p q e le))
 
   walk_ended : (k : Walker) → Ended (hits_at how n l p q) N (step how.preference n l p q k)
@@ -169,7 +169,7 @@ module _ (how : Conduct) (n : Counts) (l : List ℕ) (p q : Cell) where
 
 pub first_hit_is : (how : Manner) (n : Counts) (l : List ℕ) (p q : Cell) (k : Walker) →
     let c : Conduct = conduct how p q in
-    first_hit k how n l p q ≡ by_verdict Err (answer_at c n l p q (end_of c n l p q k) (reads_of c n l p q k)) (walk_check n (length l) p q)
+    first_hit k how n l p q ≡ by_verdict Err (Ok (answer_at c n l p q (end_of c n l p q k) (reads_of c n l p q k))) (walk_check n (length l) p q)
 unfolding first_hit
 first_hit_is how n l p q k =
-    ap (λ a. by_verdict Err a (walk_check n (length l) p q)) (answer_by_numbers (conduct how p q) n l p q k)
+    ap (λ a. by_verdict Err (Ok a) (walk_check n (length l) p q)) (answer_by_numbers (conduct how p q) n l p q k)

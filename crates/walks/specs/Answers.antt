@@ -51,13 +51,13 @@ last_of c [] = c
 last_of c (d ∷ l) = last_of d l
 
 -- SCOPE W4, W6: a hit where its last cell is one, else clear; its length is the reads
-unfoldable pub answer_of : Conduct → Counts → List ℕ → Cell → Cell → List Cell → Result FirstHit Refusal
+unfoldable pub answer_of : Conduct → Counts → List ℕ → Cell → Cell → List Cell → FirstHit
 unfolding place_of
 answer_of how n l p q cells =
     let w : Cell = last_of p cells in
     cond (hit_at how n l p w)
-    (Ok (FirstHit.Hit (record { cell = w; code = byte_of n l w; place = place_of how.preference p q w; reads = length cells })))
-    (Ok (FirstHit.Clear (length cells)))
+    (FirstHit.Hit (record { cell = w; code = byte_of n l w; place = place_of how.preference p q w; reads = length cells }))
+    (FirstHit.Clear (length cells))
 
 -- ---- the calls, by their walk
 
@@ -65,7 +65,7 @@ unfoldable pub first_hit : Walker → Manner → Counts → List ℕ → Cell �
 unfolding walk_check answer_of walk_of order_of
 first_hit k how n l p q =
     let c : Conduct = conduct how p q in
-    by_verdict Err (answer_of c n l p q (walk_of k c n l p q)) (walk_check n (length l) p q)
+    by_verdict Err (Ok (answer_of c n l p q (walk_of k c n l p q))) (walk_check n (length l) p q)
 
 -- their contract
 pub record Finds (k : Walker) (how : Manner) (n : Counts) (l : List ℕ) (p q : Cell) (r : Result FirstHit Refusal) : Type 0 where

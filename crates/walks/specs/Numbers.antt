@@ -1,7 +1,5 @@
 -- The walks by the numbers of the 6-line's cells, 0 for P: words for contracts of inner functions and for laws. No promise to users rests on this
 -- file: the walks are those of `Walks`, and these are equal to them (`proofs/Numbers.antt`). Assumes nothing.
-use Rattle.std.specs.Prelude.{Ok, Result}
-use Rattle.cells.specs.declared.Refusal.{Refusal}
 use Rattle.std.specs.Prelude.{ℕ, zero, suc, ◌+◌, ◌≤◌, ◌<◌, ◌≡◌, Bool, cond, ◌||◌, List, eqb}
 use Rattle.std.proofs.Math.Option.{Option, none, some}
 use Rattle.cells.specs.declared.Cell.{Cell}
@@ -84,9 +82,9 @@ module _ (how : Conduct) (n : Counts) (l : List ℕ) (p q : Cell) where
   reads_of k = visits hits_at (last_number p q) (step how.preference n l p q k) (six_count p q) 0
 
   -- the answer of a walk that ends at number e after r reads
-  abbrev pub answer_at : ℕ → ℕ → Result FirstHit Refusal
+  abbrev pub answer_at : ℕ → ℕ → FirstHit
   answer_at e r =
       let c : Cell = six_cell how.preference p q e in
       cond (hits_at e)
-      (Ok (FirstHit.Hit (record { cell = c; code = byte_of n l c; place = entered_at how.preference p q e; reads = r })))
-      (Ok (FirstHit.Clear r))
+      (FirstHit.Hit (record { cell = c; code = byte_of n l c; place = entered_at how.preference p q e; reads = r }))
+      (FirstHit.Clear r)

@@ -1,7 +1,7 @@
 // Theory only: the plain and the adaptive walk stand in specs/, the laws about them in proofs/. The types are the answer of a first-hit call.
 #![tactic(auto)]
 
-use cells::{Cell, Face, Refusal};
+use cells::{Cell, Face};
 
 // Which of the two walks.
 #[derive(Clone, Copy)]
@@ -27,10 +27,9 @@ pub struct Hit {
     pub reads: u32,
 }
 
-// The answer of a first-hit call: clear with the number of reads, a hit, or a refusal.
+// The answer of a first-hit call that was not refused: clear with the number of reads, or a hit.
 #[derive(Clone, Copy)]
 pub enum FirstHit {
     Clear(u32),
     Hit(Hit),
-    Refused(Refusal),
 }

@@ -33,7 +33,7 @@ returns c =
     let p = c.args.p in
     let q = c.args.q in
     λ i. record {
-      x = stride_of n p q hp hq X 1 (omega arith) c.stride_to-x.ensures i;
-      y = stride_of n p q hp hq Y n.nx (omega (arith, hp.shaped.x.most)) c.stride_to-y.ensures i;
-      z = stride_of n p q hp hq Z (n.nx * n.ny) hp.shaped.layer_most c.stride_to-z.ensures i;
+      x = stride_of n p q hp hq X 1 (omega arith) c.stride_to.ensures i;
+      y = stride_of n p q hp hq Y n.nx (omega (arith, hp.shaped.x.most)) c.stride_to-2.ensures i;
+      z = stride_of n p q hp hq Z (n.nx * n.ny) hp.shaped.layer_most c.stride_to-3.ensures i;
     }
