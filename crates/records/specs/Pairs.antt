@@ -1,6 +1,5 @@
 -- SCOPE, V and T: reading a pair. Assumes nothing.
 use Rattle.std.specs.Prelude.{Result, Ok, Err, ℕ, ◌+◌, ◌≡◌, Bool, cond, not, ◌||◌, List, ◌⊎◌, ltb, eqb, ℤ, pos, ◌-ℤ◌, get_or}
-use Rattle.std.proofs.Common.{inl, inr}
 use Rattle.buffers.specs.Numbers.{two_at}
 use Rattle.cells.specs.declared.Refusal.{Refusal}
 use Rattle.cells.specs.declared.Cell.{Cell}
@@ -8,7 +7,7 @@ use Rattle.cells.specs.declared.Refusal.TheVariants.{Record, Version}
 use Rattle.cells.specs.declared.Rule.{Rule}
 use Rattle.cells.specs.Checks.{Verdict, refuse_when, ◌then◌, by_verdict}
 use Rattle.cells.specs.Manners.{rule_of, rule_check}
-use Rattle.cells.specs.Refusals.{Told, told}
+use Rattle.cells.specs.Refusals.{Told, told_of}
 use Rattle.records.specs.declared.pairs.Pair.{Pair}
 use Rattle.records.specs.Heads.{length_field, announced, version_of, whole_check}
 
@@ -58,5 +57,4 @@ pub record ReadsPair (s : List ℕ) (r : Result Pair Refusal) : Type 0 where
 
 -- each case of the answer: what is said of a refusal, or P, Q and the rule
 abbrev pub told_pair : Result Pair Refusal → Told ⊎ (Cell × Cell × Rule)
-told_pair (Err r) = inl (told r)
-told_pair (Ok e) = inr (e.p, e.q, e.rule)
+told_pair = told_of (λ e. (e.p, e.q, e.rule))

@@ -1,6 +1,5 @@
 -- SCOPE, V and T: reading a venue. Assumes nothing.
 use Rattle.std.specs.Prelude.{Result, Ok, Err, ℕ, ◌+◌, ◌-◌, ◌≡◌, Bool, not, List, [], ◌⊎◌, ltb, eqb, take, drop}
-use Rattle.std.proofs.Common.{inl, inr}
 use Rattle.std.specs.Borrow.{Bor}
 use Rattle.buffers.specs.Numbers.{two_at}
 use Rattle.cells.specs.declared.Refusal.{Refusal}
@@ -8,7 +7,7 @@ use Rattle.cells.specs.declared.Counts.{Counts}
 use Rattle.cells.specs.declared.Refusal.TheVariants.{Record, Version}
 use Rattle.cells.specs.Checks.{Verdict, refuse_when, ◌then◌, by_verdict}
 use Rattle.cells.specs.Parts.{StartsAt}
-use Rattle.cells.specs.Refusals.{Told, told}
+use Rattle.cells.specs.Refusals.{Told, told_of}
 use Rattle.grids.specs.Grid.{shape}
 use Rattle.records.specs.declared.venues.Venue.{Venue}
 use Rattle.records.specs.Heads.{length_field, announced, version_of, whole_check}
@@ -78,5 +77,4 @@ pub record GivesCells (bytes r : Bor (List ℕ)) : Type 0 where
 
 -- each case of the answer: what is said of a refusal, or the counts and the part's offset and length
 abbrev pub told_venue : Result Venue Refusal → Told ⊎ (Counts × ℕ × ℕ)
-told_venue (Err r) = inl (told r)
-told_venue (Ok v) = inr (v.counts, v.start, v.long)
+told_venue = told_of (λ v. (v.counts, v.start, v.long))

@@ -1,12 +1,11 @@
 -- SCOPE, V and T: writing a venue. Assumes nothing.
 use Rattle.std.specs.Prelude.{Result, Ok, Err, ℕ, ◌+◌, ◌≡◌, List, [], ◌∷◌, ◌++◌, ◌⊎◌, ltb, length, drop}
-use Rattle.std.proofs.Common.{inl, inr}
 use Rattle.buffers.specs.Numbers.{two, four}
 use Rattle.cells.specs.declared.Refusal.{Refusal}
 use Rattle.cells.specs.declared.Counts.{Counts}
 use Rattle.cells.specs.declared.Refusal.TheVariants.{Room}
 use Rattle.cells.specs.Checks.{Verdict, refuse_when, ◌then◌, by_verdict}
-use Rattle.cells.specs.Refusals.{Told, told}
+use Rattle.cells.specs.Refusals.{Told, told_of}
 use Rattle.grids.specs.Grid.{size, shape}
 use Rattle.records.specs.Venues.{venue_head, cells_from}
 
@@ -41,5 +40,4 @@ pub record WritesVenue (n : Counts) (cells entry : List ℕ) (r : Result ℕ Ref
 
 -- each case of the answer: what is said of a refusal, or the number of bytes written
 abbrev pub told_written : Result ℕ Refusal → Told ⊎ ℕ
-told_written (Err r) = inl (told r)
-told_written (Ok n) = inr n
+told_written = told_of (λ n. n)

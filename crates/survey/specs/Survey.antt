@@ -1,6 +1,5 @@
 -- SCOPE, S: placement and surveyed point, their refusals in order, and the cell of a point. Assumes nothing.
 use Rattle.std.specs.Prelude.{Ok, Err, Result, ℕ, ◌≡◌, Bool, not, ◌||◌, ◌⊎◌, pos, Float}
-use Rattle.std.proofs.Common.{inl, inr}
 use Rattle.std.specs.Float.Ieee.{lt}
 use Rattle.std.specs.Float.Ieee.Scale.{finite}
 use Rattle.cells.specs.declared.Axis.{Axis}
@@ -12,7 +11,7 @@ use Rattle.cells.specs.declared.End.TheVariants.{P}
 use Rattle.cells.specs.declared.Part.TheVariants.{OriginX, OriginY, OriginZ, Edge}
 use Rattle.cells.specs.declared.Refusal.{Refusal}
 use Rattle.cells.specs.Checks.{Verdict, refuse_when, ◌then◌, by_verdict}
-use Rattle.cells.specs.Refusals.{Told, told}
+use Rattle.cells.specs.Refusals.{Told, told_of}
 pub use Rattle.grids.specs.Grid.{count_check}
 use Rattle.survey.specs.declared.Placement.{Placement}
 use Rattle.survey.specs.declared.Point.{Point}
@@ -75,5 +74,4 @@ pub record LooksUp (n : Counts) (at : Placement) (p : Point) (r : Result Cell Re
 
 -- each case of the answer: what is said of a refusal, or the cell
 abbrev pub told_lookup : Result Cell Refusal → Told ⊎ Cell
-told_lookup (Err r) = inl (told r)
-told_lookup (Ok c) = inr c
+told_lookup = told_of (λ c. c)
