@@ -7,7 +7,7 @@ use Rattle.cells.specs.declared.Counts.{Counts}
 use Rattle.cells.specs.declared.Refusal.TheVariants.{Room}
 use Rattle.cells.specs.Checks.{Verdict}
 use Rattle.cells.specs.Checks.{refuse_when, ◌then◌, by_verdict}
-use Rattle.cells.specs.Refusals.{Told, told}
+use Rattle.cells.specs.Refusals.{Told, told_of}
 use Rattle.cells.specs.Tabulate.{tabulate}
 use Rattle.grids.specs.Grid.{shape, size}
 use Rattle.bricks.specs.Bricks.{bricks, mask_at, solids}
@@ -23,8 +23,7 @@ built n l m = tabulate (λ k. cond (ltb k (size (bricks n))) (mask_at n l k) (ge
 
 -- each case of the answer: what is said of a refusal, or the total
 abbrev pub told_tally : Result ℕ Refusal → Told ⊎ ℕ
-told_tally (Err r) = inl (told r)
-told_tally (Ok t) = inr t
+told_tally = told_of (λ t. t)
 
 -- the contract of the call: one answer and one final memory; refused, the masks as they were
 pub record Builds (n : Counts) (l m : List ℕ) (r : Result ℕ Refusal) (m' : List ℕ) : Type 0 where

@@ -1,5 +1,6 @@
--- What SCOPE says of a refusal tells which refusal it is: `told` has a left inverse; and so has `told_verdict`. Assumes nothing.
-use Rattle.std.specs.Prelude.{Ok, Err}
+-- What SCOPE says of a refusal tells which refusal it is: `told` has a left inverse; so what is said of an answer tells which answer it is. Assumes
+-- nothing.
+use Rattle.std.specs.Prelude.{Result, Ok, Err}
 use Prim.Native.Nat.{ℕ}
 use mathlib.Core.Path.{◌≡◌, refl, sym, ap, ◌∙◌}
 use mathlib.Core.Bool.{cond}
@@ -13,7 +14,7 @@ use Rattle.cells.specs.declared.Refusal.{Refusal}
 use Rattle.cells.specs.declared.Refusal.TheVariants.{Limit, Count, Bytes, Layer, OffGrid, Room, Placement, NotFinite, OffSurvey}
 use Rattle.cells.specs.declared.Refusal.TheVariants.{Record, Version, NoRule, Stale, Corners}
 use Rattle.cells.specs.Checks.{Verdict}
-use Rattle.cells.specs.Refusals.{Told, told, told_verdict}
+use Rattle.cells.specs.Refusals.{Told, told, told_of, told_verdict}
 
 -- a case that says an end and an axis
 abbrev both : (End → Axis → Refusal) → Option End → Option Axis → Option Refusal
@@ -76,13 +77,14 @@ untold_by refused answered (inr v) = some (answered v)
 pub told_one : (r s : Refusal) → told r ≡ told s → r ≡ s
 told_one = tells_apart told untold told_back
 
--- and two verdicts
-abbrev untold_verdict : Told ⊎ Unit {0} → Option Verdict
-untold_verdict = untold_by Err (λ u. (Ok tt))
+-- and two answers, where what is answered is told from what is said of it
+module _ {A B : Type 0} (say : A → B) (unsay : B → A) (back : (a : A) → unsay (say a) ≡ a) where
+  told_of_back : (r : Result A Refusal) → untold_by Err (λ v. Ok (unsay v)) (told_of say r) ≡ some r
+  told_of_back (Err r) = ap (map Err) (told_back r)
+  told_of_back (Ok a) = ap (λ a. some (Ok a)) (back a)
 
-pub told_verdict_back : (v : Verdict) → untold_verdict (told_verdict v) ≡ some v
-told_verdict_back (Err r) = ap (map Err) (told_back r)
-told_verdict_back (Ok _) = refl
+  pub told_of_one : (r s : Result A Refusal) → told_of say r ≡ told_of say s → r ≡ s
+  told_of_one = tells_apart (told_of say) (untold_by Err (λ v. Ok (unsay v))) told_of_back
 
 pub told_verdict_one : (a b : Verdict) → told_verdict a ≡ told_verdict b → a ≡ b
-told_verdict_one = tells_apart told_verdict untold_verdict told_verdict_back
+told_verdict_one = told_of_one (λ u. u) (λ u. u) (λ u. refl)

@@ -1,7 +1,6 @@
 -- SCOPE, R: each refusal's number, and what it says with it: which end, which axis, which of the four parts of a
 -- placement; and each case of a verdict. Assumes nothing.
-use Rattle.std.specs.Prelude.{Ok, Err}
-use Rattle.std.specs.Prelude.{ℕ, ◌⊎◌, ◌≡◌}
+use Rattle.std.specs.Prelude.{ℕ, ◌⊎◌, ◌≡◌, Result, Ok, Err}
 use Rattle.std.proofs.Common.{inl, inr}
 use Rattle.std.proofs.Math.Option.{Option, none, some}
 use Rattle.cells.specs.declared.Axis.{Axis}
@@ -56,7 +55,11 @@ told Corners = alone 14
 pub record NumberOf (r : Refusal) (n : ℕ) : Type 0 where
   pub says : n ≡ (told r).number
 
--- each case of a verdict: what is said of a refusal, or nothing but that it is fine
+-- each case of an answer that is a result: what is said of a refusal, or of what is answered
+abbrev pub told_of : {A B : Type 0} → (A → B) → Result A Refusal → Told ⊎ B
+told_of say (Err r) = inl (told r)
+told_of say (Ok a) = inr (say a)
+
+-- of a verdict: of a refusal, or nothing but that it is fine
 abbrev pub told_verdict : Verdict → Told ⊎ Unit {0}
-told_verdict (Err r) = inl (told r)
-told_verdict (Ok _) = inr tt
+told_verdict = told_of (λ u. u)

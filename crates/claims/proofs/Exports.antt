@@ -1,6 +1,5 @@
 -- The claims about the calls for C, from their contracts. Assumes nothing.
-use Rattle.std.specs.Prelude.{Ok, Err, Result, Option}
-use Rattle.sight.specs.declared.Block.{Block}
+use Rattle.std.specs.Prelude.{Ok, Err, Result}
 use Prim.Native.Nat.{ℕ}
 use mathlib.Core.Path.{◌≡◌, refl, sym, ap, ◌∙◌}
 use mathlib.Core.List.{List}
@@ -12,8 +11,7 @@ use Rattle.cells.specs.declared.Cell.{Cell}
 use Rattle.cells.specs.declared.Counts.{Counts}
 use Rattle.cells.specs.declared.Refusal.{Refusal}
 use Rattle.cells.specs.declared.Rule.{Rule}
-use Rattle.cells.specs.Checks.{Verdict}
-use Rattle.cells.specs.Checks.{◌then◌, by_verdict}
+use Rattle.cells.specs.Checks.{Verdict, ◌then◌, by_verdict}
 use Rattle.cells.specs.Manners.{rule_of, rule_check}
 use Rattle.lines.specs.Preference.{comes_before, order_of, by_rule}
 use Rattle.lines.specs.Lines.{six_line, line_26}
@@ -34,9 +32,9 @@ use Rattle.grids.specs.Inside.{walk_check}
 use Rattle.trails.specs.Trails.{trail, AdaptiveCells}
 use Rattle.survey.specs.declared.Placement.{Placement}
 use Rattle.survey.specs.declared.Point.{Point}
+use Rattle.sight.specs.declared.Sight.{Sight}
 use Rattle.sight.specs.Sight.{sight, Sees}
 use Rattle.records.specs.Venues.{venue_head}
-use Rattle.records.specs.declared.writing.Written.TheVariants as Written
 use Rattle.records.specs.Writing.{record_length, write_check, after_writing}
 use Rattle.structs.specs.declared.inputs.OatManner.{OatManner}
 use Rattle.structs.specs.declared.refusals.OatSaid.{OatSaid}
@@ -108,10 +106,10 @@ walk_says : (w : Walker) (how : OatManner) (n : Counts) (cells : List ℕ) (p q 
     a ≡ by_verdict Err (first_hit w (as_manner how) n cells p q) (rule_check how.rule)
 walk_says w how n cells p q a = after_call Err (rule_check how.rule) (λ m. m.says)
 
-sight_says : (how : OatManner) (n : Counts) (cells : List ℕ) (at : Placement) (camera ball : Point) (a : Result (Option Block) Refusal) →
-    After (rule_check how.rule) (λ why. a ≡ Err why) (Sees (as_manner how) n cells at camera ball a) →
-    a ≡ by_verdict Err (sight (as_manner how) n cells at camera ball) (rule_check how.rule)
-sight_says how n cells at camera ball a = after_call Err (rule_check how.rule) (λ m. m.says)
+sight_says : (how : OatManner) (n : Counts) (cells : List ℕ) (at : Placement) (camera ball : Point) (a : Sight) →
+    After (rule_check how.rule) (λ why. a ≡ Sight.Refused why) (Sees (as_manner how) n cells at camera ball a) →
+    a ≡ by_verdict Sight.Refused (sight (as_manner how) n cells at camera ball) (rule_check how.rule)
+sight_says how n cells at camera ball a = after_call Sight.Refused (rule_check how.rule) (λ m. m.says)
 
 one_refill : (n : Counts) (low high : Cell) (byte : ℕ) (l m : List ℕ) (total : ℕ) → OnePair (FlatRefills n low high byte l m total)
 one_refill n low high byte l m total r s exit last lent left h k = (
@@ -263,7 +261,7 @@ module _ (p q : Cell) where
 
 sight_is : (rule : Rule) (s : ℕ) (n : Counts) (cells : List ℕ) (at : Placement) (camera ball : Point) (r : OatSight) →
     FlatSees (record { start = s; rule = rule_number rule }) n cells at camera ball r →
-    (a : Result (Option Block) Refusal) × Sees (record { start = as_start s; rule = rule }) n cells at camera ball a × (r ≡ flat_sight a)
+    (a : Sight) × Sees (record { start = as_start s; rule = rule }) n cells at camera ball a × (r ≡ flat_sight a)
 unfolding rule_check rule_of
 sight_is Rule.One s n cells at camera ball r h = (h.answer, h.meets, h.flat)
 sight_is Rule.Two s n cells at camera ball r h = (h.answer, h.meets, h.flat)
@@ -305,7 +303,7 @@ no_such_rule number =
       seen = λ not-1 not-2 s n cells at camera ball r h.
           let how : OatManner = record { start = s; rule = number } in
           h.flat ∙ ap flat_sight (sight_says how n cells at camera ball h.answer h.meets
-          ∙ ap (by_verdict Err (sight (as_manner how) n cells at camera ball)) (input_rows.no_rule number not-1 not-2));
+          ∙ ap (by_verdict Sight.Refused (sight (as_manner how) n cells at camera ball)) (input_rows.no_rule number not-1 not-2));
     }
   where
     none_listed : (line : List Cell) (first : Verdict) → (number ≡ 1 → ⊥) → (number ≡ 2 → ⊥) → (entry exit : List ℤ) (r : OatListed) →

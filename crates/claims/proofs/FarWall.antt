@@ -1,7 +1,6 @@
 -- Closing the surveyed box moved nothing but its far faces: off them the two rules have the same tests and the same numbers, and on them the half-open
 -- one refused 9. Assumes nothing.
-use Rattle.std.specs.Prelude.{Ok, Err, Result, Option}
-use Rattle.sight.specs.declared.Block.{Block}
+use Rattle.std.specs.Prelude.{Ok, Err, Result}
 use Rattle.cells.specs.declared.Cell.{Cell}
 use Prim.Native.Nat.{ℕ}
 use mathlib.Core.Path.{◌≡◌, refl, sym, ap, ap₂, ◌∙◌}
@@ -20,8 +19,7 @@ use Rattle.cells.specs.declared.End.{End}
 use Rattle.cells.specs.declared.End.TheVariants.{P, Q}
 use Rattle.cells.specs.declared.Manner.{Manner}
 use Rattle.cells.specs.declared.Refusal.{Refusal}
-use Rattle.cells.specs.Checks.{Verdict}
-use Rattle.cells.specs.Checks.{refuse_when, ◌then◌, by_verdict}
+use Rattle.cells.specs.Checks.{Verdict, refuse_when, ◌then◌, by_verdict}
 use Rattle.cells.proofs.Checks.{fine_rest, each_fine, passed, by_fine}
 use Rattle.grids.specs.Grid.{shape, count_check}
 use Rattle.grids.proofs.Any.{or_false}
@@ -33,10 +31,10 @@ use Rattle.survey.proofs.Tests.{true_of_is_true, is_true_of_true, or_r, clash, f
 use Rattle.survey.proofs.Order.{at_most_is, equal_at_most}
 use Rattle.survey.proofs.Numbers.{below_in, number_off_face, off_face, far_not_outside}
 use Rattle.survey.proofs.Lookups.{no_refusal}
+use Rattle.sight.specs.declared.Sight.{Sight}
 use Rattle.sight.specs.Sight.{seen, Sees}
 use Rattle.sight.proofs.Seen.{looked_is, sight_is}
-use Rattle.claims.specs.FarWall.{outside_before, value_before, point_before, cell_before, look_up_before, cell_of_before, sight_before}
-use Rattle.claims.specs.FarWall.{AxisKept, on_wall, SameOrWall, OnlyWalls, CallsKept}
+use Rattle.claims.specs.FarWall.{outside_before, value_before, point_before, cell_before, look_up_before, cell_of_before, sight_before, AxisKept, on_wall, SameOrWall, OnlyWalls, CallsKept}
 
 -- ---- one axis
 
@@ -148,21 +146,21 @@ module _ (n : Counts) (at : Placement) where
   -- the sight, from the two lookups by both rules
   seen_moved : (how : Manner) (l : List ℕ) (camera ball : Point) (f f' t t' : Result Cell Refusal) → SameOrWall Err P n at camera f f' →
       SameOrWall Err Q n at ball t t' →
-      SameOrWall Err P n at camera (seen how n l f t) (seen how n l f' t') ⊎
-      SameOrWall Err Q n at ball (seen how n l f t) (seen how n l f' t')
+      SameOrWall Sight.Refused P n at camera (seen how n l f t) (seen how n l f' t') ⊎
+      SameOrWall Sight.Refused Q n at ball (seen how n l f t) (seen how n l f' t')
   seen_moved how l camera ball f f' t t' (inr (a, on, was)) to = inl (inr (a, on, rw was refl))
   seen_moved how l camera ball f f' t t' (inl same) (inl same-ball) = inl (inl (ap₂ (seen how n l) same same-ball))
   seen_moved how l camera ball f (Err r) t t' (inl same) (inr to) = inl (inl (rw same refl))
   seen_moved how l camera ball f (Ok c) t t' (inl same) (inr (a, on, was)) = inr (inr (a, on, rw was refl))
 
-  see_moved : (how : Manner) (l : List ℕ) (camera ball : Point) (r : Result (Option Block) Refusal) → Sees how n l at camera ball r →
-      SameOrWall Err P n at camera r (sight_before how n l at camera ball) ⊎
-      SameOrWall Err Q n at ball r (sight_before how n l at camera ball)
+  see_moved : (how : Manner) (l : List ℕ) (camera ball : Point) (r : Sight) → Sees how n l at camera ball r →
+      SameOrWall Sight.Refused P n at camera r (sight_before how n l at camera ball) ⊎
+      SameOrWall Sight.Refused Q n at ball r (sight_before how n l at camera ball)
   see_moved how l camera ball r h =
       rw (h.says, sight_is how n l at camera ball, looked_is how n l at camera ball)
       (elim (seen_moved how l camera ball _ _ _ _ (look_moved P n at camera) (look_moved Q n at ball)) [
-        | inl from ↦ inl (after_tests Err P n at camera tests from)
-        | inr to ↦ inr (after_tests Err Q n at ball tests to)
+        | inl from ↦ inl (after_tests Sight.Refused P n at camera tests from)
+        | inr to ↦ inr (after_tests Sight.Refused Q n at ball tests to)
       ])
     where
       tests : Verdict

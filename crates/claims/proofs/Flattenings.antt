@@ -1,5 +1,7 @@
 -- The claims about the structs for C, from one law over an answer and its struct. Assumes nothing.
-use Rattle.std.specs.Prelude.{Ok, Err, Result, Some, None}
+use Rattle.std.specs.Prelude.{Ok, Err, Result}
+use Rattle.records.specs.declared.venues.Venue.{Venue}
+use Rattle.records.specs.declared.pairs.Pair.{Pair}
 use Rattle.cells.specs.declared.Cell.{Cell}
 use Prim.Native.Nat.{ℕ, zero, suc}
 use mathlib.Core.Path.{◌≡◌, refl, sym, ap, ◌∙◌}
@@ -22,8 +24,7 @@ use Rattle.cells.specs.declared.Refusal.{Refusal}
 use Rattle.cells.specs.declared.Rule.{Rule}
 use Rattle.cells.specs.declared.Rule.TheVariants.{One, Two}
 use Rattle.cells.specs.declared.Start.TheVariants.{Untested, Tested}
-use Rattle.cells.specs.declared.Refusal.TheVariants.{Limit, Count, Bytes, Layer, OffGrid, Room, Placement, NotFinite, OffSurvey}
-use Rattle.cells.specs.declared.Refusal.TheVariants.{Record, Version, NoRule, Stale, Corners}
+use Rattle.cells.specs.declared.Refusal.TheVariants.{Limit, Count, Bytes, Layer, OffGrid, Room, Placement, NotFinite, OffSurvey, Record, Version, NoRule, Stale, Corners}
 use Rattle.cells.specs.Checks.{Verdict}
 use Rattle.cells.specs.Manners.{rule_of, rule_check}
 use Rattle.cells.specs.Refusals.{Told, told, told_verdict}
@@ -40,13 +41,11 @@ use Rattle.walks.specs.Answers as walk
 use Rattle.walks.specs.Answers.{first_hit, told_hit}
 use Rattle.survey.specs.Survey.{told_lookup}
 use Rattle.sight.specs.declared.Block.{Block}
+use Rattle.sight.specs.declared.Sight.{Sight}
 use Rattle.sight.specs.Sight as sights
 use Rattle.sight.specs.Sight.{told_sight}
-use Rattle.records.specs.declared.venues.VenueRead.{VenueRead}
-use Rattle.records.specs.declared.pairs.PairRead.{PairRead}
 use Rattle.records.specs.Venues.{told_venue}
 use Rattle.records.specs.Pairs.{told_pair}
-use Rattle.records.specs.declared.writing.Written.{Written}
 use Rattle.records.specs.Writing.{told_written}
 use Rattle.structs.specs.declared.refusals.OatSaid.{OatSaid}
 use Rattle.structs.specs.declared.line_answers.OatListed.{OatListed}
@@ -252,7 +251,7 @@ abbrev part_values : OatPart → Result LayerPart Refusal
 part_values f = Ok (part_at f.offset f.length)
 
 part_case : (a : Result LayerPart Refusal) → Case told_part flat_part (λ f. f.said) Err part_values a
-part_case (Ok (part_at start many)) = fine (start, many) refl refl refl
+part_case (Ok p) = fine (p.start, p.long) refl refl refl
 part_case (Err r) = refused r refl refl refl
 
 abbrev tally_values : OatTally → Result ℕ Refusal
@@ -297,12 +296,12 @@ hit_case : (a : Result FirstHit Refusal) → Case told_hit flat_hit (λ f. f.sai
 hit_case (Ok (FirstHit.Clear reads)) = fine (walk.clear reads) refl refl refl
 hit_case (Ok (FirstHit.Hit h)) =
     fine (walk.hit h)
-    (λ i. FIXMEokhit (record {
+    (λ i. Ok (FirstHit.Hit (record {
       cell = h.cell;
       code = h.code;
       place = record { num = h.place.num; den = h.place.den; face = face_back h.place.face i };
       reads = h.reads;
-    }))
+    })))
     refl refl
 hit_case (Err r) = refused r refl refl refl
 
@@ -323,21 +322,21 @@ block_values f =
       face = face_of f.face;
     }
 
-abbrev sight_values : OatSight → Result (Option Block) Refusal
-sight_values f = cond (eqb f.blocked 1) (Ok (Some (block_values f))) (Ok None)
+abbrev sight_values : OatSight → Sight
+sight_values f = cond (eqb f.blocked 1) (Sight.Blocked (block_values f)) Sight.Clear
 
-sight_case : (a : Result (Option Block) Refusal) → Case told_sight flat_sight (λ f. f.said) Err sight_values a
-sight_case (Ok None) = fine sights.clear refl refl refl
-sight_case (Ok (Some b)) =
+sight_case : (a : Sight) → Case told_sight flat_sight (λ f. f.said) Sight.Refused sight_values a
+sight_case Sight.Clear = fine sights.clear refl refl refl
+sight_case (Sight.Blocked b) =
     fine (sights.blocked b)
-    (λ i. Ok (Some (record { share = b.share; cell = b.cell; code = b.code; reads = b.reads; face = face_back b.face i })))
+    (λ i. Sight.Blocked (record { share = b.share; cell = b.cell; code = b.code; reads = b.reads; face = face_back b.face i }))
     refl refl
-sight_case (Err r) = refused r refl refl refl
+sight_case (Sight.Refused r) = refused r refl refl refl
 
-abbrev venue_values : OatVenue → VenueRead
+abbrev venue_values : OatVenue → Result Venue Refusal
 venue_values f = Ok (record { counts = record { nx = f.nx; ny = f.ny; nz = f.nz }; start = f.offset; long = f.length })
 
-venue_case : (a : VenueRead) → Case told_venue flat_venue (λ f. f.said) Err venue_values a
+venue_case : (a : Result Venue Refusal) → Case told_venue flat_venue (λ f. f.said) Err venue_values a
 venue_case (Ok v) = fine (v.counts, v.start, v.long) refl refl refl
 venue_case (Err r) = refused r refl refl refl
 
@@ -346,7 +345,7 @@ unfolding rule_check rule_of
 named_rule One = (refl, refl)
 named_rule Two = (refl, refl)
 
-abbrev pair_values : OatPair → PairRead
+abbrev pair_values : OatPair → Result Pair Refusal
 pair_values f =
     Ok (record {
       p = record { x = f.px; y = f.py; z = f.pz };
@@ -354,15 +353,15 @@ pair_values f =
       rule = rule_of f.rule;
     })
 
-pair_case : (a : PairRead) → Case told_pair flat_pair (λ f. f.said) Err pair_values a
+pair_case : (a : Result Pair Refusal) → Case told_pair flat_pair (λ f. f.said) Err pair_values a
 pair_case (Ok e) =
     fine (e.p, e.q, e.rule) (λ i. Ok (record { p = e.p; q = e.q; rule = (named_rule e.rule).1 i })) refl refl
 pair_case (Err r) = refused r refl refl refl
 
-abbrev written_values : OatWritten → Written
+abbrev written_values : OatWritten → Result ℕ Refusal
 written_values f = Ok f.written
 
-written_case : (a : Written) → Case told_written flat_written (λ f. f.said) Err written_values a
+written_case : (a : Result ℕ Refusal) → Case told_written flat_written (λ f. f.said) Err written_values a
 written_case (Ok many) = fine many refl refl refl
 written_case (Err r) = refused r refl refl refl
 

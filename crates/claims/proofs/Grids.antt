@@ -14,8 +14,7 @@ use borrow.Author.Tests.{ltb-true, lt-ltb, eqb-true}
 use denote.Ref.{Bor}
 use Rattle.cells.specs.Parts.{StartsAt}
 use Rattle.cells.specs.declared.Counts.{Counts}
-use Rattle.cells.specs.Checks.{Verdict}
-use Rattle.cells.specs.Checks.{by_verdict}
+use Rattle.cells.specs.Checks.{Verdict, by_verdict}
 use Rattle.cells.specs.Touching.{touching, Touches}
 use Rattle.cells.proofs.Checks.{by_fine}
 use Rattle.cells.proofs.Touching.{and_both, touching_iff}
@@ -85,8 +84,9 @@ unfolding layer_part
 named_from n bytes z start many named =
     let (fine, same) = by_fine Err (layer_check n bytes z) (Ok (part_at (layer_start n z) (layer_length n)))
     (λ r no. let z : ◌≡◌ {A = ℕ} 0 1 = cc no in omega arith) (sym named.says) in
-    let a : layer_start n z ≡ start = cc same in
-    let b : layer_length n ≡ many = cc same in
+    let is : part_at (layer_start n z) (layer_length n) ≡ part_at start many = cc same in
+    let a : layer_start n z ≡ start = ap (λ (p : LayerPart). p.start) is in
+    let b : layer_length n ≡ many = ap (λ (p : LayerPart). p.long) is in
     (fine, sym a, sym b)
 
 -- byte x + nx·y of layer z has the index of (x, y, z)

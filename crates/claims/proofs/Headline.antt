@@ -17,8 +17,7 @@ use Rattle.claims.proofs.Points as points
 use Rattle.claims.proofs.Records as records
 use Rattle.claims.proofs.Shells.{shells, faces_alone, asks_less, no_dearer}
 use Rattle.claims.proofs.Sights.{seen_once}
-use Rattle.claims.proofs.Story.{hit_once, hit_face, first_on_line, walks_end, step_by_step, adaptive_step, as_its_walk}
-use Rattle.claims.proofs.Story.{never_invented}
+use Rattle.claims.proofs.Story.{hit_once, hit_face, first_on_line, walks_end, step_by_step, adaptive_step, as_its_walk, never_invented}
 use Rattle.claims.proofs.Starts.{start_tests, two_starts}
 use Rattle.claims.proofs.Touching.{touched_cells, crossing_order, over_six_lines, touching_listed, touching_hits, touching_starts, beside_plain, touching_once}
 use Rattle.claims.proofs.Trails.{trail_listed, beside_first_hit}

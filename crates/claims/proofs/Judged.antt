@@ -23,8 +23,7 @@ use Rattle.cells.specs.declared.End.{End}
 use Rattle.cells.specs.declared.End.TheVariants.{P, Q}
 use Rattle.cells.specs.declared.Part.TheVariants.{OriginX, OriginY, OriginZ, Edge}
 use Rattle.cells.specs.declared.Refusal.TheVariants as Refusal
-use Rattle.cells.specs.Checks.{Verdict}
-use Rattle.cells.specs.Checks.{refuse_when, ◌then◌}
+use Rattle.cells.specs.Checks.{Verdict, refuse_when, ◌then◌}
 use Rattle.cells.specs.Refusals.{alone}
 use Rattle.cells.specs.Tests.{Tests, ◌gives◌}
 use Rattle.cells.specs.Manners.{names_rule, rule_check}
@@ -53,9 +52,7 @@ use Rattle.records.specs.Pairs.{pair_version, pair_length, rule_byte, pair_check
 use Rattle.records.specs.Writing.{write_check}
 use Rattle.claims.specs.Kept.{HoldsNamed}
 use Rattle.claims.proofs.Kept.{holds_is, is_holds}
-use Rattle.claims.specs.Refused.{bricks_tests, corner_tests, Disagrees, box_tests, set_tests}
-use Rattle.claims.specs.Refused.{limit_tests, ends_tests, list_tests, count_tests, shape_tests, layer_tests, grid_tests, walk_tests, placement_tests}
-use Rattle.claims.specs.Refused.{value_tests, point_tests, whole_tests, version_test, counts_in, venue_tests, pair_tests, write_tests, rule_test}
+use Rattle.claims.specs.Refused.{bricks_tests, corner_tests, Disagrees, box_tests, set_tests, limit_tests, ends_tests, list_tests, count_tests, shape_tests, layer_tests, grid_tests, walk_tests, placement_tests, value_tests, point_tests, whole_tests, version_test, counts_in, venue_tests, pair_tests, write_tests, rule_test}
 
 -- ---- line lists
 

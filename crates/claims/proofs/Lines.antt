@@ -16,8 +16,7 @@ use Rattle.lines.proofs.Fractions.{place_in_order, in_order_is_place, place_tota
 use Rattle.lines.proofs.Centres.{centres_good, upto_26}
 use Rattle.lines.proofs.Signs.{sign_tells, figure_6_is_next, lowered_moves, lowered_none, shift_most, stays_small, first_longest, second_longest}
 use Rattle.lines.proofs.TieSigns.{tie_by_signs_is}
-use Rattle.lines.proofs.Cells.{six_length, six_numbered, six_start, six_end, six_different, six_by_face, six_touched, six_misses_none, six_at_26}
-use Rattle.lines.proofs.Cells.{length_26, numbered_26, start_26, end_26, moves_by_one_26, longest_moves_26, skipped_touches, limited_difference}
+use Rattle.lines.proofs.Cells.{six_length, six_numbered, six_start, six_end, six_different, six_by_face, six_touched, six_misses_none, six_at_26, length_26, numbered_26, start_26, end_26, moves_by_one_26, longest_moves_26, skipped_touches, limited_difference}
 use Rattle.claims.proofs.Cases.{on_axes}
 use Rattle.claims.specs.Lines.{OnePlace, SixLine, Touched, NoneMissing, TwentySixLine, Skipped, Signs, SmallValues, Entered, Moves, LongStep, HalfACell}
 

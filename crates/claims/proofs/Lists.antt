@@ -15,9 +15,8 @@ use Rattle.cells.specs.declared.Axis.{Axis}
 use Rattle.cells.specs.declared.Axis.TheVariants.{X, Y, Z}
 use Rattle.cells.specs.declared.Cell.{Cell}
 use Rattle.cells.specs.declared.Rule.{Rule}
-use Rattle.cells.specs.Checks.{Verdict}
+use Rattle.cells.specs.Checks.{Verdict, by_verdict}
 use Rattle.cells.specs.Touching.{on}
-use Rattle.cells.specs.Checks.{by_verdict}
 use Rattle.cells.proofs.Checks.{by_refusal, by_fine, fine_rest, passed}
 use Rattle.lines.specs.Preference.{y_z_x, comes_before, by_rule}
 use Rattle.lines.specs.Lines.{six_line, line_26, in_limit, InLimit}

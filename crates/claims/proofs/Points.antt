@@ -31,8 +31,7 @@ use Rattle.grids.proofs.Shapes.{counted}
 use Rattle.survey.proofs.Survey.{placed, point_fine}
 use Rattle.survey.proofs.Lookups.{cell_given, cell_found, look_given}
 use Rattle.claims.specs.Tables.{no_more, ◌and◌}
-use Rattle.claims.specs.Points.{OneAnswer, Coordinate, OneCoordinate, OnlyOne, InItsCell, Finite, TheCell, Outside, Exact, Shares}
-use Rattle.claims.specs.Points.{Refuted, Every, table, wall_rows, cube, one_metre, metres, tenths, next_above, point, cell_is, refused}
+use Rattle.claims.specs.Points.{OneAnswer, Coordinate, OneCoordinate, OnlyOne, InItsCell, Finite, TheCell, Outside, Exact, Shares, Refuted, Every, table, wall_rows, cube, one_metre, metres, tenths, next_above, point, cell_is, refused}
 
 pub one_answer : (n : Counts) (at : Placement) (p : Point) → OneAnswer n at p
 one_answer n at p = record { alone = λ r s e f. e.says ∙ sym f.says }

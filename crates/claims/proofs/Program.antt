@@ -21,8 +21,7 @@ use Rattle.cells.specs.Manners.{tested_by, rule_check}
 use Rattle.cells.specs.declared.End.{End}
 use Rattle.cells.specs.declared.End.TheVariants.{P, Q}
 use Rattle.cells.specs.declared.Refusal.TheVariants.{OffGrid, Record, Version, NoRule}
-use Rattle.cells.specs.Checks.{Verdict}
-use Rattle.cells.specs.Checks.{refuse_when, ◌then◌, by_verdict}
+use Rattle.cells.specs.Checks.{Verdict, refuse_when, ◌then◌, by_verdict}
 use Rattle.cells.specs.Refusals.{told}
 use Rattle.grids.specs.Grid.{shape}
 use Rattle.grids.specs.Inside.{off_axis, grid_check, walk_check}
@@ -35,20 +34,16 @@ use Rattle.walks.specs.Answers.{first_hit}
 use Rattle.walks.specs.Numbers.{hits_at, end_of}
 use Rattle.walks.proofs.Story.{first_hit_is}
 use Rattle.records.specs.declared.pairs.Pair.{Pair}
-use Rattle.records.specs.declared.pairs.PairRead.TheVariants as PairRead
 use Rattle.records.proofs.HeadTests.{pair_longest, head_tests, head_fits, pair_head_tests, pair_tests, pair_accepted}
 use Rattle.records.proofs.RoundTrip.{record_fits}
 use Rattle.records.specs.declared.venues.Venue.{Venue}
-use Rattle.records.specs.declared.venues.VenueRead.{VenueRead}
 use Rattle.records.specs.Heads.{length_field, announced, version_of, whole_check}
 use Rattle.records.specs.Venues.{venue_check, venue_read, venue_cells, start_of}
 use Rattle.records.specs.Pairs.{pair_version, pair_length, rule_byte, pair_in, pair_check, pair_read}
 use Rattle.program.specs.declared.Step.{Step}
-use Rattle.program.specs.Program.{Said, venue_most, pair_most, beyond, venue_said, pair_said, then_on, pairs, after_venue, output, frame, frame_length}
-use Rattle.program.specs.Program.{after_frame, Says, text_room, after_refusal, answers, walk_line, walk_lines, said_of_walks, said_of_pair}
+use Rattle.program.specs.Program.{Said, venue_most, pair_most, beyond, venue_said, pair_said, then_on, pairs, after_venue, output, frame, frame_length, after_frame, Says, text_room, after_refusal, answers, walk_line, walk_lines, said_of_walks, said_of_pair}
 use Rattle.program.proofs.Frames.{venue_framed, venue_on, venue_taken, read_framed, cells_framed, pair_framed, pair_on, after_same, less_left, beyond_is}
-use Rattle.claims.specs.Program.{Pairs, last, next, Runs, ends, begins, Writes, OneStep, example_input}
-use Rattle.claims.specs.Program.{WrongPrograms, Walked, AllWalked, going_on, FiveOrLines, TwelveGoesOn, LineOf, TestedStart}
+use Rattle.claims.specs.Program.{Pairs, last, next, Runs, ends, begins, Writes, OneStep, example_input, WrongPrograms, Walked, AllWalked, going_on, FiveOrLines, TwelveGoesOn, LineOf, TestedStart}
 use Rattle.texts.specs.Text.{pair_refused_line}
 use Rattle.claims.proofs.Starred.{example_writes}
 use denote.Ref.{Bor}
@@ -184,7 +179,7 @@ module _ (s : List ℕ) where
       lent : Bor (List ℕ)
       lent = record { ref_ptr = (0, 0); now = frame venue_most s }
 
-      by : (x : Option ℕ) (r : VenueRead) → (venue_said s).next ≡ x → venue_read s ≡ r → Runs s (output s)
+      by : (x : Option ℕ) (r : Result Venue Refusal) → (venue_said s).next ≡ x → venue_read s ≡ r → Runs s (output s)
       by None r stop e =
           subst (Runs s) (venue_wrote (says_so venue_frame) ∙ sym (stops stop)) (ends (says_so venue_frame) (sym (venue_goes (says_so venue_frame)) ∙ stop))
       by (Some k) (Err r) on e = absurd (venue_taken s r k on e)

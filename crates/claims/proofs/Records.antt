@@ -1,5 +1,6 @@
 -- The claims about venue and pair records, each from its law. Assumes nothing.
-use Rattle.std.specs.Prelude.{Ok, Err}
+use Rattle.std.specs.Prelude.{Result, Ok, Err}
+use Rattle.cells.specs.declared.Refusal.{Refusal}
 use Prim.Native.Nat.{ℕ, ◌+◌, ◌-◌, ◌*◌, ◌≤◌}
 use native.Mathlib.Nat.{mul-le-mul}
 use native.Mathlib.Omega.{arith}
@@ -23,23 +24,18 @@ use Rattle.grids.specs.Grid.{size, shape}
 use Rattle.grids.proofs.Shapes.{shaped}
 use Rattle.records.specs.declared.pairs.Pair.{Pair}
 use Rattle.records.specs.declared.venues.Venue.{Venue}
-use Rattle.records.specs.declared.venues.VenueRead.{VenueRead}
-use Rattle.records.specs.declared.venues.VenueRead.TheVariants.{Read}
-use Rattle.records.specs.declared.pairs.PairRead.TheVariants as PairRead
 use Rattle.records.specs.Heads.{length_field, announced, version_of, whole_check}
 use Rattle.records.specs.Venues.{cells_from, counts_at, venue_version, venue_head, venue_check, venue_read, venue_cells, start_of, ReadsVenue, GivesCells}
 use Rattle.records.specs.Pairs.{signed, pair_version, pair_length, rule_byte, pair_in, pair_check, pair_read}
 use Rattle.records.proofs.HeadTests.{venue_accepted, pair_accepted}
 use Rattle.records.proofs.Following.{venue_unread, cells_unread, pair_unread}
-use Rattle.records.specs.declared.writing.Written.{Written}
 use Rattle.records.specs.Writing.{written_version, head_bytes, record_length, write_check, after_writing, WritesVenue}
 use Rattle.records.proofs.RoundTrip.{read_back, cells_back, front_written, record_fits, same_bytes}
-use Rattle.claims.specs.Records.{OneAnswer, Right, RightPair, Accepted, LengthTested, ThePart, SameVenue, ReadBack, WrittenBack, NotLookedAt}
-use Rattle.claims.specs.Records.{minus_one_pair, pair_by, NumbersRead, WrongRecords}
+use Rattle.claims.specs.Records.{OneAnswer, Right, RightPair, Accepted, LengthTested, ThePart, SameVenue, ReadBack, WrittenBack, NotLookedAt, minus_one_pair, pair_by, NumbersRead, WrongRecords}
 use Rattle.claims.proofs.Grids.{one, one_place}
 
 -- 1 where a venue was written
-accepts : Written → ℕ
+accepts : Result ℕ Refusal → ℕ
 accepts (Ok n) = 1
 accepts (Err r) = 0
 
@@ -63,14 +59,14 @@ not_looked_at s rest =
       cells = λ exact short long a b es el e f.
           let same : venue_read long.now ≡ venue_read short.now = ap venue_read el ∙ venue_unread s rest exact ∙ ap venue_read (sym es) in (
             e.says ∙ ap venue_cells es ∙ sym (cells_unread s rest exact) ∙ ap venue_cells (sym el) ∙ sym f.says,
-            (start_of (venue_read short.now), e.there, subst (λ (r : VenueRead). StartsAt (start_of r) long b) same f.there),
+            (start_of (venue_read short.now), e.there, subst (λ (r : Result Venue Refusal). StartsAt (start_of r) long b) same f.there),
           );
       pair = λ exact r t e f. e.says ∙ sym (pair_unread s rest exact) ∙ sym f.says;
     }
 
 -- ---- what is accepted
 
-right : (s : List ℕ) (v : Venue) → venue_read s ≡ Read v → Right s v
+right : (s : List ℕ) (v : Venue) → venue_read s ≡ Ok v → Right s v
 unfolding venue_version venue_head
 right s v e =
     let (w, f) = venue_accepted s v e in
@@ -97,14 +93,14 @@ whole_fine s there some =
       le-ltb (length s) (length_field + announced s) there,
     )
 
-accepted_venue : (s : List ℕ) (v : Venue) → Right s v → Read v ≡ venue_read s
+accepted_venue : (s : List ℕ) (v : Venue) → Right s v → Ok v ≡ venue_read s
 unfolding venue_version venue_head venue_check venue_read
 accepted_venue s v r =
     let long : announced s - 7 ≡ size v.counts = omega (arith, r.length_is) in
     let fine : shape (counts_at s 5) (announced s - 7) ≡ Ok tt =
     subst (λ (m : Counts). shape m (announced s - 7) ≡ Ok tt) r.counts_are (subst (λ (k : ℕ). shape v.counts k ≡ Ok tt) (sym long) r.shape_is) in
     rw (whole_fine s r.whole (omega (arith, r.length_is)), r.version, le-ltb (announced s) 7 (omega (arith, r.length_is)), fine)
-    (ap Read (λ i. record { counts = r.counts_are i; start = r.part.0 i; long = (r.part.1 ∙ sym long) i }))
+    (ap Ok (λ i. record { counts = r.counts_are i; start = r.part.0 i; long = (r.part.1 ∙ sym long) i }))
 
 -- a number that is not refused 12 names a rule
 ruled : (b : ℕ) → rule_check b ≡ Ok tt → ((b ≡ 1) × (rule_of b ≡ One)) ⊎ ((b ≡ 2) × (rule_of b ≡ Two))
@@ -185,7 +181,7 @@ the_part bytes part =
           let e = sym c.says in
           let h = shaped v.counts (length (venue_cells bytes.now)) (record_fits bytes.now v e).fine in
           let some : 1 * 1 ≤ size v.counts = mul-le-mul h.layer_some h.z.some in (
-            subst (λ (r : VenueRead). StartsAt (start_of r) bytes part) e g.there,
+            subst (λ (r : Result Venue Refusal). StartsAt (start_of r) bytes part) e g.there,
             ap length g.says ∙ h.bytes_are ∙ sym (right bytes.now v e).part.1,
             omega (arith, h.bytes_are, ap length g.says),
           );
@@ -198,7 +194,7 @@ pub read_back_same : (n : Counts) (cells entry : List ℕ) → ReadBack n cells 
 unfolding venue_head
 read_back_same n cells entry = record { same = same; in_place = in_place }
   where
-    same : (exit : List ℕ) (k : ℕ) → WritesVenue n cells entry (Ok k) exit → (rest : List ℕ) (bytes part : Bor (List ℕ)) (r : VenueRead) →
+    same : (exit : List ℕ) (k : ℕ) → WritesVenue n cells entry (Ok k) exit → (rest : List ℕ) (bytes part : Bor (List ℕ)) (r : Result Venue Refusal) →
         bytes.now ≡ take k exit ++ rest → ReadsVenue bytes.now r → GivesCells bytes part → SameVenue n cells bytes part r
     same exit k c rest bytes part r is reads gives =
         let f = front_written n cells entry exit k c in
@@ -206,14 +202,14 @@ read_back_same n cells entry = record { same = same; in_place = in_place }
         is ∙ ap (λ l. l ++ rest) f.front ∙ append_assoc (head_bytes written_version n) cells rest in
         let long : size n ≡ length cells = sym (shaped n (length cells) f.fine).bytes_are in
         let back = ap venue_read bytes_are ∙ read_back n cells rest f.fine
-        ∙ ap (λ (l : ℕ). Read (record { counts = n; start = cells_from written_version; long = l })) long in
+        ∙ ap (λ (l : ℕ). Ok (record { counts = n; start = cells_from written_version; long = l })) long in
         record {
           read = reads.says ∙ back;
           same_cells = gives.says ∙ ap venue_cells bytes_are ∙ cells_back n cells rest f.fine;
-          there = subst (λ (a : VenueRead). StartsAt (start_of a) bytes part) back gives.there;
+          there = subst (λ (a : Result Venue Refusal). StartsAt (start_of a) bytes part) back gives.there;
         }
 
-    in_place : (exit : List ℕ) (k : ℕ) → WritesVenue n cells entry (Ok k) exit → (bytes part : Bor (List ℕ)) (r : VenueRead) →
+    in_place : (exit : List ℕ) (k : ℕ) → WritesVenue n cells entry (Ok k) exit → (bytes part : Bor (List ℕ)) (r : Result Venue Refusal) →
         bytes.now ≡ exit → ReadsVenue bytes.now r → GivesCells bytes part → SameVenue n cells bytes part r
     in_place exit k c bytes part r is = same exit k c (drop k exit) bytes part r (is ∙ sym (take-append-drop k exit))
 

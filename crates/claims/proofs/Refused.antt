@@ -1,6 +1,6 @@
 -- The table of refusals, from what each call's verdict says (`Judged`). Assumes nothing.
-use Rattle.std.specs.Prelude.{Ok, Err, Result, Option}
-use Rattle.sight.specs.declared.Block.{Block}
+use Rattle.std.specs.Prelude.{Ok, Err, Result}
+use Rattle.records.specs.declared.venues.Venue.{Venue}
 use Rattle.cells.specs.declared.Cell.{Cell}
 use Prim.Native.Nat.{ℕ, ◌≤◌}
 use native.Mathlib.Omega.{arith}
@@ -17,8 +17,7 @@ use Rattle.cells.specs.declared.Manner.{Manner}
 use Rattle.cells.specs.declared.End.TheVariants.{P, Q}
 use Rattle.cells.specs.declared.Refusal.{Refusal}
 use Rattle.cells.specs.declared.Start.{Start}
-use Rattle.cells.specs.Checks.{Verdict}
-use Rattle.cells.specs.Checks.{◌then◌, by_verdict}
+use Rattle.cells.specs.Checks.{Verdict, ◌then◌, by_verdict}
 use Rattle.cells.specs.Manners.{rule_of, rule_check}
 use Rattle.cells.specs.Refusals.{Told, told_verdict}
 use Rattle.cells.specs.Tests.{Tests, ◌else◌, First, ByTests}
@@ -53,23 +52,18 @@ use Rattle.survey.specs.declared.Placement.{Placement}
 use Rattle.survey.specs.declared.Point.{Point}
 use Rattle.survey.specs.Survey.{placement_check, PlacedGrid, quotients, point_check, cell_at, look_up, cell_of, LooksUp, told_lookup}
 use Rattle.survey.proofs.Lookups.{lookup_found}
+use Rattle.sight.specs.declared.Sight.{Sight}
 use Rattle.sight.specs.Sight as sights
 use Rattle.sight.specs.Sight.{sight_of, seen, looked, sight, Sees, told_sight, SightSaid}
 use Rattle.sight.proofs.Walkable.{walkable}
-use Rattle.records.specs.declared.venues.VenueRead.{VenueRead}
-use Rattle.records.specs.declared.pairs.PairRead.TheVariants as PairRead
-use Rattle.records.specs.declared.writing.Written.TheVariants as Written
 use Rattle.records.specs.Venues.{venue_in, venue_read, ReadsVenue, part_of, venue_cells, GivesCells, told_venue}
 use Rattle.records.specs.Pairs.{pair_in, pair_read, told_pair}
 use Rattle.records.specs.Writing.{record_length, told_written}
 use Rattle.oatmarten.specs.Flattening.{After}
 use Rattle.structs.specs.Inputs.{as_manner}
-use Rattle.claims.specs.Refused.{box_tests, set_tests, TalliesTold}
-use Rattle.claims.specs.Refused.{list_tests, rule_test, LinesTold, TrailsTold, layer_tests, GridsTold, cell_tests, sight_tests, PointsTold, venue_tests, RecordsTold, RulesTold}
+use Rattle.claims.specs.Refused.{box_tests, set_tests, TalliesTold, list_tests, rule_test, LinesTold, TrailsTold, layer_tests, GridsTold, cell_tests, sight_tests, PointsTold, venue_tests, RecordsTold, RulesTold}
 use Rattle.claims.proofs.Records.{the_part}
-use Rattle.claims.proofs.Judged.{list_judged, ends_judged, counts_judged, shape_judged, layer_judged, walk_judged, placement_judged}
-use Rattle.claims.proofs.Judged.{bricks_judged, box_judged, one_corner, set_judged, point_judged, rule_judged}
-use Rattle.claims.proofs.Judged.{venue_judged, pair_judged, write_judged}
+use Rattle.claims.proofs.Judged.{list_judged, ends_judged, counts_judged, shape_judged, layer_judged, walk_judged, placement_judged, bricks_judged, box_judged, one_corner, set_judged, point_judged, rule_judged, venue_judged, pair_judged, write_judged}
 
 -- ---- line lists
 
@@ -116,7 +110,7 @@ one_of_two e = absurd (let z : ◌≡◌ {A = ℕ} 0 1 = cc in omega arith)
 
 no_bytes : (a : Result LayerPart Refusal) (l : List ℕ) (t : Told) → told_part a ≡ inl t → bytes_of a l ≡ []
 no_bytes (Err r) l t e = refl
-no_bytes (Ok (part_at start long)) l t e = one_of_two (sym e)
+no_bytes (Ok p) l t e = one_of_two (sym e)
 
 layer_told : (n : Counts) (z : ℤ) (cells part : Bor (List ℕ)) → GivesLayer n cells z part →
     (part.now ≡ []) ↔ ((t : Told) × First (layer_tests n (length cells.now) z) t)
@@ -193,13 +187,13 @@ module _ (how : Manner) (n : Counts) (l : List ℕ) (at : Placement) (camera bal
   abbrev sight_check : Verdict
   sight_check = shape n (length l) then placement_check at then point_check P n camera (quotients at camera) then point_check Q n ball (quotients at ball)
 
-  sight_by : sight how n l at camera ball ≡ by_verdict Err (sight_of (first_hit Adaptive how n l from to)) sight_check
+  sight_by : sight how n l at camera ball ≡ by_verdict Sight.Refused (sight_of (first_hit Adaptive how n l from to)) sight_check
   unfolding sight looked look_up
   sight_by = in_one (shape n (length l)) (placement_check at) (point_check P n camera (quotients at camera)) (point_check Q n ball (quotients at ball))
     where
-      in_one : (u v w x : Verdict) → by_verdict Err
+      in_one : (u v w x : Verdict) → by_verdict Sight.Refused
           (seen how n l (by_verdict Err (Ok from) w) (by_verdict Err (Ok to) x)) (u then v)
-          ≡ by_verdict Err (sight_of (first_hit Adaptive how n l from to)) (u then v then w then x)
+          ≡ by_verdict Sight.Refused (sight_of (first_hit Adaptive how n l from to)) (u then v then w then x)
       in_one (Err r) v w x = refl
       in_one (Ok _) (Err r) w x = refl
       in_one (Ok _) (Ok _) (Err r) x = refl
@@ -225,9 +219,9 @@ module _ (how : Manner) (n : Counts) (l : List ℕ) (at : Placement) (camera bal
   sight_is : sight_check ≡ Ok tt → (v : SightSaid) × (told_sight (sight_of (first_hit Adaptive how n l from to)) ≡ inr v)
   sight_is fine = let (w, is) = walked fine in sight_told (first_hit Adaptive how n l from to) w is
 
-  see_told : (r : Result (Option Block) Refusal) → Sees how n l at camera ball r → ByTests (sight_tests n (length l) at camera ball) (told_sight r)
+  see_told : (r : Sight) → Sees how n l at camera ball r → ByTests (sight_tests n (length l) at camera ball) (told_sight r)
   see_told r c =
-      answered told_sight (by_verdict Err (sight_of (first_hit Adaptive how n l from to))) (λ r. refl) sight_judged sight_is (c.says ∙ sight_by)
+      answered told_sight (by_verdict Sight.Refused (sight_of (first_hit Adaptive how n l from to))) (λ r. refl) sight_judged sight_is (c.says ∙ sight_by)
 
 pub tallies_told : (n : Counts) (l m : List ℕ) → TalliesTold n l m
 tallies_told n l m =
@@ -262,15 +256,15 @@ points_told n at = record { cell_of = cell_told n at; see = λ how l. see_told h
 
 -- ---- records
 
-venue_told : (s : List ℕ) (r : VenueRead) → ReadsVenue s r → ByTests (venue_tests s) (told_venue r)
+venue_told : (s : List ℕ) (r : Result Venue Refusal) → ReadsVenue s r → ByTests (venue_tests s) (told_venue r)
 unfolding venue_read
 venue_told s r c = answered told_venue (by_verdict Err (Ok (venue_in s))) (λ r. refl) (venue_judged s) (λ fine. (_, refl)) c.says
 
-no_cells : (a : VenueRead) (s : List ℕ) (t : Told) → told_venue a ≡ inl t → part_of a s ≡ []
+no_cells : (a : Result Venue Refusal) (s : List ℕ) (t : Told) → told_venue a ≡ inl t → part_of a s ≡ []
 no_cells (Err r) s t e = refl
 no_cells (Ok v) s t e = one_of_two (sym e)
 
-some_cells : (bytes part : Bor (List ℕ)) → GivesCells bytes part → (a : VenueRead) (w : Counts × ℕ × ℕ) → a ≡ venue_read bytes.now → told_venue a ≡ inr w →
+some_cells : (bytes part : Bor (List ℕ)) → GivesCells bytes part → (a : Result Venue Refusal) (w : Counts × ℕ × ℕ) → a ≡ venue_read bytes.now → told_venue a ≡ inr w →
     1 ≤ length part.now
 some_cells bytes part c (Ok v) w is e = ((the_part bytes part).accepted v (record { says = is }) c).2
 some_cells bytes part c (Err r) w is e = one_of_two e
@@ -339,9 +333,9 @@ rules_told =
           let x = sight_of (first_hit Adaptive manner n l (from manner n l at camera ball) (to manner n l at camera ball)) in (
             h.answer,
             h.flat,
-            answered told_sight (by_verdict Err x) (λ r. refl) (rule_judged how.rule next sight_judged manner n l at camera ball)
+            answered told_sight (by_verdict Sight.Refused x) (λ r. refl) (rule_judged how.rule next sight_judged manner n l at camera ball)
                 (λ fine. sight_is manner n l at camera ball (each_fine (rule_check how.rule) _ fine).1)
-                (after_says Err x (rule_check how.rule) (sight_check manner n l at camera ball) (λ r m. m)
+                (after_says Sight.Refused x (rule_check how.rule) (sight_check manner n l at camera ball) (λ r m. m)
                 (λ m. m.says ∙ sight_by manner n l at camera ball) h.meets),
           );
     }

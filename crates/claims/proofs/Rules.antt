@@ -25,8 +25,7 @@ use Rattle.lines.specs.Steps.{total}
 use Rattle.lines.specs.Preference.{y_z_x, comes_before, order_of, by_rule}
 use Rattle.lines.specs.Lines.{differences, six_cell, six_line}
 use Rattle.lines.proofs.Cells.{six_length}
-use Rattle.lines.proofs.Mirror.{Compared, less, more, equal, compared, Which, p_first, q_first, one, which}
-use Rattle.lines.proofs.Mirror.{rule_1_order, order_from, either_way_total, rule_2_mirror, line_mirror, six_same, line_same}
+use Rattle.lines.proofs.Mirror.{Compared, less, more, equal, compared, Which, p_first, q_first, one, which, rule_1_order, order_from, either_way_total, rule_2_mirror, line_mirror, six_same, line_same}
 use Rattle.lists.specs.Lists.{ends_check, Line6}
 use Rattle.lists.proofs.Front.{ends_fine, limits_pass}
 use Rattle.grids.specs.Grid.{byte_of, solid}

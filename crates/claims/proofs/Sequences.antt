@@ -8,8 +8,7 @@ use lib.Count.{ones}
 use Rattle.cells.specs.declared.Cell.{Cell}
 use Rattle.cells.specs.declared.Counts.{Counts}
 use Rattle.cells.specs.declared.Refusal.TheVariants.{Stale}
-use Rattle.cells.specs.Checks.{Verdict}
-use Rattle.cells.specs.Checks.{by_verdict}
+use Rattle.cells.specs.Checks.{Verdict, by_verdict}
 use Rattle.grids.specs.Grid.{shape}
 use Rattle.grids.specs.Marks.{marked, Marks}
 use Rattle.grids.proofs.Marking.{marked_same}
@@ -23,8 +22,7 @@ use Rattle.refills.specs.Boxes.{corner}
 use Rattle.refills.specs.Refills.{refilled, remasked, moved, Refills}
 use Rattle.refills.proofs.Accepted.{accepted_says, stale_says}
 use Rattle.refills.proofs.Keeping.{kept_agrees, kept_refilled}
-use Rattle.claims.specs.Sequences.{AllRight, State, Operation, Build, Set, Refill, Mark, handed_on, Step, Sequence, nothing, then_one}
-use Rattle.claims.specs.Sequences.{FromABuildOn, Keeping}
+use Rattle.claims.specs.Sequences.{AllRight, State, Operation, Build, Set, Refill, Mark, handed_on, Step, Sequence, nothing, then_one, FromABuildOn, Keeping}
 use Rattle.claims.proofs.Kept.{kept_once, masks, build_says}
 
 module _ (n : Counts) (l m : List ℕ) where

@@ -1,5 +1,5 @@
 -- The claims about shells of marks: over k from the laws, and faces alone by computation on named grids. Assumes nothing.
-use Rattle.std.specs.Prelude.{Ok, Err, Result, None}
+use Rattle.std.specs.Prelude.{Ok, Err, Result}
 use Rattle.cells.specs.declared.Refusal.{Refusal}
 use Prim.Native.Nat.{ℕ, ◌≤◌}
 use mathlib.Core.Path.{◌≡◌, refl, sym, ap, ◌∙◌, subst, subst₂}
@@ -19,8 +19,7 @@ use Rattle.cells.specs.declared.Manner.{Manner}
 use Rattle.cells.specs.declared.Rule.TheVariants.{One, Two}
 use Rattle.cells.specs.declared.Start.{Start}
 use Rattle.cells.specs.declared.Start.TheVariants.{Untested, Tested}
-use Rattle.cells.specs.Checks.{Verdict}
-use Rattle.cells.specs.Checks.{by_verdict}
+use Rattle.cells.specs.Checks.{Verdict, by_verdict}
 use Rattle.cells.specs.Manners.{usual, tested_by}
 use Rattle.lines.specs.Preference.{comes_before}
 use Rattle.lines.specs.Lines.{six_cell}
@@ -40,6 +39,7 @@ use Rattle.walks.proofs.Modes.{as_usual}
 use Rattle.walks.proofs.MoreClear.{MoreClear, same_hits, plain_alike, clearer_reads}
 use Rattle.walks.proofs.Testing.{hit_solid}
 use Rattle.survey.specs.Survey.{placement_check, look_up}
+use Rattle.sight.specs.declared.Sight.TheVariants as Sight
 use Rattle.sight.specs.Sight.{Sees}
 use Rattle.claims.proofs.Cases.{on_axes}
 use Rattle.claims.specs.Example.{counts, at, faces_there, faces_back, far_counts, faces_inside}
@@ -212,7 +212,7 @@ ball_in : look_up Q far_counts one_metre ball_inside ≡ Ok (at 3 2 2)
 unfolding look_up eq le lt of_int div sub
 ball_in = refl
 
-seen_inside : (how : Manner) → Sees how far_counts faces_inside one_metre camera_inside ball_inside (Ok None)
+seen_inside : (how : Manner) → Sees how far_counts faces_inside one_metre camera_inside ball_inside Sight.Clear
 unfolding shape placement_check eq le lt of_int div sub
 seen_inside how =
     record {

@@ -12,8 +12,7 @@ use Rattle.cells.specs.declared.Face.TheVariants as Face
 use Rattle.cells.specs.declared.Refusal.{Refusal}
 use Rattle.cells.specs.declared.Rule.{Rule}
 use Rattle.cells.specs.declared.Rule.TheVariants.{One, Two}
-use Rattle.cells.specs.Checks.{Verdict}
-use Rattle.cells.specs.Checks.{by_verdict}
+use Rattle.cells.specs.Checks.{Verdict, by_verdict}
 use Rattle.cells.specs.Manners.{is_tested, usual, tested_by}
 use Rattle.lines.specs.Preference.{Preference, by_rule}
 use Rattle.lines.specs.Lines.{six_cell}

@@ -15,8 +15,7 @@ use Rattle.cells.specs.declared.Counts.{Counts}
 use Rattle.cells.specs.declared.Face.{Face}
 use Rattle.cells.specs.declared.Manner.{Manner}
 use Rattle.cells.specs.declared.Refusal.{Refusal}
-use Rattle.cells.specs.Checks.{Verdict}
-use Rattle.cells.specs.Checks.{by_verdict}
+use Rattle.cells.specs.Checks.{Verdict, by_verdict}
 use Rattle.cells.specs.Faces.{back_across}
 use Rattle.cells.specs.Manners.{is_tested, usual}
 use Rattle.cells.proofs.Signed.{up}
@@ -47,13 +46,10 @@ use Rattle.walks.proofs.Testing.{hit_solid, not_solid}
 use Rattle.walks.proofs.Modes.{as_usual}
 use Rattle.walks.proofs.Long.{go_long, go_face}
 use Rattle.walks.proofs.Places.{enters, never_falls, face_is, some_face, face_leads_back, num_made}
-use Rattle.walks.proofs.Story.{first_hit_is, walk_stops, end_below, no_earlier, not_invented, ends_alike, reads_no_more}
-use Rattle.walks.proofs.Story.{plain_clear, plain_clear_reads, adaptive_clear_most, adaptive_clear_least}
+use Rattle.walks.proofs.Story.{first_hit_is, walk_stops, end_below, no_earlier, not_invented, ends_alike, reads_no_more, plain_clear, plain_clear_reads, adaptive_clear_most, adaptive_clear_least}
 use Rattle.survey.proofs.Tests.{neither}
 use Rattle.structs.specs.Faces.{face_number}
-use Rattle.claims.specs.Story.{SameStory, hits, clears, refusals, OneStory, NeverInvented, NothingInTheWay, Reads, WalksEnd}
-use Rattle.claims.specs.Story.{FirstOnLine, HitInside, MarkedFirst, HitOnce, WrongWalks, OnTheLine, HitPlace, CameInBy, HitFace, StepByStep}
-use Rattle.claims.specs.Story.{AdaptiveStep, AsItsWalk, long_hit}
+use Rattle.claims.specs.Story.{SameStory, hits, clears, refusals, OneStory, NeverInvented, NothingInTheWay, Reads, WalksEnd, FirstOnLine, HitInside, MarkedFirst, HitOnce, WrongWalks, OnTheLine, HitPlace, CameInBy, HitFace, StepByStep, AdaptiveStep, AsItsWalk, long_hit}
 use Rattle.claims.specs.Example.{at, example_counts, marked_cells}
 use Rattle.claims.proofs.Grids.{says_complete}
 

@@ -17,8 +17,7 @@ use Rattle.cells.specs.declared.Manner.{Manner}
 use Rattle.cells.specs.declared.Refusal.{Refusal}
 use Rattle.cells.specs.declared.Start.{Start}
 use Rattle.cells.specs.declared.Start.TheVariants.{Untested, Tested}
-use Rattle.cells.specs.Checks.{Verdict}
-use Rattle.cells.specs.Checks.{by_verdict}
+use Rattle.cells.specs.Checks.{Verdict, by_verdict}
 use Rattle.cells.specs.Manners.{is_tested}
 use Rattle.cells.proofs.Checks.{by_fine}
 use Rattle.cells.proofs.Touching.{and_both}
@@ -31,8 +30,7 @@ use Rattle.lines.proofs.Centres.{centres_good}
 use Rattle.lines.proofs.Cells.{limited_difference, six_entered, six_start, steps_made}
 use Rattle.lines.proofs.Counted.{count_most, even_count, tie_free_line}
 use Rattle.lines.proofs.Fractions.{chain_le}
-use Rattle.lines.proofs.Touched.{start, visit, touching_parts, touching_length, touching_at, touched_in, share_at, touched_at, first_at, never_falls}
-use Rattle.lines.proofs.Touched.{all_different, has_six, ends_at, visiting_at}
+use Rattle.lines.proofs.Touched.{start, visit, touching_parts, touching_length, touching_at, touched_in, share_at, touched_at, first_at, never_falls, all_different, has_six, ends_at, visiting_at}
 use Rattle.lines.proofs.Visits.{not_start, reached_upper, reached_lower}
 use Rattle.lists.specs.Lists.{ends_check}
 use Rattle.grids.specs.Grid.{byte_of, solid}
@@ -52,8 +50,7 @@ use Rattle.touching.proofs.Answers.{hit_on, Search, found, none, search_of}
 use Rattle.claims.specs.Example as example
 use Rattle.claims.specs.Lists.{lowest, highest}
 use Rattle.claims.specs.Tables.{no_more, ◌and◌}
-use Rattle.claims.specs.Touching.{touching_cell, InLine, IsTouched, TouchedCells, CrossingOrder, OverSixLines, LongestTouching, TouchingListed}
-use Rattle.claims.specs.Touching.{TouchingRows, ReachedBy, FirstTouched, TouchingHits, TouchingStarts, BesidePlain, TouchingOnce, TouchingHitRows, WrongTouching, one_solid, row_hit}
+use Rattle.claims.specs.Touching.{touching_cell, InLine, IsTouched, TouchedCells, CrossingOrder, OverSixLines, LongestTouching, TouchingListed, TouchingRows, ReachedBy, FirstTouched, TouchingHits, TouchingStarts, BesidePlain, TouchingOnce, TouchingHitRows, WrongTouching, one_solid, row_hit}
 use Rattle.claims.proofs.Lists.{cells_at, longest, accepted, said}
 use Rattle.claims.proofs.Starts.{one_read}
 use Rattle.claims.proofs.Story.{kind, hit_or, reads_or, first_on_line, hit_place, hit_found}

@@ -1,8 +1,8 @@
 -- What is claimed of the calls for C, by the contracts of those exports that answer a struct (ExportTies: they are the sources' own). Assumes nothing.
-use Rattle.std.specs.Prelude.{Result, Option}
+use Rattle.std.specs.Prelude.{Result, ℕ, ◌≤◌, ◌≡◌, List, [], ◌∷◌, ℤ, pos}
 use Rattle.cells.specs.declared.Refusal.{Refusal}
-use Rattle.sight.specs.declared.Block.{Block}
-use Rattle.std.specs.Prelude.{ℕ, ◌≤◌, ◌≡◌, List, [], ◌∷◌, ℤ, pos}
+use Rattle.records.specs.declared.venues.Venue.{Venue}
+use Rattle.records.specs.declared.pairs.Pair.{Pair}
 use Rattle.cells.specs.declared.Cell.{Cell}
 use Rattle.cells.specs.declared.Counts.{Counts}
 use Rattle.cells.specs.declared.Rule.{Rule}
@@ -22,10 +22,8 @@ use Rattle.survey.specs.declared.Placement.{Placement}
 use Rattle.survey.specs.declared.Point.{Point}
 use Rattle.survey.specs.Quotient.{as_f64}
 use Rattle.survey.specs.Survey.{LooksUp}
+use Rattle.sight.specs.declared.Sight.{Sight}
 use Rattle.sight.specs.Sight.{Sees}
-use Rattle.records.specs.declared.venues.VenueRead.{VenueRead}
-use Rattle.records.specs.declared.pairs.PairRead.{PairRead}
-use Rattle.records.specs.declared.writing.Written.{Written}
 use Rattle.records.specs.Venues.{ReadsVenue}
 use Rattle.records.specs.Pairs.{ReadsPair}
 use Rattle.records.specs.Writing.{WritesVenue}
@@ -166,11 +164,11 @@ pub record ExportsAre : Type 0 where
   pub found : (n : Counts) (at : Placement) (p : Point) (r : OatFound) → FlatLooksUp n at p r → (a : Result Cell Refusal) × LooksUp n at p a × (r ≡ flat_found a)
   pub seen : (s : ℕ) (rule : Rule) (n : Counts) (cells : List ℕ) (at : Placement) (camera ball : Point) (r : OatSight) →
       FlatSees (record { start = s; rule = rule_number rule }) n cells at camera ball r →
-      (a : Result (Option Block) Refusal) × Sees (record { start = as_start s; rule = rule }) n cells at camera ball a × (r ≡ flat_sight a)
-  pub venue : (bytes : List ℕ) (r : OatVenue) → FlatReadsVenue bytes r → (a : VenueRead) × ReadsVenue bytes a × (r ≡ flat_venue a)
-  pub pair : (bytes : List ℕ) (r : OatPair) → FlatReadsPair bytes r → (a : PairRead) × ReadsPair bytes a × (r ≡ flat_pair a)
+      (a : Sight) × Sees (record { start = as_start s; rule = rule }) n cells at camera ball a × (r ≡ flat_sight a)
+  pub venue : (bytes : List ℕ) (r : OatVenue) → FlatReadsVenue bytes r → (a : Result Venue Refusal) × ReadsVenue bytes a × (r ≡ flat_venue a)
+  pub pair : (bytes : List ℕ) (r : OatPair) → FlatReadsPair bytes r → (a : Result Pair Refusal) × ReadsPair bytes a × (r ≡ flat_pair a)
   pub written : (n : Counts) (cells entry exit : List ℕ) (r : OatWritten) → FlatWritesVenue n cells entry r exit →
-      (a : Written) × WritesVenue n cells entry a exit × (r ≡ flat_written a)
+      (a : Result ℕ Refusal) × WritesVenue n cells entry a exit × (r ≡ flat_written a)
 
 -- 5. A number that is neither 1 nor 2 names no rule: 12 with no end and no axis, 0 in every other field, and the memory as it was.
 pub record NoSuchRule (number : ℕ) : Type 0 where

@@ -1,9 +1,7 @@
 -- The surveyed box is closed (SCOPE S13), and nothing else moved when it was closed: told by the half-open rule that stood before, by which a quotient
 -- equal to the count was outside. Assumes nothing.
-use Rattle.std.specs.Prelude.{Ok, Err, Result, Option}
-use Rattle.sight.specs.declared.Block.{Block}
+use Rattle.std.specs.Prelude.{Ok, Err, Result, ℕ, ◌≤◌, ◌<◌, ◌≡◌, Bool, true, false, not, ◌||◌, List, ◌⊎◌, pos, Float, length}
 use Rattle.cells.specs.declared.Cell.{Cell}
-use Rattle.std.specs.Prelude.{ℕ, ◌≤◌, ◌<◌, ◌≡◌, Bool, true, false, not, ◌||◌, List, ◌⊎◌, pos, Float, length}
 use Rattle.std.specs.Float.Ieee.{lt, le}
 use Rattle.std.specs.Float.Ieee.Scale.{finite}
 use Rattle.cells.specs.declared.Axis.{Axis}
@@ -14,14 +12,14 @@ use Rattle.cells.specs.declared.End.{End}
 use Rattle.cells.specs.declared.End.TheVariants.{P, Q}
 use Rattle.cells.specs.declared.Manner.{Manner}
 use Rattle.cells.specs.declared.Refusal.{Refusal}
-use Rattle.cells.specs.Checks.{Verdict}
-use Rattle.cells.specs.Checks.{refuse_when, ◌then◌, by_verdict}
+use Rattle.cells.specs.Checks.{Verdict, refuse_when, ◌then◌, by_verdict}
 use Rattle.grids.specs.Grid.{shape, count_check}
 use Rattle.grids.specs.Inside.{count_on}
 use Rattle.survey.specs.declared.Placement.{Placement}
 use Rattle.survey.specs.declared.Point.{Point}
 use Rattle.survey.specs.Quotient.{as_f64, outside, in_cell, on_far_face, number_below, cell_number}
 use Rattle.survey.specs.Survey.{placement_check, quotients, look_up, LooksUp}
+use Rattle.sight.specs.declared.Sight.{Sight}
 use Rattle.sight.specs.Sight.{seen, Sees}
 
 -- ---- the half-open rule
@@ -51,9 +49,9 @@ look_up_before e n at p = by_verdict Err (Ok (cell_before n (quotients at p))) (
 abbrev pub cell_of_before : Counts → Placement → Point → Result Cell Refusal
 cell_of_before n at p = by_verdict Err (look_up_before P n at p) (count_check n then placement_check at)
 
-abbrev pub sight_before : Manner → Counts → List ℕ → Placement → Point → Point → Result (Option Block) Refusal
+abbrev pub sight_before : Manner → Counts → List ℕ → Placement → Point → Point → Sight
 sight_before how n l at camera ball =
-    by_verdict Err (seen how n l (look_up_before P n at camera) (look_up_before Q n at ball)) (shape n (length l) then placement_check at)
+    by_verdict Sight.Refused (seen how n l (look_up_before P n at camera) (look_up_before Q n at ball)) (shape n (length l) then placement_check at)
 
 -- ---- what moved
 
@@ -89,6 +87,6 @@ pub record OnlyWalls (e : End) (n : Counts) (at : Placement) (p : Point) : Type 
 -- The two calls: the cell of a point, as P; and the sight, which moved only where the camera lies on a far wall, or the ball does.
 pub record CallsKept (n : Counts) (at : Placement) : Type 0 where
   pub cell_of : (p : Point) (r : Result Cell Refusal) → LooksUp n at p r → SameOrWall Err P n at p r (cell_of_before n at p)
-  pub see : (how : Manner) (l : List ℕ) (camera ball : Point) (r : Result (Option Block) Refusal) → Sees how n l at camera ball r →
-      SameOrWall Err P n at camera r (sight_before how n l at camera ball) ⊎
-      SameOrWall Err Q n at ball r (sight_before how n l at camera ball)
+  pub see : (how : Manner) (l : List ℕ) (camera ball : Point) (r : Sight) → Sees how n l at camera ball r →
+      SameOrWall Sight.Refused P n at camera r (sight_before how n l at camera ball) ⊎
+      SameOrWall Sight.Refused Q n at ball r (sight_before how n l at camera ball)

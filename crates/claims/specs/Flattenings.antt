@@ -1,7 +1,6 @@
 -- What is claimed of the structs that the calls for C answer by: what C reads of an answer is what SCOPE says of it, as numbers; and of those that
 -- the calls take: what they mean. Assumes nothing.
-use Rattle.std.specs.Prelude.{Ok, Err, Some, None}
-use Rattle.std.specs.Prelude.{ℕ, ◌≤◌, ◌≡◌, ◌⊎◌, ◌↔◌, ℤ, pos, negsuc, Float}
+use Rattle.std.specs.Prelude.{Ok, Err, ℕ, ◌≤◌, ◌≡◌, ◌⊎◌, ◌↔◌, ℤ, pos, negsuc, Float}
 use Rattle.std.proofs.Common.{inr}
 use Rattle.cells.specs.declared.Axis.{Axis}
 use Rattle.cells.specs.declared.Axis.TheVariants.{X, Y, Z}
@@ -24,10 +23,8 @@ use Rattle.walks.specs.declared.FirstHit.TheVariants as FirstHit
 use Rattle.walks.specs.Answers.{told_hit}
 use Rattle.survey.specs.Quotient.{as_f64}
 use Rattle.survey.specs.Survey.{told_lookup}
+use Rattle.sight.specs.declared.Sight.TheVariants as Sight
 use Rattle.sight.specs.Sight.{told_sight}
-use Rattle.records.specs.declared.venues.VenueRead.TheVariants as VenueRead
-use Rattle.records.specs.declared.pairs.PairRead.TheVariants as PairRead
-use Rattle.records.specs.declared.writing.Written.TheVariants as Written
 use Rattle.records.specs.Venues.{told_venue}
 use Rattle.records.specs.Pairs.{told_pair}
 use Rattle.records.specs.Writing.{told_written}
@@ -129,8 +126,9 @@ pub record FlatRows : Type 0 where
   pub tally_refused : (r : Refusal) → flat_tally (Err r) ≡ record { said = flat_refusal r; total = 0 }
   -- a walk: `hit` is 1 where it hit, with the cell, its code, the place num over den, the face, and the reads; 0 where it is clear, with the reads
   pub hit : (x y z : ℤ) (code num den : ℕ) (f : Face) (reads : ℕ) →
-      flat_hit ((λ x. Ok (FirstHit.Hit x))
-      (record { cell = record { x = x; y = y; z = z }; code = code; place = record { num = num; den = den; face = f }; reads = reads })) ≡
+      flat_hit
+      (Ok
+      (FirstHit.Hit (record { cell = record { x = x; y = y; z = z }; code = code; place = record { num = num; den = den; face = f }; reads = reads }))) ≡
       record { said = three 0 0 0; hit = 1; x = x; y = y; z = z; code = code; num = num; den = den; face = face_number f; reads = reads }
   pub walk_clear : (reads : ℕ) → flat_hit (Ok (FirstHit.Clear reads)) ≡
       record { said = three 0 0 0; hit = 0; x = pos 0; y = pos 0; z = pos 0; code = 0; num = 0; den = 0; face = pos 0; reads = reads }
@@ -141,11 +139,11 @@ pub record FlatRows : Type 0 where
   pub found_refused : (r : Refusal) → flat_found (Err r) ≡ record { said = flat_refusal r; x = pos 0; y = pos 0; z = pos 0 }
   -- a sight: `blocked` is 1 where a cell is in the way, with the share of the way, the cell, its code, the reads, and the face; 0 where it is clear
   pub blocked : (share : Float) (x y z : ℤ) (code reads : ℕ) (f : Face) →
-      flat_sight (Ok (Some (record { share = share; cell = record { x = x; y = y; z = z }; code = code; reads = reads; face = f }))) ≡
+      flat_sight (Sight.Blocked (record { share = share; cell = record { x = x; y = y; z = z }; code = code; reads = reads; face = f })) ≡
       record { said = three 0 0 0; blocked = 1; share = share; x = x; y = y; z = z; code = code; reads = reads; face = face_number f }
-  pub sight_clear : flat_sight (Ok None) ≡
+  pub sight_clear : flat_sight Sight.Clear ≡
       record { said = three 0 0 0; blocked = 0; share = as_f64 0; x = pos 0; y = pos 0; z = pos 0; code = 0; reads = 0; face = pos 0 }
-  pub sight_refused : (r : Refusal) → flat_sight (Err r) ≡
+  pub sight_refused : (r : Refusal) → flat_sight (Sight.Refused r) ≡
       record { said = flat_refusal r; blocked = 0; share = as_f64 0; x = pos 0; y = pos 0; z = pos 0; code = 0; reads = 0; face = pos 0 }
   -- a venue's record: the three counts; `offset` is where its cells start, `length` how many they are
   pub venue : (nx ny nz start long : ℕ) →

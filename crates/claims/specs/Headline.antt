@@ -1,7 +1,7 @@
 -- The users' three demands, the kept counts and the touching line, a record each, in the words of the calls' contracts. A tester may read this page alone; each name leads to its file.
 -- Assumes nothing.
-use Rattle.std.specs.Prelude.{Ok, Result, None}
-use Rattle.std.specs.Prelude.{ℕ, ◌≤◌, ◌≡◌, List, ◌++◌, ℤ, take}
+use Rattle.std.specs.Prelude.{Ok, Result, ℕ, ◌≤◌, ◌≡◌, List, ◌++◌, ℤ, take}
+use Rattle.records.specs.declared.venues.Venue.{Venue}
 use Rattle.std.specs.Borrow.{Bor}
 use Rattle.cells.specs.declared.Cell.{Cell}
 use Rattle.cells.specs.declared.Counts.{Counts}
@@ -21,9 +21,8 @@ use Rattle.walks.specs.declared.FirstHit.{FirstHit}
 use Rattle.walks.specs.Answers.{Finds}
 use Rattle.survey.specs.declared.Placement.{Placement}
 use Rattle.survey.specs.declared.Point.{Point}
+use Rattle.sight.specs.declared.Sight.TheVariants as Sight
 use Rattle.sight.specs.Sight.{Sees}
-use Rattle.records.specs.declared.venues.VenueRead.{VenueRead}
-use Rattle.records.specs.declared.writing.Written.TheVariants.{Wrote}
 use Rattle.records.specs.Venues.{ReadsVenue, GivesCells}
 use Rattle.records.specs.Writing.{WritesVenue}
 use Rattle.claims.specs.Ties.{AsksNothing, Promised}
@@ -96,8 +95,8 @@ pub record AreThePapers : Type 0 where
       TrailListed how n l p q entry exit k × BesideFirstHit how n l p q entry exit k
   pub adaptive : (rule : Rule) (n : Counts) (l : List ℕ) (p q : Cell) → AdaptiveStep (by_rule rule p q) n l p q
   pub plain : (how : Manner) (n : Counts) (l : List ℕ) (p q : Cell) → FirstOnLine how n l p q
-  pub read_back : (n : Counts) (cells entry exit : List ℕ) (k : ℕ) → WritesVenue n cells entry (Wrote k) exit →
-      (rest : List ℕ) (bytes part : Bor (List ℕ)) (r : VenueRead) →
+  pub read_back : (n : Counts) (cells entry exit : List ℕ) (k : ℕ) → WritesVenue n cells entry (Ok k) exit →
+      (rest : List ℕ) (bytes part : Bor (List ℕ)) (r : Result Venue Refusal) →
       bytes.now ≡ take k exit ++ rest → ReadsVenue bytes.now r → GivesCells bytes part → records.SameVenue n cells bytes part r
 
 -- 3. Where the completeness call says yes, the adaptive and the plain walk find the same first hit, its cell, code, place and entry face, or both none, and
@@ -112,7 +111,7 @@ pub record TellOneStory : Type 0 where
   pub same : (how : Manner) (n : Counts) (l : List ℕ) (p q : Cell) → Completes n l (Ok true) → (plain adaptive : Result FirstHit Refusal) →
       Finds Plain how n l p q plain → Finds Adaptive how n l p q adaptive → SameStory plain adaptive
   pub clear : (how : Manner) (n : Counts) (l : List ℕ) (at : Placement) (camera ball : Point) → Completes n l (Ok true) →
-      Sees how n l at camera ball (Ok None) → OpenWay how n l at camera ball
+      Sees how n l at camera ball Sight.Clear → OpenWay how n l at camera ball
   pub shells : Shells
   pub faces_alone : FacesAlone
   pub less : (n : Counts) (l : List ℕ) → AsksLess n l

@@ -1,7 +1,6 @@
 -- What is claimed of a surveyed point's cell (SCOPE, S), for every counts, placement and point. Assumes nothing.
-use Rattle.std.specs.Prelude.{Ok, Err, Result}
+use Rattle.std.specs.Prelude.{Ok, Err, Result, ℕ, ◌+◌, ◌-◌, ◌^◌, ◌≤◌, ◌<◌, ◌≡◌, true, false, ◌↔◌, ◌⊎◌, List, [], ◌∷◌, ℤ, pos, negsuc, Float}
 use Rattle.cells.specs.declared.Cell.{Cell}
-use Rattle.std.specs.Prelude.{ℕ, ◌+◌, ◌-◌, ◌^◌, ◌≤◌, ◌<◌, ◌≡◌, true, false, ◌↔◌, ◌⊎◌, List, [], ◌∷◌, ℤ, pos, negsuc, Float}
 use Rattle.std.proofs.Common.{inl, inr}
 use Rattle.std.specs.Float.{nan, inf, fin, binary64}
 use Rattle.std.specs.Float.Ieee.{div, neg, lt, le, is_nan, to_unsigned, of_bits, to_bits}

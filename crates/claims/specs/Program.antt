@@ -1,7 +1,6 @@
 -- What is claimed of the program `sightlines`: for all steps that meet their contracts. Assumes nothing.
-use Rattle.std.specs.Prelude.{Ok, Err, Result, Some, None}
+use Rattle.std.specs.Prelude.{Ok, Err, Result, Some, None, ℕ, ◌+◌, ◌≡◌, List, [], ◌∷◌, ◌++◌, ◌⊎◌, take}
 use Rattle.cells.specs.declared.Refusal.{Refusal}
-use Rattle.std.specs.Prelude.{ℕ, ◌+◌, ◌≡◌, List, [], ◌∷◌, ◌++◌, ◌⊎◌, take}
 use Rattle.cells.specs.declared.Counts.{Counts}
 use Rattle.cells.specs.declared.Manner.{Manner}
 use Rattle.cells.specs.declared.Refusal.TheVariants.{NoRule}
@@ -10,12 +9,10 @@ use Rattle.walks.specs.declared.Walker.TheVariants.{Plain, Adaptive}
 use Rattle.walks.specs.Answers.{Finds}
 use Rattle.std.specs.Borrow.{Bor}
 use Rattle.records.specs.declared.venues.Venue.{Venue}
-use Rattle.records.specs.declared.venues.VenueRead.TheVariants.{Read}
 use Rattle.records.specs.Venues.{ReadsVenue, GivesCells}
 use Rattle.walks.specs.declared.Hit.{Hit}
 use Rattle.walks.specs.declared.FirstHit.{FirstHit}
 use Rattle.records.specs.declared.pairs.Pair.{Pair}
-use Rattle.records.specs.declared.pairs.PairRead.TheVariants as PairRead
 use Rattle.texts.specs.Text.{hit_line, clear_line, pair_refused_line}
 use Rattle.program.specs.declared.Step.{Step}
 use Rattle.program.specs.Program.{Said, venue_most, pair_most, venue_said, answers, walk_line, walk_lines, pair_said, output, frame, after_frame, Says}
@@ -37,7 +34,7 @@ pub data Runs : List ℕ → List ℕ → Type 0 where
   ends : {s entry exit : List ℕ} {r : Step} → Says (venue_said (frame venue_most s)) entry r exit → r.next ≡ None → Runs s (take r.long exit)
   begins : {k : ℕ} {s entry exit out : List ℕ} {bytes cells : Bor (List ℕ)} {r : Step} {v : Venue} →
       Says (venue_said (frame venue_most s)) entry r exit → r.next ≡ Some k
-      → bytes.now ≡ frame venue_most s → ReadsVenue bytes.now (Read v) → GivesCells bytes cells →
+      → bytes.now ≡ frame venue_most s → ReadsVenue bytes.now (Ok v) → GivesCells bytes cells →
       Pairs v.counts cells.now k (after_frame venue_most s) out
       → Runs s (take r.long exit ++ out)
 
@@ -70,7 +67,7 @@ going_on k text = record { text = text; next = Some (k + 1) }
 
 -- Of an accepted venue, a pair that is read is refused 5 or not at all; then each walk was made and has its line. Either way the program goes on.
 pub record FiveOrLines (bytes cells : Bor (List ℕ)) (t : List ℕ) (v : Venue) (e : Pair) : Type 0 where
-  pub pair : ReadsVenue bytes.now (Read v) → GivesCells bytes cells → ReadsPair t (Ok e) → (k : ℕ) →
+  pub pair : ReadsVenue bytes.now (Ok v) → GivesCells bytes cells → ReadsPair t (Ok e) → (k : ℕ) →
       let found : List (ℕ × (Result FirstHit Refusal)) = answers v.counts cells.now e in
       (pair_said v.counts cells.now k t ≡ going_on k (pair_refused_line k 5))
       ⊎ ((pair_said v.counts cells.now k t ≡ going_on k (walk_lines k found)) × AllWalked found)

@@ -1,6 +1,5 @@
 -- What is claimed of venue and pair records: for all answers that meet the calls' contracts. Assumes nothing.
-use Rattle.std.specs.Prelude.{Ok, Err}
-use Rattle.std.specs.Prelude.{ℕ, ◌+◌, ◌*◌, ◌≤◌, ◌<◌, ◌≡◌, ◌↔◌, ◌⊎◌, List, [], ◌∷◌, ◌++◌, pos, ◌-ℤ◌, length, get_or, take, replicate}
+use Rattle.std.specs.Prelude.{Result, Ok, Err, ℕ, ◌+◌, ◌*◌, ◌≤◌, ◌<◌, ◌≡◌, ◌↔◌, ◌⊎◌, List, [], ◌∷◌, ◌++◌, pos, ◌-ℤ◌, length, get_or, take, replicate}
 use Rattle.std.specs.Borrow.{Bor}
 use Rattle.buffers.specs.Numbers.{two_at, four_at, AllBytes}
 use Rattle.cells.specs.declared.Counts.{Counts}
@@ -10,22 +9,19 @@ use Rattle.cells.specs.declared.Rule.TheVariants.{One, Two}
 use Rattle.cells.specs.Parts.{StartsAt}
 use Rattle.grids.specs.Grid.{size, count_check, shape}
 use Rattle.records.specs.declared.venues.Venue.{Venue}
-use Rattle.records.specs.declared.venues.VenueRead.{VenueRead}
 use Rattle.records.specs.declared.pairs.Pair.{Pair}
-use Rattle.records.specs.declared.pairs.PairRead.{PairRead}
 use Rattle.records.specs.Heads.{announced, version_of}
 use Rattle.records.specs.Venues.{counts_at, ReadsVenue, GivesCells}
 use Rattle.records.specs.Pairs.{signed, ReadsPair}
-use Rattle.records.specs.declared.writing.Written.{Written}
 use Rattle.records.specs.Writing.{WritesVenue}
 use Rattle.claims.specs.Example.{example_counts, example_cells}
 
 -- 1. One answer and one final memory for each input; of the cells the bytes and where they lie; a refusal writes nothing.
 pub record OneAnswer : Type 0 where
-  pub venue : (s : List ℕ) (r t : VenueRead) → ReadsVenue s r → ReadsVenue s t → r ≡ t
+  pub venue : (s : List ℕ) (r t : Result Venue Refusal) → ReadsVenue s r → ReadsVenue s t → r ≡ t
   pub cells : (bytes a b : Bor (List ℕ)) → GivesCells bytes a → GivesCells bytes b → (a.now ≡ b.now) × (a.ref_ptr ≡ b.ref_ptr)
-  pub pair : (s : List ℕ) (r t : PairRead) → ReadsPair s r → ReadsPair s t → r ≡ t
-  pub written : (n : Counts) (cells entry : List ℕ) (r t : Written) (x y : List ℕ) → WritesVenue n cells entry r x → WritesVenue n cells entry t y →
+  pub pair : (s : List ℕ) (r t : Result Pair Refusal) → ReadsPair s r → ReadsPair s t → r ≡ t
+  pub written : (n : Counts) (cells entry : List ℕ) (r t : Result ℕ Refusal) (x y : List ℕ) → WritesVenue n cells entry r x → WritesVenue n cells entry t y →
       (r ≡ t) × (x ≡ y)
   pub untouched : (n : Counts) (cells entry : List ℕ) (r : Refusal) (x : List ℕ) → WritesVenue n cells entry (Err r) x → x ≡ entry
 
@@ -64,29 +60,29 @@ pub record ThePart (bytes part : Bor (List ℕ)) : Type 0 where
 
 -- 4. A venue written and read back is the same counts and the same cells, whatever bytes follow it; also as it stands in the lent memory, before
 -- the bytes that stayed.
-pub record SameVenue (n : Counts) (cells : List ℕ) (bytes part : Bor (List ℕ)) (r : VenueRead) : Type 0 where
+pub record SameVenue (n : Counts) (cells : List ℕ) (bytes part : Bor (List ℕ)) (r : Result Venue Refusal) : Type 0 where
   pub read : r ≡ Ok (record { counts = n; start = 11; long = length cells })
   pub same_cells : part.now ≡ cells
   pub there : StartsAt 11 bytes part
 
 pub record ReadBack (n : Counts) (cells entry : List ℕ) : Type 0 where
-  pub same : (exit : List ℕ) (k : ℕ) → WritesVenue n cells entry (Ok k) exit → (rest : List ℕ) (bytes part : Bor (List ℕ)) (r : VenueRead) →
+  pub same : (exit : List ℕ) (k : ℕ) → WritesVenue n cells entry (Ok k) exit → (rest : List ℕ) (bytes part : Bor (List ℕ)) (r : Result Venue Refusal) →
       bytes.now ≡ take k exit ++ rest → ReadsVenue bytes.now r → GivesCells bytes part → SameVenue n cells bytes part r
-  pub in_place : (exit : List ℕ) (k : ℕ) → WritesVenue n cells entry (Ok k) exit → (bytes part : Bor (List ℕ)) (r : VenueRead) →
+  pub in_place : (exit : List ℕ) (k : ℕ) → WritesVenue n cells entry (Ok k) exit → (bytes part : Bor (List ℕ)) (r : Result Venue Refusal) →
       bytes.now ≡ exit → ReadsVenue bytes.now r → GivesCells bytes part → SameVenue n cells bytes part r
 
 -- 5. What reading accepts, writing gives back: the record's own bytes, into room that is just enough.
 pub record WrittenBack (bytes part : Bor (List ℕ)) : Type 0 where
   pub same : AllBytes bytes.now → (v : Venue) → ReadsVenue bytes.now (Ok v) → GivesCells bytes part →
-      (entry : List ℕ) → length entry ≡ 4 + announced bytes.now → (w : Written) (exit : List ℕ) → WritesVenue v.counts part.now entry w exit →
+      (entry : List ℕ) → length entry ≡ 4 + announced bytes.now → (w : Result ℕ Refusal) (exit : List ℕ) → WritesVenue v.counts part.now entry w exit →
       (w ≡ Ok (4 + announced bytes.now)) × (exit ≡ take (4 + announced bytes.now) bytes.now)
 
 -- 6. Bytes after a record are not looked at: s is as long as its first four bytes say.
 pub record NotLookedAt (s rest : List ℕ) : Type 0 where
-  pub venue : length s ≡ 4 + announced s → (r t : VenueRead) → ReadsVenue s r → ReadsVenue (s ++ rest) t → r ≡ t
+  pub venue : length s ≡ 4 + announced s → (r t : Result Venue Refusal) → ReadsVenue s r → ReadsVenue (s ++ rest) t → r ≡ t
   pub cells : length s ≡ 4 + announced s → (short long a b : Bor (List ℕ)) → short.now ≡ s → long.now ≡ s ++ rest → GivesCells short a → GivesCells long b →
       (a.now ≡ b.now) × ((start : ℕ) × StartsAt start short a × StartsAt start long b)
-  pub pair : length s ≡ 4 + announced s → (r t : PairRead) → ReadsPair s r → ReadsPair (s ++ rest) t → r ≡ t
+  pub pair : length s ≡ 4 + announced s → (r t : Result Pair Refusal) → ReadsPair s r → ReadsPair (s ++ rest) t → r ≡ t
 
 -- SCOPE V1: four bytes make a number, the most significant first; of two bytes' numbers the upper half stands for those below 0.
 pub record NumbersRead : Type 0 where
@@ -143,6 +139,6 @@ pub record WrongRecords : Type 0 where
   pub two_as_one : (e : Pair) → ReadsPair (pair_by 2) (Ok e) → e.rule ≡ One → ⊥
   pub second_short : (e : Pair) → ReadsPair second_of_13 (Ok e) → ⊥
   pub first_long : (e : Pair) → ReadsPair first_of_14 (Ok e) → ⊥
-  pub not_twelve : (r : PairRead) → ReadsPair (pair_by 3) r → (r ≡ Err NoRule → ⊥) → ⊥
-  pub idle_writer : (r : Written) → WritesVenue example_counts example_cells example_room r example_room → ⊥
+  pub not_twelve : (r : Result Pair Refusal) → ReadsPair (pair_by 3) r → (r ≡ Err NoRule → ⊥) → ⊥
+  pub idle_writer : (r : Result ℕ Refusal) → WritesVenue example_counts example_cells example_room r example_room → ⊥
   pub short_writer : (exit : List ℕ) → WritesVenue example_counts example_cells (replicate 18 99) (Ok 19) exit → ⊥

@@ -1,9 +1,9 @@
 -- SCOPE, R and O: for each public call its tests in order, each in plain inequalities on the call's inputs and with the
 -- number and details that it gives; and the claim that every answer that meets the call's contract is given by them. Assumes nothing.
-use Rattle.std.specs.Prelude.{Result, Option}
+use Rattle.std.specs.Prelude.{Result, ℕ, ◌+◌, ◌*◌, ◌/◌, ◌<◌, ◌≡◌, true, false, List, [], ◌↔◌, ◌⊎◌, ℤ, pos, neg_ℤ, ◌<ℤ◌, ◌≤ℤ◌, length, get_or, Float}
 use Rattle.cells.specs.declared.Refusal.{Refusal}
-use Rattle.sight.specs.declared.Block.{Block}
-use Rattle.std.specs.Prelude.{ℕ, ◌+◌, ◌*◌, ◌/◌, ◌<◌, ◌≡◌, true, false, List, [], ◌↔◌, ◌⊎◌, ℤ, pos, neg_ℤ, ◌<ℤ◌, ◌≤ℤ◌, length, get_or, Float}
+use Rattle.records.specs.declared.venues.Venue.{Venue}
+use Rattle.records.specs.declared.pairs.Pair.{Pair}
 use Rattle.std.specs.Borrow.{Bor}
 use Rattle.std.specs.Float.{binary64}
 use Rattle.std.specs.Float.Ieee.{sub, div, lt}
@@ -43,11 +43,9 @@ use Rattle.survey.specs.declared.Placement.{Placement}
 use Rattle.survey.specs.declared.Point.{Point}
 use Rattle.survey.specs.Quotient.{as_f64}
 use Rattle.survey.specs.Survey.{LooksUp, told_lookup}
+use Rattle.sight.specs.declared.Sight.{Sight}
 use Rattle.sight.specs.Sight.{Sees, told_sight}
 use Rattle.buffers.specs.Numbers.{two_at, four_at}
-use Rattle.records.specs.declared.venues.VenueRead.{VenueRead}
-use Rattle.records.specs.declared.pairs.PairRead.{PairRead}
-use Rattle.records.specs.declared.writing.Written.{Written}
 use Rattle.records.specs.Venues.{ReadsVenue, GivesCells, told_venue}
 use Rattle.records.specs.Pairs.{ReadsPair, told_pair}
 use Rattle.records.specs.Writing.{WritesVenue, told_written}
@@ -251,15 +249,15 @@ pub record TalliesTold (n : Counts) (l m : List ℕ) : Type 0 where
 -- surveyed points
 pub record PointsTold (n : Counts) (at : Placement) : Type 0 where
   pub cell_of : (p : Point) (r : Result Cell Refusal) → LooksUp n at p r → ByTests (cell_tests n at p) (told_lookup r)
-  pub see : (how : Manner) (l : List ℕ) (camera ball : Point) (r : Result (Option Block) Refusal) → Sees how n l at camera ball r →
+  pub see : (how : Manner) (l : List ℕ) (camera ball : Point) (r : Sight) → Sees how n l at camera ball r →
       ByTests (sight_tests n (length l) at camera ball) (told_sight r)
 
 -- records; a venue's part is empty exactly where its partner refuses
 pub record RecordsTold : Type 0 where
-  pub read_venue : (s : List ℕ) (r : VenueRead) → ReadsVenue s r → ByTests (venue_tests s) (told_venue r)
+  pub read_venue : (s : List ℕ) (r : Result Venue Refusal) → ReadsVenue s r → ByTests (venue_tests s) (told_venue r)
   pub venue_cells : (bytes part : Bor (List ℕ)) → GivesCells bytes part → (part.now ≡ []) ↔ ((t : Told) × First (venue_tests bytes.now) t)
-  pub read_pair : (s : List ℕ) (r : PairRead) → ReadsPair s r → ByTests (pair_tests s) (told_pair r)
-  pub write_venue : (n : Counts) (cells entry exit : List ℕ) (r : Written) → WritesVenue n cells entry r exit →
+  pub read_pair : (s : List ℕ) (r : Result Pair Refusal) → ReadsPair s r → ByTests (pair_tests s) (told_pair r)
+  pub write_venue : (n : Counts) (cells entry exit : List ℕ) (r : Result ℕ Refusal) → WritesVenue n cells entry r exit →
       ByTests (write_tests n (length cells) (length entry)) (told_written r)
 
 -- the calls for C that name a rule by a number: 12 first, then the tests of the call that they make. Their struct flattens an answer that these give.
@@ -272,4 +270,4 @@ pub record RulesTold : Type 0 where
   pub walks : (w : Walker) (how : OatManner) (n : Counts) (l : List ℕ) (p q : Cell) (r : OatHit) → FlatFinds w how n l p q r →
       (a : Result FirstHit Refusal) × (r ≡ flat_hit a) × ByTests (rule_test how.rule else walk_tests n (length l) p q) (told_hit a)
   pub seen : (how : OatManner) (n : Counts) (l : List ℕ) (at : Placement) (camera ball : Point) (r : OatSight) → FlatSees how n l at camera ball r →
-      (a : Result (Option Block) Refusal) × (r ≡ flat_sight a) × ByTests (rule_test how.rule else sight_tests n (length l) at camera ball) (told_sight a)
+      (a : Sight) × (r ≡ flat_sight a) × ByTests (rule_test how.rule else sight_tests n (length l) at camera ball) (told_sight a)

@@ -1,8 +1,7 @@
 -- The two rules for ties: which axis goes first, by the ends; that rule 2's line back is the mirror; and what both rules share. Claims about the definitions
 -- and, by their contracts, about the list and first-hit calls, for every two ends and every grid. Assumes nothing.
-use Rattle.std.specs.Prelude.{Ok, Result}
+use Rattle.std.specs.Prelude.{Ok, Result, ℕ, ◌-◌, ◌*◌, ◌≤◌, ◌<◌, ◌≡◌, true, ◌⊎◌, ◌↔◌, List, [], ◌∷◌, reverse, ℤ, ◌<ℤ◌, length}
 use Rattle.cells.specs.declared.Refusal.{Refusal}
-use Rattle.std.specs.Prelude.{ℕ, ◌-◌, ◌*◌, ◌≤◌, ◌<◌, ◌≡◌, true, ◌⊎◌, ◌↔◌, List, [], ◌∷◌, reverse, ℤ, ◌<ℤ◌, length}
 use Rattle.cells.specs.declared.Axis.TheVariants.{X, Y, Z}
 use Rattle.cells.specs.declared.Cell.{Cell}
 use Rattle.cells.specs.declared.Counts.{Counts}

@@ -1,7 +1,6 @@
 -- What is claimed of calls that keep counts, one after another (SCOPE K6): from a build on, after any of them, masks and total are right. Assumes nothing.
-use Rattle.std.specs.Prelude.{Ok, Err, Result}
+use Rattle.std.specs.Prelude.{Ok, Err, Result, ℕ, ◌<◌, ◌≡◌, false, List, [], ◌∷◌, get_or}
 use Rattle.cells.specs.declared.Refusal.{Refusal}
-use Rattle.std.specs.Prelude.{ℕ, ◌<◌, ◌≡◌, false, List, [], ◌∷◌, get_or}
 use Rattle.std.specs.Int.Count.{ones}
 use Rattle.cells.specs.declared.Cell.{Cell}
 use Rattle.cells.specs.declared.Counts.{Counts}

@@ -1,8 +1,7 @@
 -- Which marks are enough for demand 3 (SCOPE D3, N5 to N7). The number k says which cells beside a solid one are to be marked: 1 those that share a face with
 -- it; 2 a face or an edge, the thin shell; 3 a face, an edge or a corner, the full one, which the calls mark and test. Assumes nothing.
-use Rattle.std.specs.Prelude.{Ok, Result, None}
+use Rattle.std.specs.Prelude.{Ok, Result, ℕ, ◌≤◌, ◌≡◌, true, false, List}
 use Rattle.cells.specs.declared.Refusal.{Refusal}
-use Rattle.std.specs.Prelude.{ℕ, ◌≤◌, ◌≡◌, true, false, List}
 use Rattle.cells.specs.declared.Axis.TheVariants.{Z}
 use Rattle.cells.specs.declared.Cell.{Cell}
 use Rattle.cells.specs.declared.Counts.{Counts}
@@ -18,6 +17,7 @@ use Rattle.walks.specs.declared.FirstHit.{FirstHit}
 use Rattle.walks.specs.Answers.{Finds}
 use Rattle.survey.specs.declared.Placement.{Placement}
 use Rattle.survey.specs.declared.Point.{Point}
+use Rattle.sight.specs.declared.Sight.TheVariants as Sight
 use Rattle.sight.specs.Sight.{Sees}
 use Rattle.claims.specs.Example.{counts, at, faces_there, faces_back, far_counts, faces_inside}
 use Rattle.claims.specs.Points.{one_metre, point}
@@ -103,6 +103,6 @@ pub record FacesAlone : Type 0 where
   pub marks_inside : ByFaces far_counts faces_inside
   pub plain_inside : (how : Manner) → Finds Plain how far_counts faces_inside (at 0 0 0) (at 3 2 2) (Ok (FirstHit.Hit inside_hit))
   pub adaptive_inside : (how : Manner) → Finds Adaptive how far_counts faces_inside (at 0 0 0) (at 3 2 2) (Ok (FirstHit.Clear 4))
-  pub seen_inside : (how : Manner) → Sees how far_counts faces_inside one_metre camera_inside ball_inside (Ok None)
+  pub seen_inside : (how : Manner) → Sees how far_counts faces_inside one_metre camera_inside ball_inside Sight.Clear
   pub in_the_way : (how : Manner) → NothingInTheWay 1 how far_counts faces_inside (at 0 0 0) (at 3 2 2) → ⊥
   pub in_sight : (how : Manner) → NothingInSight 1 how far_counts faces_inside one_metre camera_inside ball_inside → ⊥

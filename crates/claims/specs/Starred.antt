@@ -1,7 +1,6 @@
 -- SCOPE, E: the starred cases, as one table. Assumes nothing.
-use Rattle.std.specs.Prelude.{Ok, Err, Result}
+use Rattle.std.specs.Prelude.{Ok, Err, Result, ℕ, ◌-◌, ◌≡◌, Bool, true, false, List, [], ◌∷◌, ◌++◌, ◌⊎◌, ◌↔◌, pos, neg_ℤ, Float, length}
 use Rattle.cells.specs.declared.Refusal.{Refusal}
-use Rattle.std.specs.Prelude.{ℕ, ◌-◌, ◌≡◌, Bool, true, false, List, [], ◌∷◌, ◌++◌, ◌⊎◌, ◌↔◌, pos, neg_ℤ, Float, length}
 use Rattle.std.proofs.Common.{inl, inr}
 use Rattle.std.specs.Float.{binary64}
 use Rattle.std.specs.Float.Ieee.{div, of_bits}
@@ -41,8 +40,7 @@ use Rattle.sight.specs.Sight as sights
 use Rattle.sight.specs.Sight.{sight, told_sight, blocked}
 use Rattle.claims.specs.Points.{metres, next_above, one_metre, point}
 use Rattle.claims.specs.Tables.{EachRow}
-use Rattle.claims.specs.Example.{counts, at, example_counts, example_cells, marked_cells, set_cells, all_solid}
-use Rattle.claims.specs.Example.{corner_counts, corner_cells, corner_thin, corner_full, far_counts, far_thin}
+use Rattle.claims.specs.Example.{counts, at, example_counts, example_cells, marked_cells, set_cells, all_solid, corner_counts, corner_cells, corner_thin, corner_full, far_counts, far_thin}
 use Rattle.claims.specs.Rules.{low_post}
 use Rattle.claims.specs.Story.{long_bytes}
 use Rattle.claims.specs.Records.{example_venue, example_pair, minus_one_pair}

@@ -1,7 +1,6 @@
 -- The start of a walk: what it means that P is tested, or not. Claims about the two first-hit calls, by their contracts, for every grid and every two
 -- ends. Assumes nothing.
-use Rattle.std.specs.Prelude.{Ok, Err, Result}
-use Rattle.std.specs.Prelude.{ℕ, ◌<◌, ◌≡◌, false, ◌⊎◌, List, [], ◌∷◌}
+use Rattle.std.specs.Prelude.{Ok, Err, Result, ℕ, ◌<◌, ◌≡◌, false, ◌⊎◌, List, [], ◌∷◌}
 use Rattle.cells.specs.declared.Cell.{Cell}
 use Rattle.cells.specs.declared.Counts.{Counts}
 use Rattle.cells.specs.declared.Face.TheVariants as Face

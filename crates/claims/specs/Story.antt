@@ -1,8 +1,7 @@
 -- Demand 3: the plain and the adaptive walk tell one story. Claims about the two first-hit calls, by their contracts: for every grid, every two
 -- ends, either start mode, either rule, and all answers that meet the contracts on the same inputs. A hit is what the one test of a cell says
 -- (Starts). Assumes nothing.
-use Rattle.std.specs.Prelude.{Ok, Err, Result}
-use Rattle.std.specs.Prelude.{ℕ, suc, ◌+◌, ◌-◌, ◌*◌, ◌≤◌, ◌<◌, ◌≡◌, true, false, ◌⊎◌, ◌↔◌, List, [], ◌∷◌, length, get_or}
+use Rattle.std.specs.Prelude.{Ok, Err, Result, ℕ, suc, ◌+◌, ◌-◌, ◌*◌, ◌≤◌, ◌<◌, ◌≡◌, true, false, ◌⊎◌, ◌↔◌, List, [], ◌∷◌, length, get_or}
 use Rattle.cells.specs.declared.Axis.{Axis}
 use Rattle.cells.specs.declared.Axis.TheVariants.{X, Y}
 use Rattle.cells.specs.declared.Cell.{Cell}

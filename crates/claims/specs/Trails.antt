@@ -1,7 +1,6 @@
 -- The trail, the cells on which the adaptive walk stands, and the call that lists it. Claims for every grid, every two ends, either start and either rule, by
 -- the contracts of the call and of the adaptive first hit. How the walk goes from cell to cell: Story, 10 and 11. Assumes nothing.
-use Rattle.std.specs.Prelude.{Ok, Err, Result}
-use Rattle.std.specs.Prelude.{ℕ, ◌+◌, ◌-◌, ◌*◌, ◌≤◌, ◌<◌, ◌≡◌, List, [], ◌∷◌, ◌++◌, ℤ, pos, length, get_or}
+use Rattle.std.specs.Prelude.{Ok, Err, Result, ℕ, ◌+◌, ◌-◌, ◌*◌, ◌≤◌, ◌<◌, ◌≡◌, List, [], ◌∷◌, ◌++◌, ℤ, pos, length, get_or}
 use Rattle.cells.specs.declared.Cell.{Cell}
 use Rattle.cells.specs.declared.Counts.{Counts}
 use Rattle.cells.specs.declared.Manner.{Manner}

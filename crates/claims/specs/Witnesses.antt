@@ -1,7 +1,6 @@
 -- Nothing is claimed of nothing: each record that stands as a premise in the claims is met, on a named input. So a premise that nobody can meet is
 -- refused here. Assumes nothing.
-use Rattle.std.specs.Prelude.{Ok, Err, Some, None}
-use Rattle.std.specs.Prelude.{ℕ, ◌+◌, ◌≤◌, ◌≡◌, true, false, List, [], ◌∷◌, ◌++◌, pos, length}
+use Rattle.std.specs.Prelude.{Ok, Err, ℕ, ◌+◌, ◌≤◌, ◌≡◌, true, false, List, [], ◌∷◌, ◌++◌, pos, length}
 use Rattle.std.specs.Borrow.{Bor}
 use Rattle.bricks.specs.Bricks.{brick_there, bit_there}
 use Rattle.claims.specs.Grids.{Inside}
@@ -35,10 +34,8 @@ use Rattle.walks.specs.Answers.{Finds}
 use Rattle.touching.specs.Touching.{LineTouching, FindsTouching}
 use Rattle.trails.specs.Trails.{AdaptiveCells}
 use Rattle.survey.specs.Survey.{PlacedGrid, quotients, look_up, LooksUp}
+use Rattle.sight.specs.declared.Sight.TheVariants as Sight
 use Rattle.sight.specs.Sight.{share_of, Sees}
-use Rattle.records.specs.declared.venues.VenueRead.TheVariants as VenueRead
-use Rattle.records.specs.declared.pairs.PairRead.TheVariants as PairRead
-use Rattle.records.specs.declared.writing.Written.TheVariants as Written
 use Rattle.records.specs.Heads.{announced, version_of}
 use Rattle.records.specs.Venues.{counts_at, ReadsVenue, GivesCells}
 use Rattle.records.specs.Pairs.{ReadsPair}
@@ -197,14 +194,14 @@ pub record OfPoints : Type 0 where
   pub off_survey : look_up P (cube 4) one_metre (point (metres 5) (metres 0) (metres 0)) ≡ Err (OffSurvey P X)
   -- a clear sight over complete marks
   pub seen : Sees usual (counts 3 2 1) all_clear one_metre (point (halves 1) (halves 1) (halves 1))
-      (point (halves 5) (halves 3) (halves 1)) (Ok None)
+      (point (halves 5) (halves 3) (halves 1)) Sight.Clear
   -- one over marks of the thin shell alone
   pub seen_thin : Sees usual corner_counts corner_thin one_metre (point (halves 3) (halves 3) (halves 3))
-      (point (halves 5) (halves 1) (halves 3)) (Ok None)
+      (point (halves 5) (halves 1) (halves 3)) Sight.Clear
   -- a blocked one, in the program's venue, marked
   pub blocked : Sees tested_start example_counts marked_cells one_metre (point (halves 1) (halves 1) (halves 1))
       (point (halves 7) (halves 3) (halves 1))
-      (Ok (Some (record { share = share_of 1 2; cell = at 1 1 0; code = 2; reads = 3; face = Face.Plus Y })))
+      (Sight.Blocked (record { share = share_of 1 2; cell = at 1 1 0; code = 2; reads = 3; face = Face.Plus Y }))
 
 pub record OfRecords : Type 0 where
   pub bytes : AllBytes example_venue

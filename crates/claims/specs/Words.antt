@@ -1,9 +1,9 @@
 -- What is claimed of the words: what SCOPE says of a refusal, its number and details, tells which refusal it is; and what it says of an
 -- answer, a refusal or the values, tells which answer it is. Assumes nothing.
-use Rattle.std.specs.Prelude.{Result, Option}
-use Rattle.sight.specs.declared.Block.{Block}
+use Rattle.std.specs.Prelude.{Result, ℕ, ◌≡◌}
+use Rattle.records.specs.declared.venues.Venue.{Venue}
+use Rattle.records.specs.declared.pairs.Pair.{Pair}
 use Rattle.cells.specs.declared.Cell.{Cell}
-use Rattle.std.specs.Prelude.{ℕ, ◌≡◌}
 use Rattle.std.proofs.Math.Option.{none, some}
 use Rattle.cells.specs.declared.Axis.{Axis}
 use Rattle.cells.specs.declared.Axis.TheVariants.{X}
@@ -11,8 +11,7 @@ use Rattle.cells.specs.declared.End.{End}
 use Rattle.cells.specs.declared.End.TheVariants.{P}
 use Rattle.cells.specs.declared.Part.{Part}
 use Rattle.cells.specs.declared.Refusal.{Refusal}
-use Rattle.cells.specs.declared.Refusal.TheVariants.{Limit, Count, Bytes, Layer, OffGrid, Room, Placement, NotFinite, OffSurvey}
-use Rattle.cells.specs.declared.Refusal.TheVariants.{Record, Version, NoRule, Stale, Corners}
+use Rattle.cells.specs.declared.Refusal.TheVariants.{Limit, Count, Bytes, Layer, OffGrid, Room, Placement, NotFinite, OffSurvey, Record, Version, NoRule, Stale, Corners}
 use Rattle.cells.specs.Checks.{Verdict}
 use Rattle.cells.specs.Refusals.{told, NumberOf, told_verdict}
 use Rattle.lists.specs.Lists.{told_listed}
@@ -23,12 +22,10 @@ use Rattle.bricks.specs.Builds.{told_tally}
 use Rattle.walks.specs.declared.FirstHit.{FirstHit}
 use Rattle.walks.specs.Answers.{told_hit}
 use Rattle.survey.specs.Survey.{told_lookup}
+use Rattle.sight.specs.declared.Sight.{Sight}
 use Rattle.sight.specs.Sight.{told_sight}
-use Rattle.records.specs.declared.venues.VenueRead.{VenueRead}
-use Rattle.records.specs.declared.pairs.PairRead.{PairRead}
 use Rattle.records.specs.Venues.{told_venue}
 use Rattle.records.specs.Pairs.{told_pair}
-use Rattle.records.specs.declared.writing.Written.{Written}
 use Rattle.records.specs.Writing.{told_written}
 
 pub record ToldApart : Type 0 where
@@ -40,10 +37,10 @@ pub record ToldApart : Type 0 where
   pub tally : (r s : Result ℕ Refusal) → told_tally r ≡ told_tally s → r ≡ s
   pub hit : (r s : Result FirstHit Refusal) → told_hit r ≡ told_hit s → r ≡ s
   pub lookup : (r s : Result Cell Refusal) → told_lookup r ≡ told_lookup s → r ≡ s
-  pub sight : (r s : Result (Option Block) Refusal) → told_sight r ≡ told_sight s → r ≡ s
-  pub venue : (r s : VenueRead) → told_venue r ≡ told_venue s → r ≡ s
-  pub pair : (r s : PairRead) → told_pair r ≡ told_pair s → r ≡ s
-  pub written : (r s : Written) → told_written r ≡ told_written s → r ≡ s
+  pub sight : (r s : Sight) → told_sight r ≡ told_sight s → r ≡ s
+  pub venue : (r s : Result Venue Refusal) → told_venue r ≡ told_venue s → r ≡ s
+  pub pair : (r s : Result Pair Refusal) → told_pair r ≡ told_pair s → r ≡ s
+  pub written : (r s : Result ℕ Refusal) → told_written r ≡ told_written s → r ≡ s
 
 -- the call that gives a refusal's number: one answer for each
 pub record OneNumber (r : Refusal) : Type 0 where

@@ -2,7 +2,6 @@
 use Rattle.std.specs.Prelude.{Ok, Err, Result}
 use Rattle.cells.specs.declared.Refusal.{Refusal}
 use Rattle.std.specs.Prelude.{ℕ, ◌+◌, ◌*◌, ◌/◌, ◌%◌, ◌≡◌, Bool, not, ◌||◌, List, [], ◌⊎◌, ltb, eqb, ℤ, pos, nat_abs, length, get_or, take, drop}
-use Rattle.std.proofs.Common.{inl, inr}
 use Rattle.std.specs.Int.Signed.{lt_z, le_z}
 use Rattle.cells.specs.declared.Axis.TheVariants.{X, Y, Z}
 use Rattle.cells.specs.declared.Cell.{Cell}
@@ -12,7 +11,7 @@ use Rattle.cells.specs.Checks.{Verdict}
 use Rattle.cells.specs.Checks.{refuse_when, ◌then◌, by_verdict}
 use Rattle.std.specs.Borrow.{Bor}
 use Rattle.cells.specs.Parts.{StartsAt}
-use Rattle.cells.specs.Refusals.{Told, told}
+use Rattle.cells.specs.Refusals.{Told, told_of}
 use Rattle.grids.specs.declared.LayerPart.{LayerPart}
 
 -- SCOPE G1, R2: a count that no grid has
@@ -91,8 +90,7 @@ layer_part n bytes z = by_verdict Err (Ok (part_at (layer_start n z) (layer_leng
 
 -- each case of the answer: what is said of a refusal, or the part's offset and length
 abbrev pub told_part : Result LayerPart Refusal → Told ⊎ (ℕ × ℕ)
-told_part (Err r) = inl (told r)
-told_part (Ok p) = inr (p.start, p.long)
+told_part = told_of (λ p. (p.start, p.long))
 
 -- the layer itself: the caller's own nx·ny bytes from z·nx·ny on, or the empty part
 abbrev pub bytes_of : Result LayerPart Refusal → List ℕ → List ℕ

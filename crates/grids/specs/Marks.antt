@@ -3,12 +3,11 @@
 use Rattle.std.specs.Prelude.{Ok, Err, Result}
 use Rattle.cells.specs.declared.Refusal.{Refusal}
 use Rattle.std.specs.Prelude.{ℕ, zero, suc, Bool, false, cond, not, ◌&&◌, ◌||◌, ◌≡◌, List, ◌⊎◌, length, get_or}
-use Rattle.std.proofs.Common.{inl, inr}
 use Rattle.cells.specs.declared.Cell.{Cell}
 use Rattle.cells.specs.declared.Counts.{Counts}
 use Rattle.cells.specs.Checks.{Verdict}
 use Rattle.cells.specs.Checks.{by_verdict}
-use Rattle.cells.specs.Refusals.{Told, told}
+use Rattle.cells.specs.Refusals.{Told, told_of}
 use Rattle.cells.specs.Tabulate.{tabulate}
 use Rattle.cells.specs.Touching.{touching}
 use Rattle.grids.specs.Grid.{shape, cell_at, clear, solid}
@@ -44,8 +43,7 @@ completeness n l = by_verdict Err (Ok (complete 3 n l)) (shape n (length l))
 
 -- each case of the answer: what is said of a refusal, or whether the marks are complete
 abbrev pub told_completeness : Result Bool Refusal → Told ⊎ Bool
-told_completeness (Err r) = inl (told r)
-told_completeness (Ok b) = inr b
+told_completeness = told_of (λ b. b)
 
 -- ---- the contracts of the calls: of marking, one answer and one final memory; refused, the bytes as they were
 

@@ -47,6 +47,14 @@ module _ (f : ℕ → Cell) (last : ℕ) (out₀ : List ℤ) (room : 3 * (last +
         next_at = omega (arith, h.next_at);
       }
 
+  -- a turn of a loop that counts cells alone
+  pub filled_next :
+      (out out' : List ℤ) (c : Cell) (m : ℕ) → Filling f last out₀ out m (3 * m) → m < last → out' ≡ put3 out (3 * m) c → c ≡ f m →
+      Filling f last out₀ out' (m + 1) (3 * (m + 1))
+  filled_next out out' c m h lt e is =
+      let n = filled_one out out' c m (3 * m) h lt e is in
+      record { most = n.most; stored = n.stored; long = n.long; next_at = refl }
+
   -- the last cell
   pub filled_last :
       (out out' : List ℤ) (q : Cell) (m at : ℕ) → Filling f last out₀ out m at → last ≤ m → f last ≡ q → out' ≡ put3 out at q →
@@ -55,6 +63,14 @@ module _ (f : ℕ → Cell) (last : ℕ) (out₀ : List ℤ) (room : 3 * (last +
       let n : m ≡ last = omega (arith, h.most) in
       e ∙ ap₂ (λ l k. put3 l k q) h.stored h.next_at ∙ ap (put3 (front f m out₀) (3 * m)) (sym end ∙ ap f (sym n)) ∙ put_next f out₀ m (omega arith)
       ∙ ap (λ k. front f (k + 1) out₀) n ∙ front_filled f (last + 1) out₀
+
+  -- after a loop that counts cells alone
+  pub filled_end :
+      (out out' : List ℤ) (q : Cell) (m : ℕ) → Filling f last out₀ out m (3 * m) → last ≤ m → f last ≡ q → out' ≡ put3 out (3 * last) q →
+      out' ≡ filled (tabulate f (last + 1)) out₀
+  filled_end out out' q m h ge end e =
+      let n : last ≡ m = omega (arith, h.most) in
+      filled_last out out' q m (3 * m) h ge end (e ∙ ap (λ k. put3 out (3 * k) q) n)
 
 -- ---- the 6-line
 

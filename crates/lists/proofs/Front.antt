@@ -17,10 +17,9 @@ use Rattle.cells.specs.declared.Axis.{Axis}
 use Rattle.cells.specs.declared.Axis.TheVariants.{X, Y, Z}
 use Rattle.cells.specs.declared.End.{End}
 use Rattle.cells.specs.declared.End.TheVariants.{P, Q}
-use Rattle.cells.specs.Checks.{refuse_when}
+use Rattle.cells.specs.Checks.{refuse_when, Verdict}
 use Rattle.cells.specs.Touching.{on}
 use Rattle.cells.proofs.Checks.{fine_first, fine_rest, passed}
-use Rattle.cells.specs.Checks.{Verdict}
 use Rattle.lines.specs.Lines.{in_limit, InLimit}
 use Rattle.cells.specs.Tabulate.{tabulate}
 use Rattle.cells.proofs.Tabulate.{tabulate_length}

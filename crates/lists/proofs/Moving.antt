@@ -6,13 +6,11 @@ use Prim.Native.Nat.{ℕ, ◌+◌, ◌*◌, ◌≤◌, ◌<◌}
 use native.Mathlib.Omega.{arith}
 use lib.IntN.{ℤ, pos, ◌+ℤ◌, ◌-ℤ◌}
 use lib.Signed.{le_z}
-use mir.Syntax.{w32}
-use mir.Val.{SFits, to_z}
 use Rattle.cells.specs.declared.Cell.{Cell}
 use Rattle.cells.specs.Touching.{on, apart}
 use Rattle.cells.specs.Small.{Small}
 use Rattle.cells.proofs.Signed.{same_number, one_sided, sum_is, diff_is, le_z_true, le_z_false}
-use Rattle.cells.proofs.Machine.{held, held_is, parts_small, nat_held, nat_small, small_diff}
+use Rattle.cells.proofs.Machine.{parts_small, nat_small}
 use Rattle.lines.specs.Steps.{Axis, X, Y, Z, Steps}
 use Rattle.lines.specs.Preference.{y_z_x}
 use Rattle.lines.specs.Towards.{towards}
@@ -22,7 +20,7 @@ use Rattle.lines.proofs.Centres.{longest_most, moved_start, moved_within, moves_
 use Rattle.lines.proofs.Towards.{towards_start}
 use Rattle.lists.specs.declared.twenty_six.Pace.{Pace}
 use Rattle.lists.specs.declared.twenty_six.Coordinate.{Coordinate}
-use Rattle.lists.specs.declared.twenty_six.Coordinates.{Coordinates}
+use Rattle.cells.specs.declared.Each.{Each}
 use Rattle.lists.specs.Kept.{unit, pace, first_of, next_of, CanMove, paces, firsts, nexts, CanMoves, cell_at}
 use Rattle.lists.proofs.Line.{towards_next, towards_small, unit_small}
 
@@ -136,7 +134,7 @@ module _ (p q : ℤ) (M : ℕ) (fits : apart p q ≤ M) where
 -- ---- the three
 
 -- the coordinates of cell m of the 26-line from p to q
-pub record Paced (p q : Cell) (m : ℕ) (c : Coordinates) : Type 0 where
+pub record Paced (p q : Cell) (m : ℕ) (c : Each Coordinate) : Type 0 where
   pub x : OnPace p.x q.x (longest (differences p q)) m c.x
   pub y : OnPace p.y q.y (longest (differences p q)) m c.y
   pub z : OnPace p.z q.z (longest (differences p q)) m c.z
@@ -146,7 +144,7 @@ module _ (p q : Cell) where
   E = differences p q
 
   -- they are its cell
-  pub paced_cell : (m : ℕ) (c : Coordinates) → Paced p q m c → cell_at c ≡ cell_26 p q m
+  pub paced_cell : (m : ℕ) (c : Each Coordinate) → Paced p q m c → cell_at c ≡ cell_26 p q m
   paced_cell m c h = (λ i. record { x = h.x.at i; y = h.y.at i; z = h.z.at i }) ∙ sym (is_26 y_z_x p q m)
 
   pub paced_first : Paced p q 0 (firsts p E)
@@ -155,7 +153,7 @@ module _ (p q : Cell) where
       start : (a : Axis) → OnPace (on p a) (on q a) (longest E) 0 (first_of (on p a) (E a) (longest E))
       start a = first_on (on p a) (on q a) (longest E) (longest_most E a)
 
-  module _ (m : ℕ) (c : Coordinates) (lt : m < longest E) (h : Paced p q m c) where
+  module _ (m : ℕ) (c : Each Coordinate) (lt : m < longest E) (h : Paced p q m c) where
     pub paced_next : Paced p q (m + 1) (nexts (paces p q E) c)
     paced_next = record { x = turn X c.x h.x; y = turn Y c.y h.y; z = turn Z c.z h.z }
       where
@@ -170,17 +168,3 @@ module _ (p q : Cell) where
         moves a c o =
             let l = limited_difference p q hp hq in
             can_move (on p a) (on q a) (longest E) (longest_most E a) m c (hp.limit a) (omega (arith, l X, l Y, l Z)) lt o
-
--- ---- as the machine holds them
-
--- a short number doubled
-pub doubled_held : (n : ℕ) → n ≤ 16383 → to_z w32 (2 * n) ≡ pos (2 * n)
-doubled_held n h = nat_held (2 * n) (omega arith)
-
--- and less another
-module _ (n k : ℕ) (hn : n ≤ 16383) (hk : k ≤ 32766) where
-  pub less_fits : SFits w32 (to_z w32 (2 * n) -ℤ to_z w32 k)
-  less_fits = rw (doubled_held n hn, nat_held k (omega arith)) (small_diff (pos (2 * n)) (pos k) (nat_small (2 * n) (omega arith)) (nat_small k (omega arith)))
-
-  pub less_held : held (to_z w32 (2 * n) -ℤ to_z w32 k) ≡ pos (2 * n) -ℤ pos k
-  less_held = held_is (to_z w32 (2 * n) -ℤ to_z w32 k) less_fits ∙ ap₂ ◌-ℤ◌ (doubled_held n hn) (nat_held k (omega arith))

@@ -9,29 +9,27 @@ use Rattle.lines.specs.Lines.{differences, longest, cell_of, InLimit}
 use Rattle.lines.specs.Decisions.{values, doubled, moved_values, lowered}
 use Rattle.tripod.specs.declared.Diffs.{Diffs}
 use Rattle.tripod.specs.Tripod.{steps, Short, SmallTripod, SmallDoubled}
-use Rattle.lists.specs.declared.six.Heading.{Heading}
+use Rattle.cells.specs.declared.Each.{Each}
 use Rattle.lists.specs.declared.six.SixWay.{SixWay}
 use Rattle.lists.specs.declared.six.SixSpot.{SixSpot}
 use Rattle.lists.specs.declared.twenty_six.Pace.{Pace}
 use Rattle.lists.specs.declared.twenty_six.Coordinate.{Coordinate}
-use Rattle.lists.specs.declared.twenty_six.Paces.{Paces}
-use Rattle.lists.specs.declared.twenty_six.Coordinates.{Coordinates}
 
 -- one cell from p towards q
 abbrev pub unit : ℤ → ℤ → ℤ
 unit p q = cond (le_z p q) (pos 1) (negsuc 0)
 
-abbrev pub heading : Cell → Cell → Heading
+abbrev pub heading : Cell → Cell → Each ℤ
 heading p q = record { x = unit p.x q.x; y = unit p.y q.y; z = unit p.z q.z }
 
 -- the neighbouring cell along an axis
-abbrev pub stepped_cell : Heading → Axis → Cell → Cell
+abbrev pub stepped_cell : Each ℤ → Axis → Cell → Cell
 stepped_cell h X c = record { x = c.x +ℤ h.x; y = c.y; z = c.z }
 stepped_cell h Y c = record { x = c.x; y = c.y +ℤ h.y; z = c.z }
 stepped_cell h Z c = record { x = c.x; y = c.y; z = c.z +ℤ h.z }
 
 -- coordinates and a heading that may be added
-pub record CanStep (c : Cell) (h : Heading) : Type 0 where
+pub record CanStep (c : Cell) (h : Each ℤ) : Type 0 where
   pub x : Small c.x
   pub y : Small c.y
   pub z : Small c.z
@@ -87,21 +85,21 @@ pub record CanMove (c : Coordinate) (k : Pace) : Type 0 where
   pub go : Small k.go
 
 -- the three, D being the differences
-abbrev pub paces : Cell → Cell → Steps → Paces
+abbrev pub paces : Cell → Cell → Steps → Each Pace
 paces p q D = record { x = pace p.x q.x (D X) (longest D); y = pace p.y q.y (D Y) (longest D); z = pace p.z q.z (D Z) (longest D) }
 
-abbrev pub firsts : Cell → Steps → Coordinates
+abbrev pub firsts : Cell → Steps → Each Coordinate
 firsts p D = record { x = first_of p.x (D X) (longest D); y = first_of p.y (D Y) (longest D); z = first_of p.z (D Z) (longest D) }
 
-abbrev pub nexts : Paces → Coordinates → Coordinates
+abbrev pub nexts : Each Pace → Each Coordinate → Each Coordinate
 nexts k c = record { x = next_of k.x c.x; y = next_of k.y c.y; z = next_of k.z c.z }
 
-pub record CanMoves (c : Coordinates) (k : Paces) : Type 0 where
+pub record CanMoves (c : Each Coordinate) (k : Each Pace) : Type 0 where
   pub x : CanMove c.x k.x
   pub y : CanMove c.y k.y
   pub z : CanMove c.z k.z
 
-abbrev pub cell_at : Coordinates → Cell
+abbrev pub cell_at : Each Coordinate → Cell
 cell_at c = record { x = c.x.at; y = c.y.at; z = c.z.at }
 
 -- three numbers stored from a place on

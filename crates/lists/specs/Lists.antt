@@ -1,18 +1,15 @@
 -- SCOPE A2, A3, O3: lists of cells, what they write into the lent slice and what they answer. Refusals: of a line list 1 (P before Q; x, y, z), of every list
 -- then 6. Assumes nothing.
-use Rattle.std.specs.Prelude.{Ok, Err, Result}
+use Rattle.std.specs.Prelude.{Ok, Err, Result, ℕ, ◌*◌, ◌≡◌, not, List, [], ◌∷◌, ◌++◌, ◌⊎◌, ltb, ℤ, length, drop}
 use Rattle.cells.specs.declared.Refusal.{Refusal}
-use Rattle.std.specs.Prelude.{ℕ, ◌*◌, ◌≡◌, not, List, [], ◌∷◌, ◌++◌, ◌⊎◌, ltb, ℤ, length, drop}
-use Rattle.std.proofs.Common.{inl, inr}
 use Rattle.cells.specs.declared.Axis.TheVariants.{X, Y, Z}
 use Rattle.cells.specs.declared.End.{End}
 use Rattle.cells.specs.declared.End.TheVariants.{P, Q}
 use Rattle.cells.specs.declared.Cell.{Cell}
 use Rattle.cells.specs.declared.Refusal.TheVariants.{Limit, Room}
 use Rattle.cells.specs.declared.Rule.{Rule}
-use Rattle.cells.specs.Checks.{Verdict}
-use Rattle.cells.specs.Checks.{refuse_when, ◌then◌, by_verdict}
-use Rattle.cells.specs.Refusals.{Told, told}
+use Rattle.cells.specs.Checks.{Verdict, refuse_when, ◌then◌, by_verdict}
+use Rattle.cells.specs.Refusals.{Told, told_of}
 use Rattle.lines.specs.Preference.{by_rule}
 use Rattle.lines.specs.Lines.{six_line, line_26, in_limit}
 
@@ -54,5 +51,4 @@ Line26 p q = Lists (line_26 p q) (ends_check p q)
 
 -- each case of the answer: what is said of a refusal, or the number of cells
 abbrev pub told_listed : Result ℕ Refusal → Told ⊎ ℕ
-told_listed (Err r) = inl (told r)
-told_listed (Ok n) = inr n
+told_listed = told_of (λ n. n)

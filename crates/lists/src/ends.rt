@@ -4,7 +4,7 @@ ghost use Rattle.lines.specs.Lines.{in_limit};
 ghost use Rattle.lists.specs.Lists.{end_check, ends_check};
 ghost use Rattle.lists.specs.Kept.{unit};
 
-use cells::{Axis, Cell, End, Refusal, Verdict};
+use cells::{Axis, Cell, End, Refusal};
 
 // Whether a coordinate lies within the limit.
 fn in_limit(v: i32) -> bool
@@ -14,29 +14,27 @@ fn in_limit(v: i32) -> bool
 }
 
 // An end within the coordinate limit, or refusal 1 with the first axis that is not.
-fn check_end(e: End, c: Cell) -> Verdict
+fn check_end(e: End, c: Cell) -> Result<(), Refusal>
     ensures { result ≡ end_check e c }
 {
     if !in_limit(c.x) {
-        return Verdict::Refused(Refusal::Limit(e, Axis::X));
+        return Err(Refusal::Limit(e, Axis::X));
     }
     if !in_limit(c.y) {
-        return Verdict::Refused(Refusal::Limit(e, Axis::Y));
+        return Err(Refusal::Limit(e, Axis::Y));
     }
     if !in_limit(c.z) {
-        return Verdict::Refused(Refusal::Limit(e, Axis::Z));
+        return Err(Refusal::Limit(e, Axis::Z));
     }
-    Verdict::Fine
+    Ok(())
 }
 
 // Both ends, P before Q.
-pub fn check_ends(p: Cell, q: Cell) -> Verdict
+pub fn check_ends(p: Cell, q: Cell) -> Result<(), Refusal>
     ensures { result ≡ ends_check p q }
 {
-    match check_end(End::P, p) {
-        Verdict::Refused(r) => Verdict::Refused(r),
-        Verdict::Fine => check_end(End::Q, q),
-    }
+    check_end(End::P, p)?;
+    check_end(End::Q, q)
 }
 
 // One cell from p towards q.

@@ -8,23 +8,15 @@ ghost use Rattle.lists.specs.Lists.{filled, Line6};
 ghost use Rattle.lists.specs.Kept.{stepped_cell, crossed_six, CanStep, CanCrossSix, SixWayOf, SixSpotAt, Measured};
 
 use crate::ends::{check_ends, unit_to};
-use crate::{Listed, put};
-use cells::{Axis, Cell, Refusal, Rule, Verdict};
+use crate::put;
+use cells::{Axis, Cell, Each, Refusal, Rule};
 use lines::{Doubled, Tripod};
 use tripod::Diffs;
 
-// One cell towards Q, on each axis.
-#[derive(Clone, Copy)]
-pub struct Heading {
-    pub x: i32,
-    pub y: i32,
-    pub z: i32,
-}
-
-// What stays the same along a line.
+// What stays the same along a line: one cell towards Q, on each axis, and twice the differences.
 #[derive(Clone, Copy)]
 pub struct SixWay {
-    pub towards: Heading,
+    pub towards: Each<i32>,
     pub twice: Doubled,
 }
 
@@ -43,11 +35,9 @@ pub fn six_way_of(p: Cell, q: Cell, d: Diffs) -> SixWay
     let x = unit_to(p.x, q.x);
     let y = unit_to(p.y, q.y);
     let z = unit_to(p.z, q.z);
-    let towards = Heading { x: x, y: y, z: z };
-    let twice = tripod::twice(d);
     SixWay {
-        towards: towards,
-        twice: twice,
+        towards: Each { x, y, z },
+        twice: tripod::twice(d),
     }
 }
 
@@ -57,33 +47,18 @@ pub fn first_spot(p: Cell, q: Cell, d: Diffs, rule: Rule) -> SixSpot
     ensures { SixSpotAt (order_of rule p q) p q (at 0 0 0) result }
 {
     let e = tripod::lowered(tripod::first_values(d), tripod::order_of(rule, p, q));
-    SixSpot { at: p, e: e }
+    SixSpot { at: p, e }
 }
 
 // The neighbouring cell along n.
-fn next_cell(c: Cell, h: Heading, n: Axis) -> Cell
+fn next_cell(c: Cell, h: Each<i32>, n: Axis) -> Cell
     requires { CanStep c h }
     ensures { result ≡ stepped_cell h n c }
 {
-    let x = c.x;
-    let y = c.y;
-    let z = c.z;
     match n {
-        Axis::X => Cell {
-            x: x + h.x,
-            y: y,
-            z: z,
-        },
-        Axis::Y => Cell {
-            x: x,
-            y: y + h.y,
-            z: z,
-        },
-        Axis::Z => Cell {
-            x: x,
-            y: y,
-            z: z + h.z,
-        },
+        Axis::X => Cell { x: c.x + h.x, ..c },
+        Axis::Y => Cell { y: c.y + h.y, ..c },
+        Axis::Z => Cell { z: c.z + h.z, ..c },
     }
 }
 
@@ -92,13 +67,10 @@ pub fn crossed(s: SixSpot, w: SixWay, n: Axis) -> SixSpot
     requires { CanCrossSix s w }
     ensures { result ≡ crossed_six w n s }
 {
-    let at = s.at;
-    let e = s.e;
-    let towards = w.towards;
-    let twice = w.twice;
-    let next = next_cell(at, towards, n);
-    let moved = tripod::moved(e, twice, n);
-    SixSpot { at: next, e: moved }
+    SixSpot {
+        at: next_cell(s.at, w.towards, n),
+        e: tripod::moved(s.e, w.twice, n),
+    }
 }
 
 // The cells of the 6-line, at the front of the slice.
@@ -109,32 +81,23 @@ fn fill6(out: &mut [i32], p: Cell, q: Cell, d: Diffs, rule: Rule)
     let w = six_way_of(p, q, d);
     let mut s = first_spot(p, q, d, rule);
     let crossings = d.total();
-    let mut m: u32 = 0;
-    let mut at: usize = 0;
-    while m < crossings {
-        put(out, at, s.at);
+    for m in 0..crossings {
+        put(out, 3 * (m as usize), s.at);
         s = crossed(s, w, tripod::next_face(s.e));
-        at += 3;
-        m += 1;
     }
-    put(out, at, q);
+    put(out, 3 * (crossings as usize), q);
 }
 
 // The 6-line from p to q, ties by a rule.
-pub fn line6(p: Cell, q: Cell, rule: Rule, out: &mut [i32]) -> Listed
+pub fn line6(p: Cell, q: Cell, rule: Rule, out: &mut [i32]) -> Result<u32, Refusal>
     ensures { Line6 rule p q out.old result out.new }
 {
-    match check_ends(p, q) {
-        Verdict::Refused(r) => Listed::Refused(r),
-        Verdict::Fine => {
-            let d = tripod::measured(p, q);
-            let cells = d.total() + 1;
-            if out.len() < 3 * (cells as usize) {
-                Listed::Refused(Refusal::Room)
-            } else {
-                fill6(out, p, q, d, rule);
-                Listed::Cells(cells)
-            }
-        }
+    check_ends(p, q)?;
+    let d = tripod::measured(p, q);
+    let cells = d.total() + 1;
+    if out.len() < 3 * (cells as usize) {
+        return Err(Refusal::Room);
     }
+    fill6(out, p, q, d, rule);
+    Ok(cells)
 }

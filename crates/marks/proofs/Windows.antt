@@ -1,6 +1,6 @@
 -- A row's window tells which of the row's cells touch a solid one. Assumes nothing.
-use Prim.Native.Nat.{ℕ, zero, suc, ◌+◌, ◌*◌, ◌/◌, ◌%◌, ◌≤◌, ◌<◌, max}
-use native.Mathlib.Nat.{le_refl, mul-le-mul_left, ne_of_lt, ne_of_gt, mod-lt, div-lt_iff_lt-mul, mul_comm}
+use Prim.Native.Nat.{ℕ, zero, suc, ◌+◌, ◌*◌, ◌/◌, ◌%◌, ◌≤◌, ◌<◌}
+use native.Mathlib.Nat.{le_refl, mul-le-mul_left, mod-lt, div-lt_iff_lt-mul, mul_comm}
 use native.Mathlib.Numerals.{add-one}
 use native.Mathlib.Omega.{arith}
 use native.Mathlib.Decide.{dec_lt}
@@ -8,14 +8,12 @@ use mathlib.Core.Path.{◌≡◌, refl, sym, ap, ◌∙◌}
 use mathlib.Core.Bool.{Bool, true, false, ◌&&◌, true≢false, ◌||◌}
 use mathlib.Core.Logic.{⊎_elim}
 use mathlib.Core.List.{List}
-use lib.ListN.{length, get_or, set, replicate, length-set, length-replicate}
-use lib.Seq.{get_or-set_same, get_or-set_other}
-use borrow.Author.Tests.{ltb-true, ltb-false, lt-ltb}
+use lib.ListN.{length, get_or, replicate, length-replicate}
 use Rattle.cells.specs.declared.Counts.{Counts}
 use Rattle.grids.specs.Grid.{index, clear, solid}
 use Rattle.marks.specs.declared.Three.{Three}
 use Rattle.marks.specs.Rows.{of_three, lowest, highest, nearby, starts, Within, in_rows, in_column, Shows, Framed, beside, gap_by}
-use Rattle.grids.proofs.Any.{same_test, or_true, or_either, any_zero, any_more}
+use Rattle.grids.proofs.Any.{or_true, or_either, any_zero, any_more}
 use Rattle.grids.specs.Inside.{Shaped}
 use Rattle.grids.proofs.Beside.{Next, SolidBeside}
 
@@ -72,55 +70,6 @@ within_as fewer more le ge h =
     record { low_fits = omega arith; mid_fits = omega arith; high_fits = omega arith }
 
 -- ---- what a window shows
-
--- the larger of two bytes is solid where one of them is
-pub solid_max : (a b : ℕ) → solid (max a b) ≡ solid a || solid b
-solid_max a b = same_test _ _ (λ h. one (solid a) (solid b) (ltb-false 1 a) (ltb-false 1 b) (ltb-true 1 (max a b) h)) both
-  where
-    one : (s t : Bool) → (s ≡ false → a ≤ 1) → (t ≡ false → b ≤ 1) → 1 < max a b → s || t ≡ true
-    one true t p q h = refl
-    one false true p q h = refl
-    one false false p q h = let ha = p refl in let hb = q refl in absurd (omega arith)
-
-    left : 1 < a → 1 < max a b
-    left h = omega arith
-
-    right : 1 < b → 1 < max a b
-    right h = omega arith
-
-    both : solid a || solid b ≡ true → solid (max a b) ≡ true
-    both h =
-        lt-ltb 1 (max a b)
-        (⊎_elim (λ g. left (ltb-true 1 a g)) (λ g. right (ltb-true 1 b g)) (or_either (solid a) (solid b) h))
-
-pub shows_none : (p : ℕ → Bool) (w : List ℕ) → Shows p 0 w w
-shows_none p w = record { long = refl; over = λ x h. absurd (omega arith); before = refl; after = λ k h. refl }
-
--- shown for the numbers below x, and one store for x
-pub shows_more : (p : ℕ → Bool) (x v : ℕ) (a m : List ℕ) → x + 1 < length m → solid v ≡ p x → Shows p x a m → Shows p (x + 1) a (set m (x + 1) v)
-shows_more p x v a m h is done =
-    record {
-      long = length-set m (x + 1) v ∙ done.long;
-      over = over;
-      before = others 0 (ne_of_lt first) ∙ done.before;
-      after = λ k gt. others k (ne_of_gt gt) ∙ done.after k (omega arith);
-    }
-  where
-    first : 0 < x + 1
-    first = omega arith
-
-    others : (k : ℕ) → (k ≡ x + 1 → ⊥) → get_or (set m (x + 1) v) k 0 ≡ get_or m k 0
-    others k ne = get_or-set_other m (x + 1) k v 0 ne
-
-    low_ne : (i : ℕ) → i < x → i + 1 < x + 1
-    low_ne i lt = omega arith
-
-    over : (i : ℕ) → i < x + 1 → solid (get_or (set m (x + 1) v) (i + 1) 0) ≡ p i
-    over i lt =
-        elim (dec_lt i x) [
-          | yes low ↦ ap solid (others (i + 1) (ne_of_lt (low_ne i low))) ∙ done.over i low
-          | no ge ↦ let e : i ≡ x = omega arith in rw e (ap solid (get_or-set_same m (x + 1) v 0 h) ∙ is)
-        ]
 
 -- p, then q too
 pub shows_then : {p : ℕ → Bool} (q : ℕ → Bool) {nx : ℕ} {a b c : List ℕ} → Shows p nx a b → Shows (λ x. solid (get_or b (x + 1) 0) || q x) nx b c →

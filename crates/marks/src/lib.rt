@@ -2,14 +2,13 @@
 // of the row is beside a solid one where the window has a byte of 2 or more at x or next to it.
 #![tactic(auto)]
 
-ghost use Rattle.std.specs.Prelude.{◌+◌, ◌*◌, ◌^◌, ◌≤◌, ◌<◌, max, ◌≡◌, ◌&&◌, ◌||◌, length, get_or};
+ghost use Rattle.std.specs.Prelude.{◌+◌, ◌*◌, ◌^◌, ◌≤◌, ◌<◌, ◌≡◌, ◌&&◌, ◌||◌, Ok, length, get_or};
 ghost use Rattle.grids.specs.Grid.{shape, clear, solid};
 ghost use Rattle.grids.specs.Marks.{any, marked_byte, marked, Marks, Completes};
 ghost use Rattle.cells.specs.Fills.{Filled};
-ghost use Rattle.marks.specs.Rows.{lowest, highest, starts, in_rows, Within, in_column, Shows, Framed, beside, mark_for, put_byte, gap_by, gap};
+ghost use Rattle.marks.specs.Rows.{starts, in_rows, Within, in_column, Shows, Framed, beside, mark_for, put_byte, gap_by, gap};
 
-use cells::{Counts, Verdict};
-use grids::Completeness;
+use cells::{Counts, Refusal};
 
 // Where three rows of a layer start, or three layers of a grid.
 #[derive(Clone, Copy)]
@@ -19,46 +18,27 @@ struct Three {
     high: usize,
 }
 
-fn larger(a: u8, b: u8) -> u8
-    ensures { result ≡ max a b }
-{
-    if a < b { b } else { a }
-}
-
-fn lowest(y: usize) -> usize
-    ensures { result ≡ lowest y }
-{
-    if y == 0 { 0 } else { y - 1 }
-}
-
-fn highest(y: usize, n: usize) -> usize
-    requires { y < n }
-    ensures { result ≡ highest y n }
-{
-    if y + 1 < n { y + 1 } else { y }
-}
-
 // Where the rows beside row y of n start, per apart, row 0 at from. At an edge row y is taken twice: the largest byte stays the same.
 fn starts(from: usize, per: usize, y: usize, n: usize) -> Three
     requires { (y < n) × (from + per * n < 2 ^ 64) }
     ensures { result ≡ starts from per y n }
 {
     Three {
-        low: from + per * lowest(y),
+        low: from + per * y.saturating_sub(1),
         mid: from + per * y,
-        high: from + per * highest(y, n),
+        high: from + per * (y + 1).min(n - 1),
     }
 }
 
 // The largest byte at x of three rows.
+#[tactic(auto, unfolding(crate::specs::Rows::in_rows))]
 fn largest_in(cells: &[u8], rows: Three, x: usize) -> u8
     requires { Within rows (x + 1) (length cells.now) }
     ensures { solid result ≡ in_rows cells.now rows x }
 {
-    larger(
-        larger(cells[rows.low + x], cells[rows.mid + x]),
-        cells[rows.high + x],
-    )
+    cells[rows.low + x]
+        .max(cells[rows.mid + x])
+        .max(cells[rows.high + x])
 }
 
 // Puts three rows into the window, in place of what was there.
@@ -67,31 +47,25 @@ fn set_rows(window: &mut [u8], cells: &[u8], nx: usize, rows: Three)
     requires within { Within rows nx (length cells.now) }
     ensures { Shows (in_rows cells.now rows) nx window.old window.new }
 {
-    let mut at = 0;
-    while at < nx {
-        let v = largest_in(cells, rows, at);
-        window[at + 1] = v;
-        at += 1;
+    for at in 0..nx {
+        window[at + 1] = largest_in(cells, rows, at);
     }
 }
 
-// Takes three more rows into the window.
+// Takes three more rows into the window. Beside `set_rows`: one function over a closure is no plainer, and a window of zeros first is a pass more.
 fn raise_rows(window: &mut [u8], cells: &[u8], nx: usize, rows: Three)
     requires room { nx < length window.old }
     requires within { Within rows nx (length cells.now) }
     ensures { Shows (λ x. solid (get_or window.old (x + 1) 0) || in_rows cells.now rows x) nx window.old window.new }
 {
-    let mut x = 0;
-    while x < nx {
-        let v = larger(window[x + 1], largest_in(cells, rows, x));
-        window[x + 1] = v;
-        x += 1;
+    for x in 0..nx {
+        window[x + 1] = window[x + 1].max(largest_in(cells, rows, x));
     }
 }
 
 // Puts the up to nine rows beside row r into the window.
 fn look(n: Counts, cells: &[u8], r: usize, window: &mut [u8])
-    requires shaped { shape n (length cells.now) ≡ Verdict.Fine }
+    requires shaped { shape n (length cells.now) ≡ Ok tt }
     requires row_inside { (r < n.ny * n.nz) × (n.nx < length window.old) }
     ensures { Shows (in_column n cells.now r) n.nx window.old window.new }
 {
@@ -112,7 +86,7 @@ fn largest(window: &[u8], x: usize) -> u8
     requires { x + 2 < length window.now }
     ensures { solid result ≡ beside window.now x }
 {
-    larger(larger(window[x], window[x + 1]), window[x + 2])
+    window[x].max(window[x + 1]).max(window[x + 2])
 }
 
 // The byte that belongs where b stands, m being the largest byte beside.
@@ -130,17 +104,14 @@ fn put(window: &[u8], cells: &mut [u8], nx: usize, from: usize)
     requires { (nx + 1 < length window.now) × (from + nx ≤ length cells.old) }
     ensures { Filled (put_byte window.now cells.old from) from (from + nx) cells.old cells.new }
 {
-    let mut x = 0;
-    while x < nx {
-        let v = byte_for(cells[from + x], largest(window, x));
-        cells[from + x] = v;
-        x += 1;
+    for x in 0..nx {
+        cells[from + x] = byte_for(cells[from + x], largest(window, x));
     }
 }
 
 // Marks row r.
 fn mark_row(n: Counts, cells: &mut [u8], r: usize, window: &mut [u8])
-    requires shaped { shape n (length cells.old) ≡ Verdict.Fine }
+    requires shaped { shape n (length cells.old) ≡ Ok tt }
     requires row_inside { (r < n.ny * n.nz) × Framed n.nx window.old }
     ensures filled { Filled (marked_byte 3 n cells.old) (n.nx * r) (n.nx * r + n.nx) cells.old cells.new }
     ensures framed { Framed n.nx window.new }
@@ -152,14 +123,12 @@ fn mark_row(n: Counts, cells: &mut [u8], r: usize, window: &mut [u8])
 
 // Marks every row. Marking changes no cell's solidity, so each row is as if it were the first.
 fn mark_rows(n: Counts, cells: &mut [u8], window: &mut [u8])
-    requires { (shape n (length cells.old) ≡ Verdict.Fine) × Framed n.nx window.old }
+    requires { (shape n (length cells.old) ≡ Ok tt) × Framed n.nx window.old }
     ensures { cells.new ≡ marked 3 n cells.old }
 {
     let rows = (n.ny as usize) * (n.nz as usize);
-    let mut r = 0;
-    while r < rows {
+    for r in 0..rows {
         mark_row(n, cells, r, window);
-        r += 1;
     }
 }
 
@@ -170,23 +139,23 @@ fn missed(b: u8, m: u8) -> u8
     if b == 0 { m } else { 0 }
 }
 
-// Whether a clear cell of the row that starts at from is beside a solid one, by its window.
+// Whether a clear cell of the row that starts at from is beside a solid one, by its window. By the largest byte, and not by `any`: a loop with no way
+// out goes over many cells at once.
+#[tactic(auto, using(crate::proofs::Windows::no_gap_yet, crate::proofs::Windows::one_cell_more))]
 fn gap_by(window: &[u8], cells: &[u8], nx: usize, from: usize) -> bool
     requires { (nx + 1 < length window.now) × (from + nx ≤ length cells.now) }
     ensures { result ≡ gap_by window.now cells.now from nx }
 {
     let mut most = 0u8;
-    let mut x = 0;
-    while x < nx {
-        most = larger(most, missed(cells[from + x], largest(window, x)));
-        x += 1;
+    for x in 0..nx {
+        most = most.max(missed(cells[from + x], largest(window, x)));
     }
     2 <= most
 }
 
 // Whether a clear cell of row r touches a solid one.
 fn gap_in_row(n: Counts, cells: &[u8], r: usize, window: &mut [u8]) -> bool
-    requires shaped { shape n (length cells.now) ≡ Verdict.Fine }
+    requires shaped { shape n (length cells.now) ≡ Ok tt }
     requires row_inside { (r < n.ny * n.nz) × Framed n.nx window.old }
     ensures value { result ≡ any (λ x. gap n cells.now (n.nx * r + x)) n.nx }
     ensures framed { Framed n.nx window.new }
@@ -196,48 +165,36 @@ fn gap_in_row(n: Counts, cells: &[u8], r: usize, window: &mut [u8]) -> bool
     gap_by(window, cells, nx, nx * r)
 }
 
-// Whether a clear cell touches a solid one.
+// Whether a clear cell touches a solid one. A loop, and not `any`: of a closure that changes the window a proof learns nothing.
 fn has_gap(n: Counts, cells: &[u8], window: &mut [u8]) -> bool
-    requires { (shape n (length cells.now) ≡ Verdict.Fine) × Framed n.nx window.old }
+    requires { (shape n (length cells.now) ≡ Ok tt) × Framed n.nx window.old }
     ensures { result ≡ any (gap n cells.now) (length cells.now) }
 {
     let rows = (n.ny as usize) * (n.nz as usize);
-    let mut r = 0;
-    while r < rows {
+    for r in 0..rows {
         if gap_in_row(n, cells, r, window) {
             return true;
         }
-        r += 1;
     }
     false
 }
 
 // Marks the cells beside solid ones near and the others clear, in place.
-pub fn mark(n: Counts, cells: &mut [u8]) -> Verdict
+pub fn mark(n: Counts, cells: &mut [u8]) -> Result<(), Refusal>
     ensures { Marks n cells.old result cells.new }
 {
-    let v = grids::shape(n, cells.len());
-    let Verdict::Fine = v else {
-        return v;
-    };
+    grids::shape(n, cells.len())?;
     let mut window = [0u8; 1026];
     mark_rows(n, cells, &mut window);
-    v
+    Ok(())
 }
 
 // Whether the marks are complete: no clear cell touches a solid one.
-pub fn complete(n: Counts, cells: &[u8]) -> Completeness
+#[tactic(auto, unfolding(grids::specs::Marks::completeness))]
+pub fn complete(n: Counts, cells: &[u8]) -> Result<bool, Refusal>
     ensures { Completes n cells.now result }
 {
-    match grids::shape(n, cells.len()) {
-        Verdict::Fine => {
-            let mut window = [0u8; 1026];
-            if has_gap(n, cells, &mut window) {
-                Completeness::No
-            } else {
-                Completeness::Yes
-            }
-        }
-        Verdict::Refused(r) => Completeness::Refused(r),
-    }
+    grids::shape(n, cells.len())?;
+    let mut window = [0u8; 1026];
+    Ok(!has_gap(n, cells, &mut window))
 }

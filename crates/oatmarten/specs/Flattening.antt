@@ -1,6 +1,5 @@
 -- The contract of every call for C, over the call that it makes. Assumes nothing.
-use Rattle.std.specs.Prelude.{Ok, Err}
-use Rattle.std.specs.Prelude.{◌≡◌}
+use Rattle.std.specs.Prelude.{Ok, Err, ◌≡◌}
 use Rattle.cells.specs.declared.Refusal.{Refusal}
 use Rattle.cells.specs.Checks.{Verdict}
 

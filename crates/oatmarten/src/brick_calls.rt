@@ -2,14 +2,13 @@
 ghost use Rattle.structs.specs.Inputs.{as_cell, as_counts};
 ghost use Rattle.oatmarten.specs.BrickCalls.{FlatBuilds, FlatSets, FlatRefills};
 
-use structs::{OatCell, OatCounts, OatTally, cell, counts, flat_tally};
+use structs::{OatCell, OatCounts, OatTally};
 
 // The masks of all bricks, and the total.
 pub fn oat_build(n: OatCounts, cells: &[u8], masks: &mut [u64]) -> OatTally
     ensures { FlatBuilds (as_counts n) cells.now masks.old result masks.new }
 {
-    let grid = counts(n);
-    flat_tally(bricks::build(grid, cells, masks))
+    bricks::build(n.into(), cells, masks).into()
 }
 
 // One cell gets one byte.
@@ -23,9 +22,7 @@ pub fn oat_set(
 ) -> OatTally
     ensures { FlatSets (as_counts n) (as_cell at) byte cells.old masks.old total result cells.new masks.new }
 {
-    let grid = counts(n);
-    let one = cell(at);
-    flat_tally(refills::set(grid, cells, masks, total, one, byte))
+    refills::set(n.into(), cells, masks, total, at.into(), byte).into()
 }
 
 // Each cell of a box, both corners included, gets one byte.
@@ -41,8 +38,5 @@ pub fn oat_refill(
     ensures { FlatRefills (as_counts n) (as_cell low) (as_cell high) byte cells.old masks.old total result
         cells.new masks.new }
 {
-    let grid = counts(n);
-    let from = cell(low);
-    let to = cell(high);
-    flat_tally(refills::refill(grid, cells, masks, total, from, to, byte))
+    refills::refill(n.into(), cells, masks, total, low.into(), high.into(), byte).into()
 }

@@ -3,30 +3,25 @@ ghost use Rattle.std.specs.Prelude.{length};
 ghost use Rattle.structs.specs.Inputs.{as_counts};
 ghost use Rattle.oatmarten.specs.GridCalls.{FlatMarks, FlatCompletes, FlatGivesLayerPart};
 
-use structs::{
-    OatComplete, OatCounts, OatPart, OatVerdict, counts, flat_complete, flat_part, flat_verdict,
-};
+use structs::{OatComplete, OatCounts, OatPart, OatVerdict};
 
 // Marks the near cells of a grid, in place.
 pub fn oat_mark(n: OatCounts, cells: &mut [u8]) -> OatVerdict
     ensures { FlatMarks (as_counts n) cells.old result cells.new }
 {
-    let grid = counts(n);
-    flat_verdict(marks::mark(grid, cells))
+    marks::mark(n.into(), cells).into()
 }
 
 // Whether no clear cell touches a solid one.
 pub fn oat_complete(n: OatCounts, cells: &[u8]) -> OatComplete
     ensures { FlatCompletes (as_counts n) cells.now result }
 {
-    let grid = counts(n);
-    flat_complete(marks::complete(grid, cells))
+    marks::complete(n.into(), cells).into()
 }
 
 // Where layer z lies in the caller's bytes.
 pub fn oat_layer(n: OatCounts, cells: &[u8], z: i32) -> OatPart
     ensures { FlatGivesLayerPart (as_counts n) (length cells.now) z result }
 {
-    let grid = counts(n);
-    flat_part(grids::layer_part(grid, cells, z))
+    grids::layer_part(n.into(), cells, z).into()
 }

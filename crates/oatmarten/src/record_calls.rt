@@ -2,28 +2,25 @@
 ghost use Rattle.structs.specs.Inputs.{as_counts};
 ghost use Rattle.oatmarten.specs.RecordCalls.{FlatReadsVenue, FlatReadsPair, FlatWritesVenue};
 
-use structs::{
-    OatCounts, OatPair, OatVenue, OatWritten, counts, flat_pair, flat_venue, flat_written,
-};
+use structs::{OatCounts, OatPair, OatVenue, OatWritten};
 
 // Reads a venue's record.
 pub fn oat_read_venue(bytes: &[u8]) -> OatVenue
     ensures { FlatReadsVenue bytes.now result }
 {
-    flat_venue(records::read_venue(bytes))
+    records::read_venue(bytes).into()
 }
 
 // Reads a pair's record.
 pub fn oat_read_pair(bytes: &[u8]) -> OatPair
     ensures { FlatReadsPair bytes.now result }
 {
-    flat_pair(records::read_pair(bytes))
+    records::read_pair(bytes).into()
 }
 
 // Writes a venue's record at the front of the lent bytes.
 pub fn oat_write_venue(n: OatCounts, cells: &[u8], out: &mut [u8]) -> OatWritten
     ensures { FlatWritesVenue (as_counts n) cells.now out.old result out.new }
 {
-    let grid = counts(n);
-    flat_written(records::write_venue(grid, cells, out))
+    records::write_venue(n.into(), cells, out).into()
 }

@@ -1,5 +1,5 @@
 -- Bytes after a record are not looked at. Assumes nothing.
-use Rattle.std.specs.Prelude.{Ok, Err}
+use Rattle.std.specs.Prelude.{Result, Ok, Err}
 use mathlib.Core.Path.{◌≡◌, refl, ap, ap₂, ◌∙◌}
 use mathlib.Core.Bool.{Bool, true, false, cond, not}
 use mathlib.Core.List.{List, ◌++◌}
@@ -10,13 +10,12 @@ use lib.ListN.{length, get_or, take, drop, length-append, length-drop, get_or-ap
 use lib.Seq.{take-append-le, drop-append-le}
 use borrow.Author.Tests.{le-ltb, ltb-false, eqb-true, not-false}
 use Rattle.buffers.specs.Numbers.{two_at}
+use Rattle.cells.specs.declared.Refusal.{Refusal}
 use Rattle.cells.specs.declared.Refusal.TheVariants.{Record, Version}
-use Rattle.cells.specs.Checks.{Verdict}
-use Rattle.cells.specs.Checks.{refuse_when, by_verdict}
+use Rattle.cells.specs.Checks.{Verdict, refuse_when, by_verdict}
 use Rattle.cells.specs.Manners.{rule_check}
 use Rattle.cells.proofs.Checks.{passed, then_same}
-use Rattle.records.specs.declared.venues.VenueRead.{VenueRead}
-use Rattle.records.specs.declared.pairs.PairRead.TheVariants as PairRead
+use Rattle.records.specs.declared.venues.Venue.{Venue}
 use Rattle.records.specs.Heads.{length_field, announced, version_of, whole_check}
 use Rattle.records.specs.Venues.{venue_version, venue_head, counts_from, counts_at, venue_in, venue_check, venue_read, part_of, venue_cells}
 use Rattle.records.specs.Pairs.{pair_version, pair_length, ends_from, cell_in, rule_byte, pair_in, pair_check, pair_read}
@@ -132,7 +131,7 @@ module _ (s rest : List ℕ) (exact : length s ≡ length_field + announced s) w
   unfolding venue_cells
   cells_unread = rw venue_unread (go (venue_read s) refl)
     where
-      go : (r : VenueRead) → venue_read s ≡ r → part_of r (s ++ rest) ≡ part_of r s
+      go : (r : Result Venue Refusal) → venue_read s ≡ r → part_of r (s ++ rest) ≡ part_of r s
       go (Err r) e = refl
       go (Ok v) e =
           let w = part_within s v e in

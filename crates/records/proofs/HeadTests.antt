@@ -1,6 +1,6 @@
 -- How long the heads of the records are, and what an accepted record says of its bytes. Assumes nothing.
 use Rattle.std.specs.Prelude.{Ok, Err}
-use mathlib.Core.Path.{◌≡◌, refl, sym, ◌∙◌, subst}
+use mathlib.Core.Path.{◌≡◌, sym, ◌∙◌, subst}
 use mathlib.Core.Bool.{Bool, true, false, cond, not}
 use mathlib.Core.List.{List}
 use Prim.Native.Nat.{ℕ, ◌+◌, ◌≤◌}
@@ -10,15 +10,12 @@ use lib.Dec.{ltb, eqb, lit<}
 use lib.ListN.{length}
 use borrow.Author.Tests.{le-ltb, ltb-false, eqb-true, eqb-false, not-false}
 use Rattle.cells.specs.declared.Refusal.TheVariants.{Record, Version}
-use Rattle.cells.specs.Checks.{Verdict}
-use Rattle.cells.specs.Checks.{refuse_when, ◌then◌}
+use Rattle.cells.specs.Checks.{Verdict, refuse_when, ◌then◌}
 use Rattle.cells.specs.Manners.{rule_check}
 use Rattle.grids.specs.Grid.{shape}
-use Rattle.cells.proofs.Checks.{fine_first, fine_rest, each_fine, passed, then_same, then_four, by_fine}
+use Rattle.cells.proofs.Checks.{fine_first, fine_rest, each_fine, passed, then_four, by_fine}
 use Rattle.records.specs.declared.venues.Venue.{Venue}
-use Rattle.records.specs.declared.venues.VenueRead.TheVariants as VenueRead
 use Rattle.records.specs.declared.pairs.Pair.{Pair}
-use Rattle.records.specs.declared.pairs.PairRead.TheVariants as PairRead
 use Rattle.records.specs.Heads.{length_field, announced, version_of, whole_check}
 use Rattle.records.specs.Venues.{venue_version, venue_head, venue_in, venue_check, venue_read}
 use Rattle.records.specs.Pairs.{pair_version, pair_length, rule_byte, pair_in, pair_check, pair_read}
@@ -72,25 +69,12 @@ length_read s = cond (ltb (length s) length_field) 0 (announced s)
 pub read_whole : (s : List ℕ) → whole_check s ≡ Ok tt → length_read s ≡ announced s
 read_whole s e = let w = whole_is s e in rw (le-ltb (length s) length_field (omega arith))
 
--- by it, two tests say what the three say
-pub whole_read : (s : List ℕ) → whole_check s ≡
-    (refuse_when (eqb (length_read s) 0) Record then refuse_when (ltb (length s) (length_field + length_read s)) Record)
-unfolding whole_check
-whole_read s = go (ltb (length s) length_field)
-  where
-    go : (short : Bool)
-        → (refuse_when short Record then refuse_when (eqb (announced s) 0) Record then refuse_when (ltb (length s) (length_field + announced s)) Record)
-        ≡ (refuse_when (eqb (cond short 0 (announced s)) 0) Record then refuse_when (ltb (length s) (length_field + cond short 0 (announced s))) Record)
-    go true = refl
-    go false = refl
+-- what follows from a record that is not cut short, for either kind
+pub ruleset opened = (read_whole, whole_is, pair_least)
 
 -- the tests that both kinds begin with
 abbrev pub head_tests : List ℕ → Bool → Bool → Verdict
 head_tests s known misfit = whole_check s then refuse_when (not known) Version then refuse_when misfit Record
-
--- whether the length fits counts only in a record that is whole
-pub same_tests : (s : List ℕ) {a b c d : Bool} → a ≡ b → (whole_check s ≡ Ok tt → c ≡ d) → head_tests s a c ≡ head_tests s b d
-same_tests s e h = then_same (whole_check s) (λ fine. rw (e, h fine))
 
 pub record Fits (s : List ℕ) (known misfit : Bool) : Type 0 where
   pub there : length_field + announced s ≤ length s

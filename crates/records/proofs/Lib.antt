@@ -1,5 +1,4 @@
 pub mod HeadTests
-pub mod Complement
 pub mod Following
 pub mod WriteTests
 pub mod RoundTrip

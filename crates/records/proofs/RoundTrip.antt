@@ -1,5 +1,5 @@
 -- A venue written is read back, and what reading accepts is what writing gives. Assumes nothing.
-use Rattle.std.specs.Prelude.{Ok, Err}
+use Rattle.std.specs.Prelude.{Result, Ok, Err}
 use mathlib.Core.Path.{◌≡◌, refl, sym, ap, ap₂, ◌∙◌, subst}
 use mathlib.Core.Bool.{true}
 use mathlib.Core.List.{List, [], ◌∷◌, ◌++◌, append_assoc, append-nil}
@@ -11,17 +11,16 @@ use lib.Seq.{drop-cons, take-add, take_at, drop_at}
 use borrow.Author.Tests.{ne_eqb, le-ltb, eqb-true}
 use Rattle.buffers.specs.Numbers.{four, AllBytes}
 use Rattle.buffers.proofs.Numbers.{two_read, four_read, joined, two_back, four_back}
+use Rattle.cells.specs.declared.Refusal.{Refusal}
 use Rattle.cells.specs.declared.Counts.{Counts}
 use Rattle.cells.specs.Checks.{by_verdict}
 use Rattle.cells.proofs.Checks.{by_fine}
 use Rattle.grids.specs.Grid.{size, shape}
 use Rattle.grids.proofs.Shapes.{shaped}
 use Rattle.records.specs.declared.venues.Venue.{Venue}
-use Rattle.records.specs.declared.venues.VenueRead.TheVariants as VenueRead
 use Rattle.records.specs.Heads.{length_field, announced, version_of, whole_check}
 use Rattle.records.specs.Venues.{venue_version, venue_head, cells_from, counts_from, counts_at, venue_in, venue_check, venue_read, venue_cells}
 use Rattle.records.proofs.HeadTests.{VenueWhole, venue_accepted, part_within, head_least}
-use Rattle.records.specs.declared.writing.Written.{Written}
 use Rattle.records.specs.Writing.{written_version, count_bytes, head_bytes, record_length, write_check, after_writing, WritesVenue}
 use Rattle.records.proofs.WriteTests.{head_length, writable}
 
@@ -178,7 +177,7 @@ record_fits s v e =
     record { fine = ap (shape v.counts) long ∙ fine; total = omega arith }
 
 -- written into room that is just enough, it is the same bytes
-pub same_bytes : (s : List ℕ) (v : Venue) (entry exit : List ℕ) (w : Written) → AllBytes s → venue_read s ≡ Ok v →
+pub same_bytes : (s : List ℕ) (v : Venue) (entry exit : List ℕ) (w : Result ℕ Refusal) → AllBytes s → venue_read s ≡ Ok v →
     length entry ≡ length_field + announced s
     → WritesVenue v.counts (venue_cells s) entry w exit → (w ≡ Ok (length_field + announced s)) × (exit ≡ take (length_field + announced s) s)
 unfolding write_check

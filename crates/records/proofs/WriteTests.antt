@@ -14,7 +14,6 @@ use Rattle.grids.specs.Grid.{size, shape}
 use Rattle.cells.specs.Checks.{by_verdict}
 use Rattle.cells.proofs.Checks.{fine_first, fine_rest, passed}
 use Rattle.grids.proofs.Shapes.{shaped}
-use Rattle.records.specs.declared.writing.Written.TheVariants as Written
 use Rattle.records.specs.Venues.{venue_head, cells_from}
 use Rattle.records.specs.Writing.{written_version, head_bytes, record_length, write_check, after_writing, WritesVenue}
 

@@ -3,8 +3,7 @@
 use Rattle.std.specs.Prelude.{ℕ, ◌+◌, List, ltb, eqb, length, get_or}
 use Rattle.buffers.specs.Numbers.{four_at}
 use Rattle.cells.specs.declared.Refusal.TheVariants.{Record}
-use Rattle.cells.specs.Checks.{Verdict}
-use Rattle.cells.specs.Checks.{refuse_when, ◌then◌}
+use Rattle.cells.specs.Checks.{Verdict, refuse_when, ◌then◌}
 
 -- SCOPE V2, V3: how many bytes the length itself has
 abbrev pub length_field : ℕ

@@ -1,17 +1,14 @@
 -- SCOPE, V and T: reading a pair. Assumes nothing.
-use Rattle.std.specs.Prelude.{Ok, Err}
-use Rattle.std.specs.Prelude.{ℕ, ◌+◌, ◌≡◌, Bool, cond, not, ◌||◌, List, ◌⊎◌, ltb, eqb, ℤ, pos, ◌-ℤ◌, get_or}
-use Rattle.std.proofs.Common.{inl, inr}
+use Rattle.std.specs.Prelude.{Result, Ok, Err, ℕ, ◌+◌, ◌≡◌, Bool, cond, not, ◌||◌, List, ◌⊎◌, ltb, eqb, ℤ, pos, ◌-ℤ◌, get_or}
 use Rattle.buffers.specs.Numbers.{two_at}
+use Rattle.cells.specs.declared.Refusal.{Refusal}
 use Rattle.cells.specs.declared.Cell.{Cell}
 use Rattle.cells.specs.declared.Refusal.TheVariants.{Record, Version}
 use Rattle.cells.specs.declared.Rule.{Rule}
-use Rattle.cells.specs.Checks.{Verdict}
-use Rattle.cells.specs.Checks.{refuse_when, ◌then◌, by_verdict}
+use Rattle.cells.specs.Checks.{Verdict, refuse_when, ◌then◌, by_verdict}
 use Rattle.cells.specs.Manners.{rule_of, rule_check}
-use Rattle.cells.specs.Refusals.{Told, told}
+use Rattle.cells.specs.Refusals.{Told, told_of}
 use Rattle.records.specs.declared.pairs.Pair.{Pair}
-use Rattle.records.specs.declared.pairs.PairRead.{PairRead}
 use Rattle.records.specs.Heads.{length_field, announced, version_of, whole_check}
 
 -- SCOPE V5: the versions of a pair's record
@@ -51,14 +48,13 @@ pair_check s =
     rule_check (rule_byte s)
 
 -- SCOPE V8: the answer, both ends and the rule, or a refusal
-unfoldable pub pair_read : List ℕ → PairRead
+unfoldable pub pair_read : List ℕ → Result Pair Refusal
 pair_read s = by_verdict Err (Ok (pair_in s)) (pair_check s)
 
 -- the contract of the call
-pub record ReadsPair (s : List ℕ) (r : PairRead) : Type 0 where
+pub record ReadsPair (s : List ℕ) (r : Result Pair Refusal) : Type 0 where
   pub says : r ≡ pair_read s
 
 -- each case of the answer: what is said of a refusal, or P, Q and the rule
-abbrev pub told_pair : PairRead → Told ⊎ (Cell × Cell × Rule)
-told_pair (Err r) = inl (told r)
-told_pair (Ok e) = inr (e.p, e.q, e.rule)
+abbrev pub told_pair : Result Pair Refusal → Told ⊎ (Cell × Cell × Rule)
+told_pair = told_of (λ e. (e.p, e.q, e.rule))

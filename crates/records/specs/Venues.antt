@@ -1,18 +1,15 @@
 -- SCOPE, V and T: reading a venue. Assumes nothing.
-use Rattle.std.specs.Prelude.{Ok, Err}
-use Rattle.std.specs.Prelude.{ℕ, ◌+◌, ◌-◌, ◌≡◌, Bool, not, List, [], ◌⊎◌, ltb, eqb, take, drop}
-use Rattle.std.proofs.Common.{inl, inr}
+use Rattle.std.specs.Prelude.{Result, Ok, Err, ℕ, ◌+◌, ◌-◌, ◌≡◌, Bool, not, List, [], ◌⊎◌, ltb, eqb, take, drop}
 use Rattle.std.specs.Borrow.{Bor}
 use Rattle.buffers.specs.Numbers.{two_at}
+use Rattle.cells.specs.declared.Refusal.{Refusal}
 use Rattle.cells.specs.declared.Counts.{Counts}
 use Rattle.cells.specs.declared.Refusal.TheVariants.{Record, Version}
-use Rattle.cells.specs.Checks.{Verdict}
-use Rattle.cells.specs.Checks.{refuse_when, ◌then◌, by_verdict}
+use Rattle.cells.specs.Checks.{Verdict, refuse_when, ◌then◌, by_verdict}
 use Rattle.cells.specs.Parts.{StartsAt}
-use Rattle.cells.specs.Refusals.{Told, told}
+use Rattle.cells.specs.Refusals.{Told, told_of}
 use Rattle.grids.specs.Grid.{shape}
 use Rattle.records.specs.declared.venues.Venue.{Venue}
-use Rattle.records.specs.declared.venues.VenueRead.{VenueRead}
 use Rattle.records.specs.Heads.{length_field, announced, version_of, whole_check}
 
 -- the versions of a venue's record
@@ -53,11 +50,11 @@ venue_check s =
     shape (venue_in s).counts (venue_in s).long
 
 -- SCOPE V8: the answer, the counts and where the cells stand, or a refusal
-unfoldable pub venue_read : List ℕ → VenueRead
+unfoldable pub venue_read : List ℕ → Result Venue Refusal
 venue_read s = by_verdict Err (Ok (venue_in s)) (venue_check s)
 
 -- the part itself, empty where the venue is refused
-abbrev pub part_of : VenueRead → List ℕ → List ℕ
+abbrev pub part_of : Result Venue Refusal → List ℕ → List ℕ
 part_of (Ok v) s = take v.long (drop v.start s)
 part_of (Err r) s = []
 
@@ -66,12 +63,12 @@ unfoldable pub venue_cells : List ℕ → List ℕ
 venue_cells s = part_of (venue_read s) s
 
 -- where it starts among the bytes; the empty part stands at their start
-abbrev pub start_of : VenueRead → ℕ
+abbrev pub start_of : Result Venue Refusal → ℕ
 start_of (Ok v) = v.start
 start_of (Err r) = 0
 
 -- the contracts of the two calls: the answer; the cells, and where they lie
-pub record ReadsVenue (s : List ℕ) (r : VenueRead) : Type 0 where
+pub record ReadsVenue (s : List ℕ) (r : Result Venue Refusal) : Type 0 where
   pub says : r ≡ venue_read s
 
 pub record GivesCells (bytes r : Bor (List ℕ)) : Type 0 where
@@ -79,6 +76,5 @@ pub record GivesCells (bytes r : Bor (List ℕ)) : Type 0 where
   pub there : StartsAt (start_of (venue_read bytes.now)) bytes r
 
 -- each case of the answer: what is said of a refusal, or the counts and the part's offset and length
-abbrev pub told_venue : VenueRead → Told ⊎ (Counts × ℕ × ℕ)
-told_venue (Err r) = inl (told r)
-told_venue (Ok v) = inr (v.counts, v.start, v.long)
+abbrev pub told_venue : Result Venue Refusal → Told ⊎ (Counts × ℕ × ℕ)
+told_venue = told_of (λ v. (v.counts, v.start, v.long))

@@ -1,15 +1,12 @@
 -- SCOPE, V and T: writing a venue. Assumes nothing.
-use Rattle.std.specs.Prelude.{Ok, Err}
-use Rattle.std.specs.Prelude.{ℕ, ◌+◌, ◌≡◌, List, [], ◌∷◌, ◌++◌, ◌⊎◌, ltb, length, drop}
-use Rattle.std.proofs.Common.{inl, inr}
+use Rattle.std.specs.Prelude.{Result, Ok, Err, ℕ, ◌+◌, ◌≡◌, List, [], ◌∷◌, ◌++◌, ◌⊎◌, ltb, length, drop}
 use Rattle.buffers.specs.Numbers.{two, four}
+use Rattle.cells.specs.declared.Refusal.{Refusal}
 use Rattle.cells.specs.declared.Counts.{Counts}
 use Rattle.cells.specs.declared.Refusal.TheVariants.{Room}
-use Rattle.cells.specs.Checks.{Verdict}
-use Rattle.cells.specs.Checks.{refuse_when, ◌then◌, by_verdict}
-use Rattle.cells.specs.Refusals.{Told, told}
+use Rattle.cells.specs.Checks.{Verdict, refuse_when, ◌then◌, by_verdict}
+use Rattle.cells.specs.Refusals.{Told, told_of}
 use Rattle.grids.specs.Grid.{size, shape}
-use Rattle.records.specs.declared.writing.Written.{Written}
 use Rattle.records.specs.Venues.{venue_head, cells_from}
 
 -- the version that is written
@@ -37,11 +34,10 @@ abbrev pub after_writing : Counts → List ℕ → List ℕ → List ℕ
 after_writing n cells entry = head_bytes written_version n ++ (cells ++ drop (record_length n) entry)
 
 -- SCOPE V10, O1: the contract of the writing call: one answer, how many bytes it wrote, and one final memory; refused, the memory as it was
-pub record WritesVenue (n : Counts) (cells entry : List ℕ) (r : Written) (exit : List ℕ) : Type 0 where
+pub record WritesVenue (n : Counts) (cells entry : List ℕ) (r : Result ℕ Refusal) (exit : List ℕ) : Type 0 where
   pub says : r ≡ by_verdict Err (Ok (record_length n)) (write_check n (length cells) (length entry))
   pub holds : exit ≡ by_verdict (λ r. entry) (after_writing n cells entry) (write_check n (length cells) (length entry))
 
 -- each case of the answer: what is said of a refusal, or the number of bytes written
-abbrev pub told_written : Written → Told ⊎ ℕ
-told_written (Err r) = inl (told r)
-told_written (Ok n) = inr n
+abbrev pub told_written : Result ℕ Refusal → Told ⊎ ℕ
+told_written = told_of (λ n. n)

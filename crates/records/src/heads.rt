@@ -4,7 +4,7 @@ ghost use Rattle.cells.specs.declared.Refusal.TheVariants.{Record, Version};
 ghost use Rattle.cells.specs.Checks.{refuse_when, ◌then◌};
 ghost use Rattle.records.specs.Heads.{length_field, announced, version_of, whole_check};
 
-use cells::{Refusal, Verdict};
+use cells::Refusal;
 
 // The length that is announced, 0 where fewer than four bytes are there.
 pub(crate) fn announced(s: &[u8]) -> usize
@@ -21,36 +21,31 @@ pub(crate) fn announced(s: &[u8]) -> usize
 pub(crate) fn version_of(s: &[u8]) -> u8
     ensures { result ≡ version_of s.now }
 {
-    if s.len() < 5 { 0 } else { s[4] }
+    s.get(4).copied().unwrap_or(0)
 }
 
 // Refusal 10 where the record is cut short.
-fn check_whole(s: &[u8]) -> Verdict
+#[tactic(auto, unfolding(crate::specs::Heads::whole_check))]
+fn check_whole(s: &[u8]) -> Result<(), Refusal>
     ensures { result ≡ whole_check s.now }
 {
     let long = announced(s);
-    if long == 0 {
-        return Verdict::Refused(Refusal::Record);
+    if long == 0 || s.len() < 4 + long {
+        return Err(Refusal::Record);
     }
-    if s.len() < 4 + long {
-        return Verdict::Refused(Refusal::Record);
-    }
-    Verdict::Fine
+    Ok(())
 }
 
 // Refusal 10 where the record is cut short, 11 unless its version is known, 10 where its length does not fit.
-pub(crate) fn head_check(s: &[u8], known: bool, misfit: bool) -> Verdict
+pub(crate) fn head_check(s: &[u8], known: bool, misfit: bool) -> Result<(), Refusal>
     ensures { result ≡ (whole_check s.now then refuse_when (not known) Version then refuse_when misfit Record) }
 {
-    let v = check_whole(s);
-    let Verdict::Fine = v else {
-        return v;
-    };
+    check_whole(s)?;
     if !known {
-        return Verdict::Refused(Refusal::Version);
+        return Err(Refusal::Version);
     }
     if misfit {
-        return Verdict::Refused(Refusal::Record);
+        return Err(Refusal::Record);
     }
-    v
+    Ok(())
 }

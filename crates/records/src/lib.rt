@@ -6,6 +6,6 @@ mod pairs;
 mod venues;
 mod writing;
 
-pub use pairs::{Pair, PairRead, read_pair};
-pub use venues::{Venue, VenueRead, read_venue, venue_cells};
-pub use writing::{Written, write_venue};
+pub use pairs::{Pair, read_pair};
+pub use venues::{Venue, read_venue, venue_cells};
+pub use writing::write_venue;

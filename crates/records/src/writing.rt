@@ -1,35 +1,26 @@
 // Venue records written.
-ghost use Rattle.std.specs.Prelude.{◌≡◌, ◌+◌, ◌≤◌, ◌<◌, length};
+ghost use Rattle.std.specs.Prelude.{Ok, ◌≡◌, ◌+◌, ◌≤◌, ◌<◌, length};
 ghost use Rattle.buffers.specs.Over.{over};
 ghost use Rattle.grids.specs.Grid.{shape};
 ghost use Rattle.records.specs.Venues.{cells_from};
 ghost use Rattle.records.specs.Writing.{written_version, count_bytes, head_bytes, write_check, WritesVenue};
 
 use crate::venues::venue_head;
-use cells::{Counts, Refusal, Verdict};
+use cells::{Counts, Refusal};
 
 // The version that is written.
 const VERSION: u8 = 1;
 
-// The number of bytes written, or why none are.
-#[derive(Clone, Copy)]
-pub enum Written {
-    Wrote(usize),
-    Refused(Refusal),
-}
-
 // Refusals 2, 3, then 6.
-fn write_check(n: Counts, bytes: usize, room: usize) -> Verdict
+#[tactic(auto, using(grids::proofs::Shapes::shaped, crate::proofs::HeadTests::head_most), unfolding(crate::specs::Writing::write_check))]
+fn write_check(n: Counts, bytes: usize, room: usize) -> Result<(), Refusal>
     ensures { result ≡ write_check n bytes room }
 {
-    let v = grids::shape(n, bytes);
-    let Verdict::Fine = v else {
-        return v;
-    };
+    grids::shape(n, bytes)?;
     if room < 4 + venue_head(VERSION) + bytes {
-        return Verdict::Refused(Refusal::Room);
+        return Err(Refusal::Room);
     }
-    v
+    Ok(())
 }
 
 // The counts, from the place `at` on.
@@ -43,8 +34,9 @@ fn put_counts(out: &mut [u8], at: usize, n: Counts)
 }
 
 // What stands before the cells.
+#[tactic(auto, using(grids::proofs::Shapes::shaped, crate::proofs::HeadTests::head_most, crate::proofs::HeadTests::head_least))]
 fn put_head(n: Counts, out: &mut [u8], bytes: usize)
-    requires { (shape n bytes ≡ Verdict.Fine) × (cells_from written_version ≤ length out.old) }
+    requires { (shape n bytes ≡ Ok tt) × (cells_from written_version ≤ length out.old) }
     ensures { out.new ≡ over 0 (head_bytes written_version n) out.old }
 {
     buffers::put_four(out, 0, (venue_head(VERSION) + bytes) as u32);
@@ -52,18 +44,15 @@ fn put_head(n: Counts, out: &mut [u8], bytes: usize)
     put_counts(out, 5, n);
 }
 
-// Writes a venue's record at the front of the lent bytes; the rest stays.
-pub fn write_venue(n: Counts, cells: &[u8], out: &mut [u8]) -> Written
+// Writes a venue's record at the front of the lent bytes; the rest stays. Answers the number of bytes written, or why none are.
+#[tactic(auto, using(crate::proofs::WriteTests::writable, crate::proofs::WriteTests::not_written, crate::proofs::HeadTests::head_most))]
+pub fn write_venue(n: Counts, cells: &[u8], out: &mut [u8]) -> Result<usize, Refusal>
     ensures { WritesVenue n cells.now out.old result out.new }
 {
     let bytes = cells.len();
-    match write_check(n, bytes, out.len()) {
-        Verdict::Fine => {
-            let start = 4 + venue_head(VERSION);
-            put_head(n, out, bytes);
-            buffers::put(out, start, cells);
-            Written::Wrote(start + bytes)
-        }
-        Verdict::Refused(r) => Written::Refused(r),
-    }
+    write_check(n, bytes, out.len())?;
+    let start = 4 + venue_head(VERSION);
+    put_head(n, out, bytes);
+    buffers::put(out, start, cells);
+    Ok(start + bytes)
 }

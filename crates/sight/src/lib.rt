@@ -2,8 +2,7 @@
 #![tactic(auto)]
 
 ghost use Rattle.std.specs.Prelude.{◌≡◌, length};
-ghost use Rattle.cells.specs.declared.Verdict.TheVariants.{Fine};
-ghost use Rattle.cells.specs.Checks.{by_verdict};
+ghost use Rattle.cells.specs.Checks.{◌then◌};
 ghost use Rattle.grids.specs.Grid.{shape};
 ghost use Rattle.walks.specs.declared.Walker.TheVariants.{Adaptive};
 ghost use Rattle.grids.specs.Inside.{walk_check};
@@ -11,8 +10,8 @@ ghost use Rattle.walks.specs.Answers.{Finds};
 ghost use Rattle.survey.specs.Survey.{PlacedGrid, placement_check};
 ghost use Rattle.sight.specs.Sight.{share_of, sight_of, looked, Sees};
 
-use cells::{Axis, Cell, Counts, End, Face, Manner, Refusal, Verdict};
-use survey::{Lookup, Placement, Point};
+use cells::{Cell, Counts, End, Face, Manner, Refusal};
+use survey::{Placement, Point};
 use walks::FirstHit;
 
 // What is in the way: the share of the way to it, its cell and code, how many cells were read, and the face by which the line came in.
@@ -25,7 +24,7 @@ pub struct Block {
     pub face: Face,
 }
 
-// The sight answer.
+// The sight answer. Its three cases are named so by SCOPE's F1: a refusal stands beside what is seen, not around it.
 #[derive(Clone, Copy)]
 pub enum Sight {
     Clear,
@@ -46,80 +45,58 @@ fn sight_of(h: FirstHit) -> Sight
 {
     match h {
         FirstHit::Clear(_) => Sight::Clear,
-        FirstHit::Refused(r) => Sight::Refused(r),
-        FirstHit::Hit(hit) => {
-            let cell = hit.cell;
-            let place = hit.place;
-            let face = place.face;
-            Sight::Blocked(Block {
-                share: share(place.num, place.den),
-                cell: cell,
-                code: hit.code,
-                reads: hit.reads,
-                face: face,
-            })
-        }
+        FirstHit::Hit(hit) => Sight::Blocked(Block {
+            share: share(hit.place.num, hit.place.den),
+            cell: hit.cell,
+            code: hit.code,
+            reads: hit.reads,
+            face: hit.place.face,
+        }),
     }
 }
 
 // The adaptive walk between two cells that were looked up: they lie in the grid, so its tests are passed. It is made from its pieces: one function
 // shared with the adaptive call would be compiled apart, and the answer would go through memory once more.
 fn walked(n: Counts, cells: &[u8], p: Cell, q: Cell, how: Manner) -> FirstHit
-    requires { walk_check n (length cells.now) p q ≡ Fine }
-    ensures { Finds Adaptive how n cells.now p q result }
+    requires { walk_check n (length cells.now) p q ≡ Ok tt }
+    ensures { Finds Adaptive how n cells.now p q (Ok result) }
 {
-    let rule = how.rule;
-    let k = routes::route_of(n, p, q, rule);
+    let k = routes::route_of(n, p, q, how.rule);
     let stop = hits::walk_adaptive(cells, k, routes::first_spot(k), how);
     hits::answer_of(cells, k, stop, how)
 }
 
 // Where shape and placement passed their tests: the camera's refusal first, then the ball's.
 fn look(n: Counts, cells: &[u8], at: Placement, camera: Point, ball: Point, how: Manner) -> Sight
-    requires { (shape n (length cells.now) ≡ Fine) × PlacedGrid n at }
+    requires { (shape n (length cells.now) ≡ Ok tt) × PlacedGrid n at }
     ensures { result ≡ looked how n cells.now at camera ball }
 {
     let from = survey::look_up(End::P, n, at, camera);
-    let Lookup::Cell(p) = from else {
-        return match from {
-            Lookup::Refused(r) => Sight::Refused(r),
-            Lookup::Cell(_) => Sight::Refused(Refusal::NotFinite(End::P, Axis::X)), // no cell gets here
-        };
+    let Ok(p) = from else {
+        return Sight::Refused(from.unwrap_err());
     };
     let to = survey::look_up(End::Q, n, at, ball);
-    let Lookup::Cell(q) = to else {
-        return match to {
-            Lookup::Refused(r) => Sight::Refused(r),
-            Lookup::Cell(_) => Sight::Refused(Refusal::NotFinite(End::Q, Axis::X)), // nor here
-        };
+    let Ok(q) = to else {
+        return Sight::Refused(to.unwrap_err());
     };
     sight_of(walked(n, cells, p, q, how))
 }
 
-// Where the shape passed its test: refusal 7, then the lookups.
-fn look_from(
-    n: Counts,
-    cells: &[u8],
-    at: Placement,
-    camera: Point,
-    ball: Point,
-    how: Manner,
-) -> Sight
-    requires { shape n (length cells.now) ≡ Fine }
-    ensures { result ≡ by_verdict Sight.Refused (looked how n cells.now at camera ball) (placement_check at) }
+// What is tested before any point: refusals 2, 3, then 7.
+fn check(n: Counts, bytes: usize, at: Placement) -> Result<(), Refusal>
+    ensures { result ≡ (shape n bytes then placement_check at) }
 {
-    match survey::check_placement(at) {
-        Verdict::Refused(r) => Sight::Refused(r),
-        Verdict::Fine => look(n, cells, at, camera, ball, how),
-    }
+    grids::shape(n, bytes)?;
+    survey::check_placement(at)
 }
 
 // Whether anything is in the way from the camera to the ball.
+#[tactic(auto, unfolding(crate::specs::Sight::sight))]
 pub fn see(n: Counts, cells: &[u8], at: Placement, camera: Point, ball: Point, how: Manner) -> Sight
     ensures { Sees how n cells.now at camera ball result }
 {
-    match grids::shape(n, cells.len()) {
-        Verdict::Refused(r) => Sight::Refused(r),
-        Verdict::Fine => look_from(n, cells, at, camera, ball, how),
+    match check(n, cells.len(), at) {
+        Err(r) => Sight::Refused(r),
+        Ok(()) => look(n, cells, at, camera, ball, how),
     }
 }

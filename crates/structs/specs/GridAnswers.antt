@@ -18,5 +18,5 @@ flat_complete (Ok false) = record { said = accepted; yes = 0 }
 flat_complete (Err r) = record { said = flat_refusal r; yes = 0 }
 
 abbrev pub flat_part : Result LayerPart Refusal → OatPart
-flat_part (Ok (part_at start many)) = record { said = accepted; offset = start; length = many }
+flat_part (Ok p) = record { said = accepted; offset = p.start; length = p.long }
 flat_part (Err r) = record { said = flat_refusal r; offset = 0; length = 0 }

@@ -1,11 +1,13 @@
 -- What C's structs that go into a call mean. Assumes nothing.
-use Rattle.std.specs.Prelude.{ℕ, cond, eqb}
+use Rattle.std.specs.Prelude.{ℕ, cond, eqb, Result, Ok, Err}
 use Rattle.cells.specs.declared.Cell.{Cell}
 use Rattle.cells.specs.declared.Counts.{Counts}
 use Rattle.cells.specs.declared.Manner.{Manner}
+use Rattle.cells.specs.declared.Refusal.{Refusal}
 use Rattle.cells.specs.declared.Start.{Start}
 use Rattle.cells.specs.declared.Start.TheVariants.{Untested, Tested}
-use Rattle.cells.specs.Manners.{rule_of}
+use Rattle.cells.specs.Checks.{by_verdict}
+use Rattle.cells.specs.Manners.{rule_of, rule_check}
 use Rattle.structs.specs.declared.inputs.OatCell.{OatCell}
 use Rattle.structs.specs.declared.inputs.OatCounts.{OatCounts}
 use Rattle.structs.specs.declared.inputs.OatManner.{OatManner}
@@ -28,6 +30,10 @@ as_start number = cond (eqb number 0) Untested Tested
 
 abbrev pub as_manner : OatManner → Manner
 as_manner how = record { start = as_start how.start; rule = rule_of how.rule }
+
+-- that manner, or 12 where its rule's number names none
+abbrev pub manner_named : OatManner → Result Manner Refusal
+manner_named how = by_verdict Err (Ok (as_manner how)) (rule_check how.rule)
 
 -- the placement and the point that C's structs mean
 abbrev pub as_placement : OatPlacement → Placement

@@ -1,7 +1,6 @@
 -- How the answer of a list call is flattened for C: what SCOPE says of it, as numbers. Assumes nothing.
-use Rattle.std.specs.Prelude.{Ok, Err, Result}
+use Rattle.std.specs.Prelude.{Ok, Err, Result, ℕ}
 use Rattle.cells.specs.declared.Refusal.{Refusal}
-use Rattle.std.specs.Prelude.{ℕ}
 use Rattle.structs.specs.declared.line_answers.OatListed.{OatListed}
 use Rattle.structs.specs.Refusals.{accepted, flat_refusal}
 

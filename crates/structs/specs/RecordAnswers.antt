@@ -1,17 +1,16 @@
 -- How the answers of reading and writing a record are flattened for C: what SCOPE says of them, as numbers. Assumes nothing.
-use Rattle.std.specs.Prelude.{Ok, Err}
-use Rattle.std.specs.Prelude.{ℕ, pos}
+use Rattle.std.specs.Prelude.{Result, Ok, Err, ℕ, pos}
+use Rattle.cells.specs.declared.Refusal.{Refusal}
+use Rattle.records.specs.declared.venues.Venue.{Venue}
+use Rattle.records.specs.declared.pairs.Pair.{Pair}
 use Rattle.cells.specs.declared.Rule.{Rule}
 use Rattle.cells.specs.declared.Rule.TheVariants.{One, Two}
 use Rattle.structs.specs.declared.record_answers.OatVenue.{OatVenue}
 use Rattle.structs.specs.declared.record_answers.OatPair.{OatPair}
 use Rattle.structs.specs.declared.record_answers.OatWritten.{OatWritten}
-use Rattle.records.specs.declared.venues.VenueRead.{VenueRead}
-use Rattle.records.specs.declared.pairs.PairRead.{PairRead}
-use Rattle.records.specs.declared.writing.Written.{Written}
 use Rattle.structs.specs.Refusals.{accepted, flat_refusal}
 
-abbrev pub flat_venue : VenueRead → OatVenue
+abbrev pub flat_venue : Result Venue Refusal → OatVenue
 flat_venue (Ok v) =
     record { said = accepted; nx = v.counts.nx; ny = v.counts.ny; nz = v.counts.nz; offset = v.start; length = v.long }
 flat_venue (Err r) =
@@ -29,7 +28,7 @@ abbrev pub rule_number : Rule → ℕ
 rule_number One = 1
 rule_number Two = 2
 
-abbrev pub flat_pair : PairRead → OatPair
+abbrev pub flat_pair : Result Pair Refusal → OatPair
 flat_pair (Ok e) =
     record {
       said = accepted;
@@ -53,6 +52,6 @@ flat_pair (Err r) =
       rule = 0;
     }
 
-abbrev pub flat_written : Written → OatWritten
+abbrev pub flat_written : Result ℕ Refusal → OatWritten
 flat_written (Ok many) = record { said = accepted; written = many }
 flat_written (Err r) = record { said = flat_refusal r; written = 0 }

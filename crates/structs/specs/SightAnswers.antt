@@ -1,11 +1,10 @@
 -- How a point's cell and the sight answer are flattened for C: what SCOPE says of them, as numbers. Assumes nothing.
-use Rattle.std.specs.Prelude.{Ok, Err, Result, Some, None, Option}
+use Rattle.std.specs.Prelude.{Ok, Err, Result, pos}
 use Rattle.cells.specs.declared.Refusal.{Refusal}
-use Rattle.sight.specs.declared.Block.{Block}
 use Rattle.cells.specs.declared.Cell.{Cell}
-use Rattle.std.specs.Prelude.{pos}
 use Rattle.structs.specs.declared.refusals.OatSaid.{OatSaid}
 use Rattle.structs.specs.declared.sight_answers.OatFound.{OatFound}
+use Rattle.sight.specs.declared.Sight.{Sight}
 use Rattle.structs.specs.declared.sight_answers.OatSight.{OatSight}
 use Rattle.survey.specs.Quotient.{as_f64}
 use Rattle.structs.specs.Refusals.{accepted, flat_refusal}
@@ -31,8 +30,8 @@ unblocked said =
     }
 
 -- a sight: blocked 1 where something is in the way, 0 where it is clear
-abbrev pub flat_sight : Result (Option Block) Refusal → OatSight
-flat_sight (Ok (Some b)) =
+abbrev pub flat_sight : Sight → OatSight
+flat_sight (Sight.Blocked b) =
     record {
       said = accepted;
       blocked = 1;
@@ -44,5 +43,5 @@ flat_sight (Ok (Some b)) =
       reads = b.reads;
       face = face_number b.face;
     }
-flat_sight (Ok None) = unblocked accepted
-flat_sight (Err r) = unblocked (flat_refusal r)
+flat_sight Sight.Clear = unblocked accepted
+flat_sight (Sight.Refused r) = unblocked (flat_refusal r)

@@ -1,7 +1,6 @@
 -- How the answer of a first-hit call is flattened for C: what SCOPE says of it, as numbers. Assumes nothing.
-use Rattle.std.specs.Prelude.{Ok, Err, Result}
+use Rattle.std.specs.Prelude.{Ok, Err, Result, ℕ, pos}
 use Rattle.cells.specs.declared.Refusal.{Refusal}
-use Rattle.std.specs.Prelude.{ℕ, pos}
 use Rattle.walks.specs.declared.FirstHit.{FirstHit}
 use Rattle.structs.specs.declared.refusals.OatSaid.{OatSaid}
 use Rattle.structs.specs.declared.walk_answers.OatHit.{OatHit}

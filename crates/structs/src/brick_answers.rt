@@ -2,8 +2,8 @@
 ghost use Rattle.std.specs.Prelude.{◌≡◌};
 ghost use Rattle.structs.specs.BrickAnswers.{flat_tally};
 
-use crate::refusals::{ACCEPTED, OatSaid, flatten};
-use bricks::Tally;
+use crate::refusals::{ACCEPTED, OatSaid};
+use cells::Refusal;
 
 // The answer of the three calls: the number of solid cells.
 #[repr(C)]
@@ -13,17 +13,19 @@ pub struct OatTally {
     pub total: u64,
 }
 
-pub fn flat_tally(t: Tally) -> OatTally
-    ensures { result ≡ flat_tally t }
-{
-    match t {
-        Tally::Total(many) => OatTally {
-            said: ACCEPTED,
-            total: many,
-        },
-        Tally::Refused(r) => OatTally {
-            said: flatten(r),
-            total: 0,
-        },
+impl From<Result<u64, Refusal>> for OatTally {
+    ghost from_gives = { λ t r. r ≡ flat_tally t };
+
+    fn from(t: Result<u64, Refusal>) -> OatTally {
+        match t {
+            Ok(total) => OatTally {
+                said: ACCEPTED,
+                total,
+            },
+            Err(r) => OatTally {
+                said: r.into(),
+                total: 0,
+            },
+        }
     }
 }

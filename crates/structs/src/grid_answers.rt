@@ -2,9 +2,9 @@
 ghost use Rattle.std.specs.Prelude.{◌≡◌, length};
 ghost use Rattle.structs.specs.GridAnswers.{flat_verdict, flat_complete, flat_part};
 
-use crate::refusals::{ACCEPTED, OatSaid, flatten};
-use cells::Verdict;
-use grids::{Completeness, LayerPart};
+use crate::refusals::{ACCEPTED, OatSaid};
+use cells::Refusal;
+use grids::LayerPart;
 
 // The answer of a call that accepts or refuses.
 #[repr(C)]
@@ -30,47 +30,49 @@ pub struct OatPart {
     pub length: u64,
 }
 
-pub fn flat_verdict(v: Verdict) -> OatVerdict
-    ensures { result ≡ flat_verdict v }
-{
-    match v {
-        Verdict::Fine => OatVerdict { said: ACCEPTED },
-        Verdict::Refused(r) => OatVerdict { said: flatten(r) },
+impl From<Result<(), Refusal>> for OatVerdict {
+    ghost from_gives = { λ v r. r ≡ flat_verdict v };
+
+    fn from(v: Result<(), Refusal>) -> OatVerdict {
+        match v {
+            Ok(()) => OatVerdict { said: ACCEPTED },
+            Err(r) => OatVerdict { said: r.into() },
+        }
     }
 }
 
-pub fn flat_complete(c: Completeness) -> OatComplete
-    ensures { result ≡ flat_complete c }
-{
-    match c {
-        Completeness::Yes => OatComplete {
-            said: ACCEPTED,
-            yes: 1,
-        },
-        Completeness::No => OatComplete {
-            said: ACCEPTED,
-            yes: 0,
-        },
-        Completeness::Refused(r) => OatComplete {
-            said: flatten(r),
-            yes: 0,
-        },
+impl From<Result<bool, Refusal>> for OatComplete {
+    ghost from_gives = { λ c r. r ≡ flat_complete c };
+
+    fn from(c: Result<bool, Refusal>) -> OatComplete {
+        match c {
+            Ok(yes) => OatComplete {
+                said: ACCEPTED,
+                yes: yes as u32,
+            },
+            Err(r) => OatComplete {
+                said: r.into(),
+                yes: 0,
+            },
+        }
     }
 }
 
-pub fn flat_part(p: LayerPart) -> OatPart
-    ensures { result ≡ flat_part p }
-{
-    match p {
-        LayerPart::Part(start, many) => OatPart {
-            said: ACCEPTED,
-            offset: start as u64,
-            length: many as u64,
-        },
-        LayerPart::Refused(r) => OatPart {
-            said: flatten(r),
-            offset: 0,
-            length: 0,
-        },
+impl From<Result<LayerPart, Refusal>> for OatPart {
+    ghost from_gives = { λ p r. r ≡ flat_part p };
+
+    fn from(p: Result<LayerPart, Refusal>) -> OatPart {
+        match p {
+            Ok(part) => OatPart {
+                said: ACCEPTED,
+                offset: part.start as u64,
+                length: part.long as u64,
+            },
+            Err(r) => OatPart {
+                said: r.into(),
+                offset: 0,
+                length: 0,
+            },
+        }
     }
 }

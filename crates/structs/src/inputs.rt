@@ -1,8 +1,8 @@
 // C's structs that go into a call, and the values that they mean.
 ghost use Rattle.std.specs.Prelude.{◌≡◌};
-ghost use Rattle.structs.specs.Inputs.{as_cell, as_counts, as_start, as_manner, as_placement, as_point};
+ghost use Rattle.structs.specs.Inputs.{as_cell, as_counts, as_start, as_manner, manner_named, as_placement, as_point};
 
-use cells::{Cell, Counts, Manner, Start};
+use cells::{Cell, Counts, Manner, Refusal, Start};
 use survey::{Placement, Point};
 
 // A cell.
@@ -14,14 +14,16 @@ pub struct OatCell {
     pub z: i32,
 }
 
-// A cell of C's as a cell.
-pub fn cell(c: OatCell) -> Cell
-    ensures { result ≡ as_cell c }
-{
-    let x = c.x;
-    let y = c.y;
-    let z = c.z;
-    Cell { x: x, y: y, z: z }
+impl From<OatCell> for Cell {
+    ghost from_gives = { λ c r. r ≡ as_cell c };
+
+    fn from(c: OatCell) -> Cell {
+        Cell {
+            x: c.x,
+            y: c.y,
+            z: c.z,
+        }
+    }
 }
 
 // How many cells a grid has along each axis.
@@ -33,14 +35,15 @@ pub struct OatCounts {
     pub nz: u32,
 }
 
-// Counts of C's as counts.
-pub fn counts(n: OatCounts) -> Counts
-    ensures { result ≡ as_counts n }
-{
-    Counts {
-        nx: n.nx,
-        ny: n.ny,
-        nz: n.nz,
+impl From<OatCounts> for Counts {
+    ghost from_gives = { λ n r. r ≡ as_counts n };
+
+    fn from(n: OatCounts) -> Counts {
+        Counts {
+            nx: n.nx,
+            ny: n.ny,
+            nz: n.nz,
+        }
     }
 }
 
@@ -73,6 +76,17 @@ pub fn manner(how: OatManner) -> Manner
     }
 }
 
+impl TryFrom<OatManner> for Manner {
+    type Error = Refusal;
+
+    ghost try_from_gives = { λ how r. r ≡ manner_named how };
+
+    fn try_from(how: OatManner) -> Result<Self, Refusal> {
+        cells::check_rule(how.rule)?;
+        Ok(manner(how))
+    }
+}
+
 // Where the grid lies: its origin and its cell edge, in metres.
 #[repr(C)]
 #[derive(Clone, Copy)]
@@ -83,15 +97,16 @@ pub struct OatPlacement {
     pub edge: f64,
 }
 
-// A placement and a point of C's as such.
-pub fn placement(at: OatPlacement) -> Placement
-    ensures { result ≡ as_placement at }
-{
-    Placement {
-        ox: at.ox,
-        oy: at.oy,
-        oz: at.oz,
-        edge: at.edge,
+impl From<OatPlacement> for Placement {
+    ghost from_gives = { λ at r. r ≡ as_placement at };
+
+    fn from(at: OatPlacement) -> Placement {
+        Placement {
+            ox: at.ox,
+            oy: at.oy,
+            oz: at.oz,
+            edge: at.edge,
+        }
     }
 }
 
@@ -104,12 +119,14 @@ pub struct OatPoint {
     pub z: f64,
 }
 
-pub fn point(p: OatPoint) -> Point
-    ensures { result ≡ as_point p }
-{
-    Point {
-        x: p.x,
-        y: p.y,
-        z: p.z,
+impl From<OatPoint> for Point {
+    ghost from_gives = { λ p r. r ≡ as_point p };
+
+    fn from(p: OatPoint) -> Point {
+        Point {
+            x: p.x,
+            y: p.y,
+            z: p.z,
+        }
     }
 }

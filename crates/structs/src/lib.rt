@@ -11,14 +11,11 @@ mod record_answers;
 mod sight_answers;
 mod walk_answers;
 
-pub use brick_answers::{OatTally, flat_tally};
-pub use grid_answers::{OatComplete, OatPart, OatVerdict, flat_complete, flat_part, flat_verdict};
-pub use inputs::{
-    OatCell, OatCounts, OatManner, OatPlacement, OatPoint, cell, counts, manner, placement, point,
-    start_of,
-};
-pub use line_answers::{OatListed, flat_listed};
-pub use record_answers::{OatPair, OatVenue, OatWritten, flat_pair, flat_venue, flat_written};
+pub use brick_answers::OatTally;
+pub use grid_answers::{OatComplete, OatPart, OatVerdict};
+pub use inputs::{OatCell, OatCounts, OatManner, OatPlacement, OatPoint, manner, start_of};
+pub use line_answers::OatListed;
+pub use record_answers::{OatPair, OatVenue, OatWritten};
 pub use refusals::OatSaid;
-pub use sight_answers::{OatFound, OatSight, flat_found, flat_sight};
-pub use walk_answers::{OatHit, flat_hit};
+pub use sight_answers::{OatFound, OatSight};
+pub use walk_answers::OatHit;

@@ -2,8 +2,8 @@
 ghost use Rattle.std.specs.Prelude.{◌≡◌};
 ghost use Rattle.structs.specs.LineAnswers.{flat_listed};
 
-use crate::refusals::{ACCEPTED, OatSaid, flatten};
-use lists::Listed;
+use crate::refusals::{ACCEPTED, OatSaid};
+use cells::Refusal;
 
 // The answer of a list: the number of cells.
 #[repr(C)]
@@ -13,17 +13,19 @@ pub struct OatListed {
     pub count: u32,
 }
 
-pub fn flat_listed(l: Listed) -> OatListed
-    ensures { result ≡ flat_listed l }
-{
-    match l {
-        Listed::Cells(n) => OatListed {
-            said: ACCEPTED,
-            count: n,
-        },
-        Listed::Refused(r) => OatListed {
-            said: flatten(r),
-            count: 0,
-        },
+impl From<Result<u32, Refusal>> for OatListed {
+    ghost from_gives = { λ l r. r ≡ flat_listed l };
+
+    fn from(l: Result<u32, Refusal>) -> OatListed {
+        match l {
+            Ok(count) => OatListed {
+                said: ACCEPTED,
+                count,
+            },
+            Err(r) => OatListed {
+                said: r.into(),
+                count: 0,
+            },
+        }
     }
 }

@@ -2,10 +2,9 @@
 ghost use Rattle.std.specs.Prelude.{◌≡◌};
 ghost use Rattle.structs.specs.RecordAnswers.{flat_venue, rule_number, flat_pair, flat_written};
 
-use crate::inputs::counts;
-use crate::refusals::{ACCEPTED, OatSaid, flatten};
-use cells::Rule;
-use records::{PairRead, VenueRead, Written};
+use crate::refusals::{ACCEPTED, OatSaid};
+use cells::{Refusal, Rule};
+use records::{Pair, Venue};
 
 // A venue's record that was read: its counts, and where its cells start in the caller's bytes and how many they are.
 #[repr(C)]
@@ -41,29 +40,28 @@ pub struct OatWritten {
     pub written: u64,
 }
 
-pub fn flat_venue(v: VenueRead) -> OatVenue
-    ensures { result ≡ flat_venue v }
-{
-    match v {
-        VenueRead::Read(venue) => {
-            let n = venue.counts;
-            OatVenue {
+impl From<Result<Venue, Refusal>> for OatVenue {
+    ghost from_gives = { λ v r. r ≡ flat_venue v };
+
+    fn from(v: Result<Venue, Refusal>) -> OatVenue {
+        match v {
+            Ok(venue) => OatVenue {
                 said: ACCEPTED,
-                nx: n.nx,
-                ny: n.ny,
-                nz: n.nz,
+                nx: venue.counts.nx,
+                ny: venue.counts.ny,
+                nz: venue.counts.nz,
                 offset: venue.start as u64,
                 length: venue.long as u64,
-            }
+            },
+            Err(r) => OatVenue {
+                said: r.into(),
+                nx: 0,
+                ny: 0,
+                nz: 0,
+                offset: 0,
+                length: 0,
+            },
         }
-        VenueRead::Refused(r) => OatVenue {
-            said: flatten(r),
-            nx: 0,
-            ny: 0,
-            nz: 0,
-            offset: 0,
-            length: 0,
-        },
     }
 }
 
@@ -76,55 +74,48 @@ fn rule_code(r: Rule) -> u32
     }
 }
 
-pub fn flat_pair(e: PairRead) -> OatPair
-    ensures { result ≡ flat_pair e }
-{
-    match e {
-        PairRead::Read(ends) => {
-            let p = ends.p;
-            let q = ends.q;
-            let rule = ends.rule;
-            let px = p.x;
-            let py = p.y;
-            let pz = p.z;
-            let qx = q.x;
-            let qy = q.y;
-            let qz = q.z;
-            OatPair {
+impl From<Result<Pair, Refusal>> for OatPair {
+    ghost from_gives = { λ e r. r ≡ flat_pair e };
+
+    fn from(e: Result<Pair, Refusal>) -> OatPair {
+        match e {
+            Ok(pair) => OatPair {
                 said: ACCEPTED,
-                px: px,
-                py: py,
-                pz: pz,
-                qx: qx,
-                qy: qy,
-                qz: qz,
-                rule: rule_code(rule),
-            }
+                px: pair.p.x,
+                py: pair.p.y,
+                pz: pair.p.z,
+                qx: pair.q.x,
+                qy: pair.q.y,
+                qz: pair.q.z,
+                rule: rule_code(pair.rule),
+            },
+            Err(r) => OatPair {
+                said: r.into(),
+                px: 0,
+                py: 0,
+                pz: 0,
+                qx: 0,
+                qy: 0,
+                qz: 0,
+                rule: 0,
+            },
         }
-        PairRead::Refused(r) => OatPair {
-            said: flatten(r),
-            px: 0,
-            py: 0,
-            pz: 0,
-            qx: 0,
-            qy: 0,
-            qz: 0,
-            rule: 0,
-        },
     }
 }
 
-pub fn flat_written(w: Written) -> OatWritten
-    ensures { result ≡ flat_written w }
-{
-    match w {
-        Written::Wrote(many) => OatWritten {
-            said: ACCEPTED,
-            written: many as u64,
-        },
-        Written::Refused(r) => OatWritten {
-            said: flatten(r),
-            written: 0,
-        },
+impl From<Result<usize, Refusal>> for OatWritten {
+    ghost from_gives = { λ w r. r ≡ flat_written w };
+
+    fn from(w: Result<usize, Refusal>) -> OatWritten {
+        match w {
+            Ok(many) => OatWritten {
+                said: ACCEPTED,
+                written: many as u64,
+            },
+            Err(r) => OatWritten {
+                said: r.into(),
+                written: 0,
+            },
+        }
     }
 }

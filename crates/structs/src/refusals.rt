@@ -69,29 +69,31 @@ fn at_axis(number: u32, axis: u32) -> OatSaid
     OatSaid {
         refusal: number,
         end: 0,
-        axis: axis,
+        axis,
     }
 }
 
 // Of a call that was refused. One match for end and axis: with two, what is made of it is too long to stand within the calls for C.
-pub(crate) fn flatten(r: Refusal) -> OatSaid
-    ensures { result ≡ flat_refusal r }
-{
-    let number = cells::number(r);
-    match r {
-        Refusal::Limit(e, a) => at_end(number, e, a),
-        Refusal::Count(a) => at_axis(number, axis_code(a)),
-        Refusal::Bytes => at_axis(number, 0),
-        Refusal::Layer => at_axis(number, 0),
-        Refusal::OffGrid(e, a) => at_end(number, e, a),
-        Refusal::Room => at_axis(number, 0),
-        Refusal::Placement(p) => at_axis(number, part_code(p)),
-        Refusal::NotFinite(e, a) => at_end(number, e, a),
-        Refusal::OffSurvey(e, a) => at_end(number, e, a),
-        Refusal::Record => at_axis(number, 0),
-        Refusal::Version => at_axis(number, 0),
-        Refusal::NoRule => at_axis(number, 0),
-        Refusal::Stale => at_axis(number, 0),
-        Refusal::Corners => at_axis(number, 0),
+impl From<Refusal> for OatSaid {
+    ghost from_gives = { λ r s. s ≡ flat_refusal r };
+
+    fn from(r: Refusal) -> OatSaid {
+        let number = cells::number(r);
+        match r {
+            Refusal::Limit(e, a) => at_end(number, e, a),
+            Refusal::Count(a) => at_axis(number, axis_code(a)),
+            Refusal::Bytes => at_axis(number, 0),
+            Refusal::Layer => at_axis(number, 0),
+            Refusal::OffGrid(e, a) => at_end(number, e, a),
+            Refusal::Room => at_axis(number, 0),
+            Refusal::Placement(p) => at_axis(number, part_code(p)),
+            Refusal::NotFinite(e, a) => at_end(number, e, a),
+            Refusal::OffSurvey(e, a) => at_end(number, e, a),
+            Refusal::Record => at_axis(number, 0),
+            Refusal::Version => at_axis(number, 0),
+            Refusal::NoRule => at_axis(number, 0),
+            Refusal::Stale => at_axis(number, 0),
+            Refusal::Corners => at_axis(number, 0),
+        }
     }
 }

@@ -3,10 +3,9 @@ ghost use Rattle.std.specs.Prelude.{◌≡◌};
 ghost use Rattle.structs.specs.SightAnswers.{flat_found, unblocked, flat_sight};
 
 use crate::faces::face_code;
-use crate::inputs::point;
-use crate::refusals::{ACCEPTED, OatSaid, flatten};
+use crate::refusals::{ACCEPTED, OatSaid};
+use cells::{Cell, Refusal};
 use sight::{Block, Sight};
-use survey::Lookup;
 
 // The cell of a point.
 #[repr(C)]
@@ -18,27 +17,24 @@ pub struct OatFound {
     pub z: i32,
 }
 
-pub fn flat_found(l: Lookup) -> OatFound
-    ensures { result ≡ flat_found l }
-{
-    match l {
-        Lookup::Cell(c) => {
-            let x = c.x;
-            let y = c.y;
-            let z = c.z;
-            OatFound {
+impl From<Result<Cell, Refusal>> for OatFound {
+    ghost from_gives = { λ l r. r ≡ flat_found l };
+
+    fn from(l: Result<Cell, Refusal>) -> OatFound {
+        match l {
+            Ok(c) => OatFound {
                 said: ACCEPTED,
-                x: x,
-                y: y,
-                z: z,
-            }
+                x: c.x,
+                y: c.y,
+                z: c.z,
+            },
+            Err(r) => OatFound {
+                said: r.into(),
+                x: 0,
+                y: 0,
+                z: 0,
+            },
         }
-        Lookup::Refused(r) => OatFound {
-            said: flatten(r),
-            x: 0,
-            y: 0,
-            z: 0,
-        },
     }
 }
 
@@ -62,7 +58,7 @@ fn unblocked(said: OatSaid) -> OatSight
     ensures { result ≡ unblocked said }
 {
     OatSight {
-        said: said,
+        said,
         blocked: 0,
         share: 0u32 as f64,
         x: 0,
@@ -77,27 +73,27 @@ fn unblocked(said: OatSaid) -> OatSight
 fn flat_blocked(b: Block) -> OatSight
     ensures { result ≡ flat_sight (Sight.Blocked b) }
 {
-    let c = b.cell;
-    let face = b.face;
     OatSight {
         said: ACCEPTED,
         blocked: 1,
         share: b.share,
-        x: c.x,
-        y: c.y,
-        z: c.z,
+        x: b.cell.x,
+        y: b.cell.y,
+        z: b.cell.z,
         code: b.code as u32,
         reads: b.reads,
-        face: face_code(face),
+        face: face_code(b.face),
     }
 }
 
-pub fn flat_sight(s: Sight) -> OatSight
-    ensures { result ≡ flat_sight s }
-{
-    match s {
-        Sight::Blocked(b) => flat_blocked(b),
-        Sight::Clear => unblocked(ACCEPTED),
-        Sight::Refused(r) => unblocked(flatten(r)),
+impl From<Sight> for OatSight {
+    ghost from_gives = { λ s r. r ≡ flat_sight s };
+
+    fn from(s: Sight) -> OatSight {
+        match s {
+            Sight::Blocked(b) => flat_blocked(b),
+            Sight::Clear => unblocked(ACCEPTED),
+            Sight::Refused(r) => unblocked(r.into()),
+        }
     }
 }

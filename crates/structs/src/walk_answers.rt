@@ -3,8 +3,8 @@ ghost use Rattle.std.specs.Prelude.{◌≡◌};
 ghost use Rattle.structs.specs.WalkAnswers.{no_hit, flat_hit};
 
 use crate::faces::face_code;
-use crate::inputs::cell;
-use crate::refusals::{ACCEPTED, OatSaid, flatten};
+use crate::refusals::{ACCEPTED, OatSaid};
+use cells::Refusal;
 use walks::{FirstHit, Hit};
 
 // The answer of a first-hit call; hit: 0 clear, 1 a hit at a cell, with its code, its place num over den and its entry face.
@@ -28,7 +28,7 @@ fn no_hit(said: OatSaid, many: u32) -> OatHit
     ensures { result ≡ no_hit said many }
 {
     OatHit {
-        said: said,
+        said,
         hit: 0,
         x: 0,
         y: 0,
@@ -42,31 +42,31 @@ fn no_hit(said: OatSaid, many: u32) -> OatHit
 }
 
 fn flat_block(h: Hit) -> OatHit
-    ensures { result ≡ flat_hit (FirstHit.Hit h) }
+    ensures { result ≡ flat_hit (Ok (FirstHit.Hit h)) }
 {
-    let c = h.cell;
     let place = h.place;
-    let face = place.face;
     OatHit {
         said: ACCEPTED,
         hit: 1,
-        x: c.x,
-        y: c.y,
-        z: c.z,
+        x: h.cell.x,
+        y: h.cell.y,
+        z: h.cell.z,
         code: h.code as u32,
         num: place.num,
         den: place.den,
-        face: face_code(face),
+        face: face_code(place.face),
         reads: h.reads,
     }
 }
 
-pub fn flat_hit(h: FirstHit) -> OatHit
-    ensures { result ≡ flat_hit h }
-{
-    match h {
-        FirstHit::Hit(b) => flat_block(b),
-        FirstHit::Clear(many) => no_hit(ACCEPTED, many),
-        FirstHit::Refused(r) => no_hit(flatten(r), 0),
+impl From<Result<FirstHit, Refusal>> for OatHit {
+    ghost from_gives = { λ h r. r ≡ flat_hit h };
+
+    fn from(h: Result<FirstHit, Refusal>) -> OatHit {
+        match h {
+            Ok(FirstHit::Hit(b)) => flat_block(b),
+            Ok(FirstHit::Clear(many)) => no_hit(ACCEPTED, many),
+            Err(r) => no_hit(r.into(), 0),
+        }
     }
 }

@@ -1,5 +1,5 @@
--- Which floats are finite, told by the two infinities; and a quotient of finite values by an edge above 0 is never NaN. Assumes nothing.
-use mathlib.Core.Path.{◌≡◌, refl, sym}
+-- What std calls finite; and a quotient of finite values by an edge above 0 is never NaN. Assumes nothing.
+use mathlib.Core.Path.{◌≡◌, refl}
 use mathlib.Core.Bool.{Bool, true, false, not, ◌&&◌, beq, cond}
 use Prim.Native.Nat.{ℕ, zero, suc, ◌+◌, ◌-◌, ◌*◌, ◌^◌}
 use native.Mathlib.Omega.{arith}
@@ -8,23 +8,16 @@ use lib.IntN.{ℤ}
 use borrow.Author.Tests.{ltb-true}
 use lib.Ieee.{Float, nan, inf, fin, Format, binary64, low, emax, prec, up, down, unlike, lt, is_nan, neg, add, sub, div, sum, round, units, odd, of_int}
 use lib.Ieee.Scale.{finite}
+use Rattle.std.specs.Float.{float_is_finite}
 use Rattle.survey.specs.Quotient.{as_f64, quotient}
 use Rattle.survey.proofs.Tests.{clash}
 
--- ---- finite is strictly between the infinities
-pub below_infinity : (x : Float) → lt x (inf false) ≡ true → lt (inf true) x ≡ finite x
-unfolding lt
-below_infinity nan h = refl
-below_infinity (inf true) h = refl
-below_infinity (inf false) h = sym h
-below_infinity (fin s m e) h = refl
-
-pub not_below_infinity : (x : Float) → lt x (inf false) ≡ false → false ≡ finite x
-unfolding lt
-not_below_infinity nan h = refl
-not_below_infinity (inf true) h = refl
-not_below_infinity (inf false) h = refl
-not_below_infinity (fin s m e) h = sym h
+-- ---- std's word for finite says the same
+pub same_finite : (x : Float) → float_is_finite x ≡ finite x
+unfolding float_is_finite
+same_finite nan = refl
+same_finite (inf s) = refl
+same_finite (fin s m e) = refl
 
 -- ---- no operation of a quotient gives NaN
 odd_no_nan : (d : ℕ) (s : Bool) (q k l : ℕ) → is_nan (odd d s q k l) ≡ false

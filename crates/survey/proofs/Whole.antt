@@ -1,14 +1,14 @@
 -- Floats compared with whole numbers: every whole number up to 2^53 is an f64 exactly, a ≤ q < b in floats gives a < b, and the n with
 -- n ≤ q < n + 1 is the whole part of q.
 -- Assumes nothing.
-use mathlib.Core.Path.{◌≡◌, sym, ap, ◌∙◌, subst}
+use mathlib.Core.Path.{◌≡◌, refl, sym, ap, ◌∙◌, subst}
 use Prim.Native.Nat.{ℕ, zero, suc, ◌+◌, ◌-◌, ◌*◌, ◌^◌, ◌≤◌, ◌<◌, min}
 use native.Mathlib.Nat.{mul-one, mul_right_comm, le_of_mul-le-mul_right, lt_of_mul-lt-mul_right, div-eq_of_lt-le, min-eq_left}
 use native.Mathlib.Omega.{arith}
 use mathlib.Core.Bool.{true, false, not, true≢false}
 use lib.IntN.{ℤ}
 use lib.Dec.{T, eqb, ltb→lt, eqb→eq}
-use lib.Ieee.{Float, nan, inf, fin, binary64, up, down, lt, le, of_int, to_unsigned, is_nan}
+use lib.Ieee.{Float, nan, inf, fin, binary64, up, down, lt, le, of_bits, of_int, to_unsigned, is_nan}
 use lib.Ieee.Exact.{HasValue}
 use lib.Ieee.Fits.{down_pos}
 use lib.Ieee.Back.{round_whole}
@@ -17,6 +17,11 @@ use Rattle.survey.proofs.Tests.{is_true_of_true, false_of_is_true_not, and_l, an
 use Rattle.survey.proofs.Order.{test_at_most, not_below, not_at_most}
 
 -- ---- the conversion is exact
+-- the literal 0.0
+pub zero_is : of_bits binary64 0 ≡ as_f64 0
+unfolding of_bits of_int
+zero_is = refl
+
 pub whole_exact : (n : ℕ) → n ≤ 2 ^ 53 → HasValue (as_f64 n) false n 1
 unfolding of_int
 whole_exact n h = round_whole binary64 false n h

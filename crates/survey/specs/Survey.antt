@@ -1,22 +1,17 @@
 -- SCOPE, S: placement and surveyed point, their refusals in order, and the cell of a point. Assumes nothing.
-use Rattle.std.specs.Prelude.{Ok, Err, Result}
-use Rattle.cells.specs.declared.Refusal.{Refusal}
-use Rattle.cells.specs.declared.Cell.{Cell}
-use Rattle.std.specs.Prelude.{ℕ, ◌≡◌, Bool, not, ◌||◌, ◌⊎◌, pos, Float}
-use Rattle.std.proofs.Common.{inl, inr}
+use Rattle.std.specs.Prelude.{Ok, Err, Result, ℕ, ◌≡◌, Bool, not, ◌||◌, ◌⊎◌, pos, Float}
 use Rattle.std.specs.Float.Ieee.{lt}
 use Rattle.std.specs.Float.Ieee.Scale.{finite}
 use Rattle.cells.specs.declared.Axis.{Axis}
 use Rattle.cells.specs.declared.Axis.TheVariants.{X, Y, Z}
+use Rattle.cells.specs.declared.Cell.{Cell}
+use Rattle.cells.specs.declared.Counts.{Counts}
 use Rattle.cells.specs.declared.End.{End}
 use Rattle.cells.specs.declared.End.TheVariants.{P}
-use Rattle.cells.specs.declared.Cell as cell
-use Rattle.cells.specs.declared.Counts.{Counts}
 use Rattle.cells.specs.declared.Part.TheVariants.{OriginX, OriginY, OriginZ, Edge}
-use Rattle.cells.specs.declared.Refusal.TheVariants as Refusal
-use Rattle.cells.specs.Checks.{Verdict}
-use Rattle.cells.specs.Checks.{refuse_when, ◌then◌, by_verdict}
-use Rattle.cells.specs.Refusals.{Told, told}
+use Rattle.cells.specs.declared.Refusal.{Refusal}
+use Rattle.cells.specs.Checks.{Verdict, refuse_when, ◌then◌, by_verdict}
+use Rattle.cells.specs.Refusals.{Told, told_of}
 pub use Rattle.grids.specs.Grid.{count_check}
 use Rattle.survey.specs.declared.Placement.{Placement}
 use Rattle.survey.specs.declared.Point.{Point}
@@ -60,7 +55,7 @@ point_check e n p q =
     value_check e Z n.nz p.z q.z
 
 -- the cell that has these quotients
-abbrev pub cell_at : Counts → Point → cell.Cell
+abbrev pub cell_at : Counts → Point → Cell
 cell_at n q = record { x = pos (cell_number n.nx q.x); y = pos (cell_number n.ny q.y); z = pos (cell_number n.nz q.z) }
 
 -- the lookup of an end's point, counts and placement being tested
@@ -78,6 +73,5 @@ pub record LooksUp (n : Counts) (at : Placement) (p : Point) (r : Result Cell Re
   pub says : r ≡ cell_of n at p
 
 -- each case of the answer: what is said of a refusal, or the cell
-abbrev pub told_lookup : Result Cell Refusal → Told ⊎ cell.Cell
-told_lookup (Err r) = inl (told r)
-told_lookup (Ok c) = inr c
+abbrev pub told_lookup : Result Cell Refusal → Told ⊎ Cell
+told_lookup = told_of (λ c. c)

@@ -4,12 +4,11 @@
 ghost use Rattle.std.specs.Prelude.{◌≡◌, true, ◌+◌, ◌<◌};
 ghost use Rattle.std.specs.Float.Ieee.{le};
 ghost use Rattle.std.specs.Float.Ieee.Scale.{finite};
-ghost use Rattle.cells.specs.Checks.{refuse_when, ◌then◌};
 ghost use Rattle.survey.specs.Quotient.{as_f64, quotient, outside, cell_number};
 ghost use Rattle.survey.specs.Search.{Inside, AllInside, Closer};
 ghost use Rattle.survey.specs.Survey.{bad_edge, placement_check, PlacedGrid, quotients, value_check, point_check, cell_at, look_up, LooksUp};
 
-use cells::{Axis, Cell, Counts, End, Part, Refusal, Verdict};
+use cells::{Axis, Cell, Counts, End, Part, Refusal};
 
 // Where the grid stands in the venue: its origin and the edge of a cell, in metres.
 #[derive(Clone, Copy)]
@@ -28,13 +27,6 @@ pub struct Point {
     pub z: f64,
 }
 
-// The answer of a lookup.
-#[derive(Clone, Copy)]
-pub enum Lookup {
-    Cell(Cell),
-    Refused(Refusal),
-}
-
 // The whole numbers from lo up to hi, hi left out.
 #[derive(Clone, Copy)]
 struct Span {
@@ -44,50 +36,31 @@ struct Span {
 
 // ---- the tests
 
-// Refused with r exactly when the test holds.
-fn refuse_when(bad: bool, r: Refusal) -> Verdict
-    ensures { result ≡ refuse_when bad r }
-{
-    if bad {
-        Verdict::Refused(r)
-    } else {
-        Verdict::Fine
-    }
-}
-
-// The first of two verdicts that is a refusal.
-fn first_of(v: Verdict, w: Verdict) -> Verdict
-    ensures { result ≡ v then w }
-{
-    match v {
-        Verdict::Fine => w,
-        Verdict::Refused(r) => Verdict::Refused(r),
-    }
-}
-
-// Neither NaN nor an infinity: strictly between the two infinities.
-fn is_finite(x: f64) -> bool
-    ensures { result ≡ finite x }
-{
-    let infinity = 1.0f64 / 0.0;
-    if x < infinity { -infinity < x } else { false }
-}
-
+#[tactic(auto, using(crate::proofs::Finite::same_finite, crate::proofs::Whole::zero_is))]
 fn bad_edge(edge: f64) -> bool
     ensures { result ≡ bad_edge edge }
 {
-    if is_finite(edge) { !(0.0 < edge) } else { true }
+    !edge.is_finite() || !(0.0 < edge)
 }
 
 // Refusal 7: origin x, y, z, edge.
-pub fn check_placement(at: Placement) -> Verdict
+#[tactic(auto, using(crate::proofs::Finite::same_finite), unfolding(crate::specs::Survey::placement_check))]
+pub fn check_placement(at: Placement) -> Result<(), Refusal>
     ensures { result ≡ placement_check at }
 {
-    let x = refuse_when(!is_finite(at.ox), Refusal::Placement(Part::OriginX));
-    let y = refuse_when(!is_finite(at.oy), Refusal::Placement(Part::OriginY));
-    let z = refuse_when(!is_finite(at.oz), Refusal::Placement(Part::OriginZ));
-    let edge = refuse_when(bad_edge(at.edge), Refusal::Placement(Part::Edge));
-    first_of(x, first_of(y, first_of(z, edge)))
+    if !at.ox.is_finite() {
+        return Err(Refusal::Placement(Part::OriginX));
+    }
+    if !at.oy.is_finite() {
+        return Err(Refusal::Placement(Part::OriginY));
+    }
+    if !at.oz.is_finite() {
+        return Err(Refusal::Placement(Part::OriginZ));
+    }
+    if bad_edge(at.edge) {
+        return Err(Refusal::Placement(Part::Edge));
+    }
+    Ok(())
 }
 
 // ---- one axis
@@ -100,19 +73,25 @@ fn quotient(value: f64, origin: f64, edge: f64) -> f64
 }
 
 // Below 0, or above the count.
+#[tactic(auto, using(crate::proofs::Whole::zero_is))]
 fn outside(count: u32, q: f64) -> bool
     ensures { result ≡ outside count q }
 {
-    if q < 0.0 { true } else { (count as f64) < q }
+    q < 0.0 || (count as f64) < q
 }
 
 // Refusals 8, then 9, of one value.
-fn check_value(end: End, axis: Axis, count: u32, value: f64, q: f64) -> Verdict
+#[tactic(auto, using(crate::proofs::Finite::same_finite))]
+fn check_value(end: End, axis: Axis, count: u32, value: f64, q: f64) -> Result<(), Refusal>
     ensures { result ≡ value_check end axis count value q }
 {
-    let finite = refuse_when(!is_finite(value), Refusal::NotFinite(end, axis));
-    let inside = refuse_when(outside(count, q), Refusal::OffSurvey(end, axis));
-    first_of(finite, inside)
+    if !value.is_finite() {
+        return Err(Refusal::NotFinite(end, axis));
+    }
+    if outside(count, q) {
+        return Err(Refusal::OffSurvey(end, axis));
+    }
+    Ok(())
 }
 
 // The half of a span that q lies in; a q above the span lies in the upper half.
@@ -120,13 +99,11 @@ fn halved(q: f64, s: Span) -> Span
     requires { (le (as_f64 s.lo) q ≡ true) × (s.lo + 1 < s.hi) }
     ensures { Closer q s result }
 {
-    let lo = s.lo;
-    let hi = s.hi;
-    let mid = lo + (hi - lo) / 2;
+    let mid = s.lo + (s.hi - s.lo) / 2;
     if q < (mid as f64) {
-        Span { lo, hi: mid }
+        Span { hi: mid, ..s }
     } else {
-        Span { lo: mid, hi }
+        Span { lo: mid, ..s }
     }
 }
 
@@ -156,13 +133,13 @@ fn quotients(at: Placement, point: Point) -> Point
 }
 
 // Refusals 8 and 9 of a point with its quotients: x, y, z.
-fn check_point(end: End, n: Counts, point: Point, q: Point) -> Verdict
+#[tactic(auto, unfolding(crate::specs::Survey::point_check))]
+fn check_point(end: End, n: Counts, point: Point, q: Point) -> Result<(), Refusal>
     ensures { result ≡ point_check end n point q }
 {
-    let x = check_value(end, Axis::X, n.nx, point.x, q.x);
-    let y = check_value(end, Axis::Y, n.ny, point.y, q.y);
-    let z = check_value(end, Axis::Z, n.nz, point.z, q.z);
-    first_of(x, first_of(y, z))
+    check_value(end, Axis::X, n.nx, point.x, q.x)?;
+    check_value(end, Axis::Y, n.ny, point.y, q.y)?;
+    check_value(end, Axis::Z, n.nz, point.z, q.z)
 }
 
 // The cell that has these quotients.
@@ -170,34 +147,29 @@ fn cell_at(n: Counts, q: Point) -> Cell
     requires { AllInside n q }
     ensures { result ≡ cell_at n q }
 {
-    let x = cell_number(n.nx, q.x);
-    let y = cell_number(n.ny, q.y);
-    let z = cell_number(n.nz, q.z);
-    Cell {
-        x: x as i32,
-        y: y as i32,
-        z: z as i32,
-    }
+    let x = cell_number(n.nx, q.x) as i32;
+    let y = cell_number(n.ny, q.y) as i32;
+    let z = cell_number(n.nz, q.z) as i32;
+    Cell { x, y, z }
 }
 
 // The cell of an end's point, where counts and placement passed their tests.
-pub fn look_up(end: End, n: Counts, at: Placement, point: Point) -> Lookup
+#[tactic(auto, using(crate::proofs::Survey::point_inside), unfolding(crate::specs::Survey::look_up))]
+pub fn look_up(end: End, n: Counts, at: Placement, point: Point) -> Result<Cell, Refusal>
     requires { PlacedGrid n at }
     ensures { result ≡ look_up end n at point }
 {
     let q = quotients(at, point);
-    match check_point(end, n, point, q) {
-        Verdict::Refused(r) => Lookup::Refused(r),
-        Verdict::Fine => Lookup::Cell(cell_at(n, q)),
-    }
+    check_point(end, n, point, q)?;
+    Ok(cell_at(n, q))
 }
 
 // The cell of a surveyed point: refusals 2, 7, then 8 and 9 with P named as the end.
-pub fn cell_of(n: Counts, at: Placement, point: Point) -> Lookup
+#[tactic(auto, unfolding(crate::specs::Survey::cell_of))]
+pub fn cell_of(n: Counts, at: Placement, point: Point) -> Result<Cell, Refusal>
     ensures { LooksUp n at point result }
 {
-    match first_of(grids::check_counts(n), check_placement(at)) {
-        Verdict::Refused(r) => Lookup::Refused(r),
-        Verdict::Fine => look_up(End::P, n, at, point),
-    }
+    grids::check_counts(n)?;
+    check_placement(at)?;
+    look_up(End::P, n, at, point)
 }

@@ -4,14 +4,13 @@ use Rattle.std.specs.Prelude.{Ok, Err, Result}
 use Rattle.cells.specs.declared.Refusal.{Refusal}
 use Rattle.std.specs.Prelude.{ℕ, zero, suc, ◌-◌, ◌*◌, ◌≡◌, cond, List, [], ◌∷◌, ◌⊎◌, length}
 use Rattle.std.proofs.Math.Option.{Option, none, some}
-use Rattle.std.proofs.Common.{inl, inr}
 use Rattle.cells.specs.declared.Axis.{Axis}
 use Rattle.cells.specs.declared.Cell.{Cell}
 use Rattle.cells.specs.declared.Counts.{Counts}
 use Rattle.cells.specs.declared.Manner.{Manner}
 use Rattle.cells.specs.declared.Face.TheVariants as Face
 use Rattle.cells.specs.Checks.{by_verdict}
-use Rattle.cells.specs.Refusals.{Told, told}
+use Rattle.cells.specs.Refusals.{Told, told_of}
 use Rattle.lines.specs.Crossings.{Course, next, place}
 use Rattle.lines.specs.Preference.{Preference, order_of}
 use Rattle.lines.specs.Lines.{differences, face_along, centres, six_cell}
@@ -76,8 +75,10 @@ pub data WalkSaid : Type 0 where
   clear : (reads : ℕ) → WalkSaid
   hit : Hit → WalkSaid
 
+abbrev pub walk_said : FirstHit → WalkSaid
+walk_said (FirstHit.Clear reads) = clear reads
+walk_said (FirstHit.Hit h) = hit h
+
 -- each case of the answer: what is said of a refusal, or what the walk says
 abbrev pub told_hit : Result FirstHit Refusal → Told ⊎ WalkSaid
-told_hit (Err r) = inl (told r)
-told_hit (Ok (FirstHit.Clear reads)) = inr (clear reads)
-told_hit (Ok (FirstHit.Hit h)) = inr (hit h)
+told_hit = told_of walk_said

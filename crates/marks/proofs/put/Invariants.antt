@@ -1,10 +1,7 @@
-use Prim.Native.Nat.{◌+◌, ◌-◌, ◌≤◌}
+use Prim.Native.Nat.{◌+◌}
 use Rattle.cells.specs.Fills.{Filled}
 use Rattle.marks.specs.Rows.{put_byte}
 use Rattle.marks.proofs.put.Given as goal
 
 abbrev pub invariant-loop-x : goal.invariant-loop-x
-invariant-loop-x l = (l.x ≤ l.nx) × Filled (put_byte l.window l.initial.cells l.from) l.from (l.from + l.x) l.initial.cells l.cells
-
-abbrev pub decreases-loop-x : goal.decreases-loop-x
-decreases-loop-x l = l.nx - l.x
+invariant-loop-x l = Filled (put_byte l.window l.initial.cells l.from) l.from (l.from + l.x) l.initial.cells l.cells

@@ -1,12 +1,9 @@
 use mathlib.Core.Bool.{◌||◌}
-use Prim.Native.Nat.{◌+◌, ◌-◌, ◌≤◌}
+use Prim.Native.Nat.{◌+◌}
 use lib.ListN.{get_or}
 use Rattle.grids.specs.Grid.{solid}
 use Rattle.marks.specs.Rows.{Shows, in_rows}
 use Rattle.marks.proofs.raise_rows.Given as goal
 
 abbrev pub invariant-loop-x : goal.invariant-loop-x
-invariant-loop-x l = (l.x ≤ l.nx) × Shows (λ i. solid (get_or l.initial.window (i + 1) 0) || in_rows l.cells l.rows i) l.x l.initial.window l.window
-
-abbrev pub decreases-loop-x : goal.decreases-loop-x
-decreases-loop-x l = l.nx - l.x
+invariant-loop-x l = Shows (λ i. solid (get_or l.initial.window (i + 1) 0) || in_rows l.cells l.rows i) l.x l.initial.window l.window

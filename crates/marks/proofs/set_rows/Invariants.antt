@@ -1,9 +1,5 @@
-use Prim.Native.Nat.{◌-◌, ◌≤◌}
 use Rattle.marks.specs.Rows.{Shows, in_rows}
 use Rattle.marks.proofs.set_rows.Given as goal
 
 abbrev pub invariant-loop-at : goal.invariant-loop-at
-invariant-loop-at l = (l.at ≤ l.nx) × Shows (in_rows l.cells l.rows) l.at l.initial.window l.window
-
-abbrev pub decreases-loop-at : goal.decreases-loop-at
-decreases-loop-at l = l.nx - l.at
+invariant-loop-at l = Shows (in_rows l.cells l.rows) l.at l.initial.window l.window

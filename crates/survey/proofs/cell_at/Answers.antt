@@ -20,14 +20,14 @@ fits count r q h e = let l = h.small in record { sfits = omega (arith, (number_i
 reads_back : (count r : ℕ) (q : Float) → Inside count q → r ≡ cell_number count q → to_z w32 r ≡ pos (cell_number count q)
 reads_back count r q h e = to_z-of_z w32 (pos r) (fits count r q h e) ∙ ap pos e
 
-pub overflow_cast-result : goal.overflow_cast-result
-overflow_cast-result c = fits _ _ _ c.requires.x c.cell_number-x.ensures
+pub overflow_cast-x : goal.overflow_cast-x
+overflow_cast-x c = fits _ _ _ c.requires.x c.cell_number-x.ensures
 
-pub overflow_cast-result-2 : goal.overflow_cast-result-2
-overflow_cast-result-2 c = fits _ _ _ c.requires.y c.cell_number-y.ensures
+pub overflow_cast-y : goal.overflow_cast-y
+overflow_cast-y c = fits _ _ _ c.requires.y c.cell_number-y.ensures
 
-pub overflow_cast-result-3 : goal.overflow_cast-result-3
-overflow_cast-result-3 c = fits _ _ _ c.requires.z c.cell_number-z.ensures
+pub overflow_cast-z : goal.overflow_cast-z
+overflow_cast-z c = fits _ _ _ c.requires.z c.cell_number-z.ensures
 
 pub returns : goal.returns
 returns c =

@@ -1,10 +1,8 @@
 -- `lists::six::fill6` meets its contract: the invariant: m cells are stored, and s is the spot of place m; a turn stores one more and crosses the face that
--- comes next. It holds for every order in which the loop may have started, since the loop itself knows none. The measure is how many crossings are left.
--- Assumes nothing.
+-- comes next. It holds for every order in which the loop may have started, since the loop itself knows none. Assumes nothing.
 use mathlib.Core.Path.{sym, ap, ◌∙◌, subst}
 use Prim.Native.Nat.{◌+◌, ◌*◌, ◌≤◌, ◌<◌}
 use native.Mathlib.Omega.{arith}
-use borrow.Author.Rules.{rules}
 use lib.ListN.{length}
 use Rattle.cells.specs.Tabulate.{tabulate}
 use Rattle.lines.specs.Steps.{total}
@@ -17,7 +15,7 @@ use Rattle.lines.proofs.Centres.{centres_good}
 use Rattle.lists.specs.Lists.{filled}
 use Rattle.lists.specs.Kept.{SixSpotAt}
 use Rattle.lists.proofs.Line.{can_cross}
-use Rattle.lists.proofs.Filling.{C, filled_none, filled_one, filled_last, Begun, begins, six_turn}
+use Rattle.lists.proofs.Filling.{C, filled_next, filled_end, Begun, begins, six_turn}
 use Rattle.lists.proofs.six.fill6.Goals as goal
 use Rattle.lists.proofs.six.fill6.Goals.{After-total-crossings, In-loop-m}
 
@@ -37,14 +35,6 @@ start c =
 below : (c : In-loop-m) → c.loop-m.m < c.total-crossings.result
 below c = omega arith
 
-pub loop-m-init : goal.loop-m-init
-loop-m-init c = λ o p begun. (filled_none _ _ _, begun.spot)
-
-pub put-requires : goal.put-requires
-put-requires c =
-    let earlier = goal.at.put-requires c in
-    omega (arith, (c.loop-m.invariant _ _ (start earlier.After-total-crossings)).0, room earlier.After-total-crossings)
-
 pub crossed-s-requires : goal.crossed-s-requires
 crossed-s-requires c =
     let k = c.requires.0 in
@@ -53,33 +43,17 @@ crossed-s-requires c =
     can_cross o _ _ _ b.way k.p_in k.q_in _ _
     (place_on (C o _ _) (centres_good (prefers o) _) c.loop-m.m (omega (arith, b.count))).1 (c.loop-m.invariant o _ b).1
 
-pub overflow_add-at : goal.overflow_add-at
-overflow_add-at c =
-    let earlier = goal.at.overflow_add-at c in
-    record { fits = omega (arith, (c.loop-m.invariant _ _ (start earlier.After-total-crossings)).0, room earlier.After-total-crossings) }
-
-pub overflow_add-m : goal.overflow_add-m
-overflow_add-m c = record { fits = omega arith }
-
 pub loop-m-preserved : goal.loop-m-preserved
 loop-m-preserved c =
     let earlier = goal.at.loop-m-preserved c in
     λ o p begun.
     let (stored, spot) = c.loop-m.invariant o p begun in (
-      filled_one (six_cell (prefers o) p _) _ _ (room earlier.After-total-crossings) _ _ _ c.loop-m.m _ stored (below earlier.In-loop-m) c.put.ensures
+      filled_next (six_cell (prefers o) p _) _ _ (room earlier.After-total-crossings) _ _ _ c.loop-m.m stored (below earlier.In-loop-m) c.put.ensures
           (spot.cell ∙ sym (six_is (prefers o) p _ c.loop-m.m)),
       subst (SixSpotAt o p _ (place (C o p _) (c.loop-m.m + 1))) (sym c.crossed-s.ensures)
           (six_turn o p _ _ begun.way c.loop-m.m c.loop-m.s _ (subst (λ n. c.loop-m.m < n) begun.count (below earlier.In-loop-m)) spot
           c.next_face.ensures),
     )
-
-pub put-requires-2 : goal.put-requires-2
-put-requires-2 c =
-    let earlier = goal.at.put-requires-2 c in
-    omega (arith, (c.loop-m.invariant _ _ (start earlier.After-total-crossings)).0, room earlier.After-total-crossings)
-
-pub shape_of-out : goal.shape_of-out
-shape_of-out c = let h = (c.loop-m.invariant _ _ (start ((goal.at.shape_of-out c).After-total-crossings))).0 in search (rules, h)
 
 pub returns : goal.returns
 returns c =
@@ -88,6 +62,6 @@ returns c =
     let q = c.args.q in
     let r = prefers (order_of c.args.rule p q) in
     let e = (start earlier.After-total-crossings).count in
-    filled_last (six_cell r p q) _ _ (room earlier.After-total-crossings) _ _ q c.loop-m.m _ (c.loop-m.invariant _ _ (start earlier.After-total-crossings)).0 (omega arith)
+    filled_end (six_cell r p q) _ _ (room earlier.After-total-crossings) _ _ q c.loop-m.m (c.loop-m.invariant _ _ (start earlier.After-total-crossings)).0 (omega arith)
     (ap (six_cell r p q) e ∙ six_end r p q) c.put-2.ensures
     ∙ ap (λ n. filled (tabulate (six_cell r p q) (n + 1)) c.args.out.now) e ∙ ap (λ x. filled x c.args.out.now) (sym (six_line_is r p q))

@@ -8,13 +8,13 @@ use Rattle.lines.specs.Preference.{by_rule}
 use Rattle.lines.specs.Lines.{differences, six_line}
 use Rattle.lines.proofs.Cells.{six_length}
 use Rattle.lists.specs.Lists.{ends_check, Line6}
-use Rattle.lists.proofs.Front.{refused_first, refused_room, listed_all, ends_fine}
+use Rattle.lists.proofs.Front.{refused_room, listed_all, ends_fine}
 use Rattle.lists.proofs.six.line6.Goals as goal
-use Rattle.lists.proofs.six.line6.Goals.{After-total-cells, In-Fine}
+use Rattle.lists.proofs.six.line6.Goals.{After-total-cells, In_ok-check_ends}
 
 -- where both ends have passed
-fine : (c : In-Fine) → ends_check c.args.p c.args.q ≡ Ok tt
-fine c = sym c.check_ends.ensures ∙ c.in-Fine.is
+fine : (c : In_ok-check_ends) → ends_check c.args.p c.args.q ≡ Ok tt
+fine c = sym c.check_ends.ensures ∙ c.in_ok-check_ends.was
 
 -- how many cells there are
 count : (c : After-total-cells) →
@@ -26,26 +26,21 @@ measured-d-requires c = ends_fine _ _ (fine c)
 
 pub fill6-requires : goal.fill6-requires
 fill6-requires c =
-    let (hp, hq) = ends_fine _ _ (fine ((goal.at.fill6-requires c).In-Fine)) in
+    let (hp, hq) = ends_fine _ _ (fine ((goal.at.fill6-requires c).In_ok-check_ends)) in
     (record { p_in = hp; q_in = hq; is = c.measured-d.ensures.0; short = c.measured-d.ensures.1 }, omega arith)
-
-pub returns-in-Refused : goal.returns-in-Refused
-returns-in-Refused c =
-    refused_first (six_line (by_rule c.args.rule c.args.p c.args.q) c.args.p c.args.q) (ends_check c.args.p c.args.q) c.args.out.now _
-    (sym c.check_ends.ensures ∙ c.in-Refused.is)
 
 pub returns-then-out-cells : goal.returns-then-out-cells
 returns-then-out-cells c =
     let earlier = goal.at.returns-then-out-cells c in
     refused_room (six_line (by_rule c.args.rule c.args.p c.args.q) c.args.p c.args.q) (ends_check c.args.p c.args.q)
-    c.args.out.now (fine earlier.In-Fine)
+    c.args.out.now (fine earlier.In_ok-check_ends)
     (omega (arith, six_length (by_rule c.args.rule c.args.p c.args.q) c.args.p c.args.q, count earlier.After-total-cells))
 
-pub returns-else-out-cells : goal.returns-else-out-cells
-returns-else-out-cells c =
-    let earlier = goal.at.returns-else-out-cells c in
+pub returns : goal.returns
+returns c =
+    let earlier = goal.at.returns c in
     let p = c.args.p in
     let q = c.args.q in
     let r = by_rule c.args.rule p q in
     subst (λ n. Line6 c.args.rule p q c.args.out.now (Ok n) c.fill6.new.out) (six_length r p q ∙ ap (λ k. k + 1) (count earlier.After-total-cells))
-    (listed_all (six_line r p q) (ends_check p q) c.args.out.now _ (fine earlier.In-Fine) (omega (arith, six_length r p q, count earlier.After-total-cells)) c.fill6.ensures)
+    (listed_all (six_line r p q) (ends_check p q) c.args.out.now _ (fine earlier.In_ok-check_ends) (omega (arith, six_length r p q, count earlier.After-total-cells)) c.fill6.ensures)

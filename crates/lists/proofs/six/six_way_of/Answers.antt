@@ -30,5 +30,5 @@ returns c =
         y = unit_of p q hp hq Y c.unit_to-y.ensures i;
         z = unit_of p q hp hq Z c.unit_to-z.ensures i;
       };
-      twice = c.twice-twice.ensures ∙ ap doubled is;
+      twice = c.twice.ensures ∙ ap doubled is;
     }

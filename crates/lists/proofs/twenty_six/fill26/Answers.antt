@@ -1,5 +1,5 @@
 -- `lists::twenty_six::fill26` meets its contract: the invariant: m cells are stored, and c are the coordinates of cell m; a turn stores one more and moves each
--- coordinate where that is due. The measure is how many cells are left. Assumes nothing.
+-- coordinate where that is due. Assumes nothing.
 use mathlib.Core.Path.{◌≡◌, sym, ap, ◌∙◌, subst}
 use Prim.Native.Nat.{◌+◌}
 use native.Mathlib.Omega.{arith}
@@ -8,7 +8,7 @@ use Rattle.cells.specs.Tabulate.{tabulate}
 use Rattle.lines.proofs.Cells.{end_26, line_26_is}
 use Rattle.lists.specs.Lists.{filled}
 use Rattle.lists.specs.Kept.{cell_at, paces, firsts, nexts, CanMoves}
-use Rattle.lists.proofs.Filling.{filled_none, filled_one, filled_last}
+use Rattle.lists.proofs.Filling.{filled_none, filled_next, filled_end}
 use Rattle.lists.proofs.Moving.{Paced, paced_cell, paced_first, paced_next, paced_moves}
 use Rattle.lists.proofs.twenty_six.fill26.Goals as goal
 use Rattle.lists.proofs.twenty_six.fill26.Goals.{After-first_coordinates-c, After-next_coordinates-c, After-paces_of-k, At-loop-m}
@@ -62,7 +62,7 @@ pub loop-m-preserved : goal.loop-m-preserved
 loop-m-preserved c =
     let q = c.args.q in
     let m = c.loop-m.m in (
-      filled_one _ _ _ c.requires.2 _ _ _ m _ c.loop-m.invariant.0 c.loop-m-test.true c.put.ensures
+      filled_next _ _ _ c.requires.2 _ _ _ m c.loop-m.invariant.0 c.loop-m-test.true c.put.ensures
           (c.cell_at.ensures ∙ paced_cell _ q m _ c.loop-m.invariant.1),
       subst (λ u. Paced u q (m + 1) c.next_coordinates-c.result) (sym (at_p ((goal.at.loop-m-preserved c).After-first_coordinates-c))) (turned c),
     )
@@ -73,7 +73,7 @@ returns c =
     let p = c.args.p in
     let q = c.args.q in
     let e = last_is earlier.After-paces_of-k in
-    filled_last _ _ _ c.requires.2 _ _ q c.loop-m.m _ c.loop-m.invariant.0 (omega arith)
+    filled_end _ _ _ c.requires.2 _ _ q c.loop-m.m c.loop-m.invariant.0 (omega arith)
     (ap (λ u. cell_26 u q c.args.last) (at_p earlier.After-first_coordinates-c) ∙ ap (cell_26 p q) e ∙ end_26 p q) c.put-2.ensures
     ∙ ap (λ u. filled (tabulate (cell_26 u q) (c.args.last + 1)) c.args.out.now) (at_p earlier.After-first_coordinates-c)
     ∙ ap (λ n. filled (tabulate (cell_26 p q) (n + 1)) c.args.out.now) e ∙ ap (λ x. filled x c.args.out.now) (sym (line_26_is p q))

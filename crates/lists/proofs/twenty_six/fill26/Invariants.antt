@@ -1,4 +1,4 @@
-use Prim.Native.Nat.{◌-◌}
+use Prim.Native.Nat.{◌*◌}
 use Rattle.lines.specs.Lines.{cell_26}
 use Rattle.lists.specs.Kept.{cell_at}
 use Rattle.lists.proofs.Filling.{Filling}
@@ -6,7 +6,4 @@ use Rattle.lists.proofs.Moving.{Paced}
 use Rattle.lists.proofs.twenty_six.fill26.Given as goal
 
 abbrev pub invariant-loop-m : goal.invariant-loop-m
-invariant-loop-m l = Filling (cell_26 (cell_at l.initial.c) l.q) l.last l.initial.out l.out l.m l.at × Paced (cell_at l.initial.c) l.q l.m l.c
-
-abbrev pub decreases-loop-m : goal.decreases-loop-m
-decreases-loop-m l = l.last - l.m
+invariant-loop-m l = Filling (cell_26 (cell_at l.initial.c) l.q) l.last l.initial.out l.out l.m (3 * l.m) × Paced (cell_at l.initial.c) l.q l.m l.c
