@@ -2,17 +2,14 @@
 // number. The bytes are letters that differ by layer, so a part in another place is seen.
 #![tactic(auto)]
 
-use cells::Counts;
+use cells::{Counts, Refusal};
 use grids::LayerPart;
 use std::io;
 
-fn say(rt: &impl Print, p: LayerPart) -> io::Result<()> {
-    match p {
-        LayerPart::Part(start, long) => println!(rt; "{start} {long}"),
-        LayerPart::Refused(r) => {
-            let number = cells::number(r);
-            println!(rt; "refused {number}")
-        }
+fn say(rt: &impl Print, part: Result<LayerPart, Refusal>) -> io::Result<()> {
+    match part {
+        Ok(LayerPart { start, long }) => println!(rt; "{start} {long}"),
+        Err(r) => println!(rt; "refused {}", cells::number(r)),
     }
 }
 
@@ -29,18 +26,8 @@ fn main(rt: HostRuntime) -> io::Result<()> {
         nz: 2,
     };
     let bytes = b"abcdefghijkl";
-    show(&rt, n, bytes, -1)?;
-    show(&rt, n, bytes, 0)?;
-    show(&rt, n, bytes, 1)?;
-    show(&rt, n, bytes, 2)?;
-    show(
-        &rt,
-        Counts {
-            nx: 3,
-            ny: 2,
-            nz: 3,
-        },
-        bytes,
-        0,
-    )
+    for z in -1..=2 {
+        show(&rt, n, bytes, z)?;
+    }
+    show(&rt, Counts { nz: 3, ..n }, bytes, 0)
 }

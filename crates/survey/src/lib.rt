@@ -3,7 +3,6 @@
 
 ghost use Rattle.std.specs.Prelude.{◌≡◌, true, ◌+◌, ◌<◌};
 ghost use Rattle.std.specs.Float.Ieee.{le};
-ghost use Rattle.std.specs.Float.Ieee.Scale.{finite};
 ghost use Rattle.survey.specs.Quotient.{as_f64, quotient, outside, cell_number};
 ghost use Rattle.survey.specs.Search.{Inside, AllInside, Closer};
 ghost use Rattle.survey.specs.Survey.{bad_edge, placement_check, PlacedGrid, quotients, value_check, point_check, cell_at, look_up, LooksUp};

@@ -1,11 +1,9 @@
--- The decimal text of a number: it is the fewest digits, it reads back as the number, and it has no leading zero. Assumes nothing.
-use mathlib.Core.Path.{◌≡◌, refl, sym, subst}
-use mathlib.Core.Bool.{Bool, true, false}
+-- The decimal text of a number is its fewest digits. Assumes nothing.
+use mathlib.Core.Path.{◌≡◌, sym, subst}
 use Prim.Native.Nat.{ℕ, zero, suc, ◌-◌, ◌*◌, ◌/◌, ◌%◌, ◌^◌, ◌≤◌, ◌<◌}
-use native.Mathlib.Nat.{pow-succ', one-le-pow, pow-le-pow_right}
+use native.Mathlib.Nat.{pow-succ', one-le-pow}
 use native.Mathlib.Omega.{arith}
-use lib.Dec.{leb}
-use borrow.Author.Tests.{lt-ltb, le-ltb, leb-true, leb-false}
+use borrow.Author.Tests.{lt-ltb, le-ltb}
 use Rattle.io.specs.Digits.{hex_digit_ascii, last_digits, IsDigitCount}
 use Rattle.texts.specs.Text.{digit, decimal_in, decimal}
 
@@ -41,15 +39,3 @@ in_turns (suc turns) (suc (suc k)) n h f =
 pub fewest_digits : (n k : ℕ) → IsDigitCount 10 1 n k → last_digits 10 k n ≡ decimal n
 unfolding decimal
 fewest_digits n k f = in_turns (suc n) k n (omega arith) f
-
--- a 64-bit number has at most twenty digits
-pub at_most_twenty : (n k : ℕ) → n < 2 ^ 64 → IsDigitCount 10 1 n k → k ≤ 20
-at_most_twenty n k h f = go (leb k 20) refl
-  where
-    go : (b : Bool) → leb k 20 ≡ b → k ≤ 20
-    go true e = leb-true k 20 e
-    go false e =
-        let long : 20 < k = leb-false k 20 e in
-        let least : 10 ^ (k - 1) ≤ n = f.2 (omega arith) in
-        let large : 10 ^ 20 ≤ 10 ^ (k - 1) = pow-le-pow_right {n = 10} (omega arith) {i = 20} {j = k - 1} (omega arith) in
-        absurd (omega arith)

@@ -1,15 +1,15 @@
 // The program's lines as bytes, from a place of a lent slice on.
 #![tactic(auto)]
 
-ghost use Rattle.std.specs.Prelude.{◌≡◌, [], ◌∷◌, ◌++◌, ◌+◌, ◌≤◌, ◌<◌, nat_abs, length};
+ghost use Rattle.std.specs.Prelude.{◌≡◌, [], ◌∷◌, ◌++◌, ◌+◌, ◌≤◌, ◌<◌, length};
 ghost use Rattle.texts.specs.Text.{decimal, signed_decimal, axis_letter, face_word, parted, ended, cell_fields};
 ghost use Rattle.texts.specs.Text.{line_room, hit_line, clear_line, pair_refused_line, venue_refused_line, Puts};
 
 use cells::{Axis, Cell, Face};
 
-const SPACE: u8 = 32;
+const SPACE: u8 = b' ';
 
-const LINE_FEED: u8 = 10;
+const LINE_FEED: u8 = b'\n';
 
 // ---- fields
 
@@ -35,28 +35,19 @@ fn put_number(out: &mut [u8], at: usize, n: u64, after: u8) -> usize
     put_word(out, at, &text[..k], after)
 }
 
-// A number without its sign, in 64 bits: in 32 the least has no opposite.
-fn size(v: i32) -> u64
-    ensures { result ≡ nat_abs v }
-{
-    if v < 0 {
-        (0 - v as i64) as u64
-    } else {
-        v as u64
-    }
-}
-
 // A number that may be below 0, and the byte that parts it from the next.
 fn put_signed(out: &mut [u8], at: usize, v: i32, after: u8) -> usize
     requires { at + 21 < length out.old }
     ensures puts { Puts (signed_decimal v ++ (after ∷ [])) at out.old result out.new }
     ensures upper_bound { result ≤ at + 22 }
 {
+    let size = v.unsigned_abs() as u64;
     if v < 0 {
         buffers::put_byte(out, at, b'-');
-        return put_number(out, at + 1, size(v), after);
+        put_number(out, at + 1, size, after)
+    } else {
+        put_number(out, at, size, after)
     }
-    put_number(out, at, size(v), after)
 }
 
 // The three numbers of a cell.
@@ -86,8 +77,7 @@ fn put_move(out: &mut [u8], at: usize, sign: u8, n: Axis) -> usize
     requires { at + 2 < length out.old }
     ensures { Puts (ended (sign ∷ axis_letter n ∷ [])) at out.old result out.new }
 {
-    let word = [sign, axis_letter(n)];
-    put_word(out, at, &word, LINE_FEED)
+    put_word(out, at, &[sign, axis_letter(n)], LINE_FEED)
 }
 
 // The entry face, which ends a line.
@@ -110,8 +100,7 @@ fn put_walk(out: &mut [u8], at: usize, k: u64, letter: u8) -> usize
     ensures upper_bound { result ≤ at + 23 }
 {
     let next = put_number(out, at, k, SPACE);
-    let name = [letter];
-    put_word(out, next, &name, SPACE)
+    put_word(out, next, &[letter], SPACE)
 }
 
 // The last two fields of a line: a word, and the number that ends the line.

@@ -5,13 +5,10 @@ use Rattle.texts.proofs.Signs.{of_held}
 use borrow.Author.Rules.{rules}
 use Rattle.texts.proofs.put_cell.Goals as goal
 
-pub returns : goal.returns
-returns c =
+pub returns-clause-puts : goal.returns-clause-puts
+returns-clause-puts c =
     let cell = c.args.c in
-    let room = c.requires in
-    let after-x = c.put_signed-after_x.ensures.upper_bound in
-    let after-y = c.put_signed-after_y.ensures.upper_bound in
     let put-x = of_held cell.x (search rules) c.put_signed-after_x.ensures.puts in
     let put-y = of_held cell.y (search rules) c.put_signed-after_y.ensures.puts in
     let put-z = of_held cell.z (search rules) c.put_signed.ensures.puts in
-    record { puts = then_puts (omega arith) (then_puts (omega arith) put-x put-y) put-z; upper_bound = omega (arith, c.put_signed.ensures.upper_bound) }
+    then_puts (omega arith) (then_puts (omega arith) put-x put-y) put-z

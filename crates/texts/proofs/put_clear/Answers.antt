@@ -3,10 +3,5 @@ use native.Mathlib.Omega.{arith}
 use Rattle.texts.proofs.Pieces.{ends_line, clear_pieces}
 use Rattle.texts.proofs.put_clear.Goals as goal
 
-pub returns : goal.returns
-returns c =
-    let a = c.args in
-    let room = c.requires in
-    let said = c.put_walk-said.ensures.upper_bound in
-    let whole = ends_line (clear_pieces a.k a.letter a.reads) (omega arith) c.put_walk-said.ensures.puts c.put_last.ensures.puts in
-    record { puts = whole; upper_bound = omega (arith, c.put_last.ensures.upper_bound) }
+pub returns-clause-puts : goal.returns-clause-puts
+returns-clause-puts c = ends_line (clear_pieces c.args.k c.args.letter c.args.reads) (omega arith) c.put_walk-said.ensures.puts c.put_last.ensures.puts

@@ -4,7 +4,4 @@ use Rattle.texts.proofs.Pieces.{ends_line, pair_pieces}
 use Rattle.texts.proofs.put_pair_refused.Goals as goal
 
 pub returns : goal.returns
-returns c =
-    let room = c.requires in
-    let ended = c.put_last.ensures.puts in
-    ends_line (pair_pieces c.args.k c.args.number) (omega (arith, c.put_number-counted.ensures.upper_bound)) c.put_number-counted.ensures.puts ended
+returns c = ends_line (pair_pieces c.args.k c.args.number) (omega arith) c.put_number-counted.ensures.puts c.put_last.ensures.puts

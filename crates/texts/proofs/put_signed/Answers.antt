@@ -7,22 +7,15 @@ use Rattle.texts.proofs.Pieces.{then_puts, same_piece}
 use Rattle.texts.proofs.Signs.{minus_first, no_minus}
 use Rattle.texts.proofs.put_signed.Goals as goal
 
-pub returns-then-v-lt0 : goal.returns-then-v-lt0
-returns-then-v-lt0 c =
+pub returns-then-v-lt0-clause-puts : goal.returns-then-v-lt0-clause-puts
+returns-then-v-lt0-clause-puts c =
     let a = c.args in
-    let room = c.requires in
-    let text = ap (λ n. minus ∷ decimal n) c.size.ensures ∙ sym (minus_first a.v c.ranges.v c.if-v-lt0.true) in
+    let text = ap (λ n. minus ∷ decimal n) c.unsigned_abs-size.ensures.value ∙ sym (minus_first a.v c.ranges.v c.if-v-lt0.true) in
     let first : Puts (minus ∷ []) a.at a.out.now _ _ = record { says = refl; holds = c.put_byte.ensures } in
-    record {
-      puts = same_piece (ap (λ l. l ++ (a.after ∷ [])) text) (then_puts (omega arith) first c.put_number.ensures.puts);
-      upper_bound = omega (arith, c.put_number.ensures.upper_bound);
-    }
+    same_piece (ap (λ l. l ++ (a.after ∷ [])) text) (then_puts (omega arith) first c.put_number.ensures.puts)
 
-pub returns : goal.returns
-returns c =
+pub returns-else-v-lt0-clause-puts : goal.returns-else-v-lt0-clause-puts
+returns-else-v-lt0-clause-puts c =
     let a = c.args in
-    let text = ap decimal c.size-2.ensures ∙ sym (no_minus a.v c.ranges.v c.if-v-lt0.false) in
-    record {
-      puts = same_piece (ap (λ l. l ++ (a.after ∷ [])) text) c.put_number-2.ensures.puts;
-      upper_bound = omega (arith, c.put_number-2.ensures.upper_bound);
-    }
+    let text = ap decimal c.unsigned_abs-size.ensures.value ∙ sym (no_minus a.v c.ranges.v c.if-v-lt0.false) in
+    same_piece (ap (λ l. l ++ (a.after ∷ [])) text) c.put_number-else-v-lt0.ensures.puts

@@ -4,7 +4,4 @@ use Rattle.texts.proofs.Pieces.{ends_line, venue_pieces}
 use Rattle.texts.proofs.put_venue_refused.Goals as goal
 
 pub returns : goal.returns
-returns c =
-    let room = c.requires in
-    let ended = c.put_last.ensures.puts in
-    ends_line (venue_pieces c.args.number) (omega (arith, c.put_word-said.ensures.says)) c.put_word-said.ensures ended
+returns c = ends_line (venue_pieces c.args.number) (omega arith) c.put_word-said.ensures c.put_last.ensures.puts

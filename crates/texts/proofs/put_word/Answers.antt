@@ -4,7 +4,6 @@ use mathlib.Core.List.{[], ◌∷◌}
 use native.Mathlib.Omega.{arith}
 use lib.ListN.{length-append}
 use Rattle.buffers.proofs.Over.{then_over}
-use borrow.Author.Rules.{rules}
 use Rattle.texts.proofs.put_word.Goals as goal
 
 pub returns : goal.returns
@@ -12,5 +11,5 @@ returns c =
     let a = c.args in
     record {
       says = omega (arith, length-append a.word.now (a.after ∷ []));
-      holds = then_over a.at a.word.now (a.after ∷ []) a.out.now (search rules) c.put.ensures refl c.put_byte.ensures;
+      holds = then_over a.at a.word.now (a.after ∷ []) a.out.now (omega arith) c.put.ensures refl c.put_byte.ensures;
     }
