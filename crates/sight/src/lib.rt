@@ -41,7 +41,7 @@ fn share(num: u32, den: u32) -> f64
 
 // What a walk tells of the sight.
 fn sight_of(h: FirstHit) -> Sight
-    ensures { result ≡ sight_of h }
+    ensures { result ≡ sight_of (Ok h) }
 {
     match h {
         FirstHit::Clear(_) => Sight::Clear,

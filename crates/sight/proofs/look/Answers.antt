@@ -5,27 +5,24 @@ use Rattle.sight.proofs.Seen.{camera_refused, ball_refused, both_found}
 use Rattle.sight.proofs.Walkable.{walkable}
 use Rattle.sight.proofs.look.Goals as goal
 
-pub returns-in-Refused : goal.returns-in-Refused
-returns-in-Refused c =
+pub returns-in_default : goal.returns-in_default
+returns-in_default c =
     let a = c.args in
-    sym (camera_refused a.how a.n a.cells.now a.at a.camera a.ball c.look_up-from.ensures
-    (c.in_default.is ∙ c.in-Refused.is))
+    sym (camera_refused a.how a.n a.cells.now a.at a.camera a.ball c.look_up-from.ensures c.unwrap_err.ensures)
 
-pub returns-in-Refused-to : goal.returns-in-Refused-to
-returns-in-Refused-to c =
+pub returns-in_default-to : goal.returns-in_default-to
+returns-in_default-to c =
     let a = c.args in
     sym
-    (ball_refused a.how a.n a.cells.now a.at a.camera a.ball
-    c.look_up-from.ensures
-    c.in-Cell.is
-    c.look_up-to.ensures (c.in_default-to.is ∙ c.in-Refused-to.is))
+    (ball_refused a.how a.n a.cells.now a.at a.camera a.ball c.look_up-from.ensures c.in-Ok.is c.look_up-to.ensures
+    c.unwrap_err-in_default-to.ensures)
 
 pub walked-requires : goal.walked-requires
 walked-requires c =
     let a = c.args in
     walkable a.n _ a.at a.camera a.ball _ _ c.requires.0 c.requires.1
-    (sym c.look_up-from.ensures ∙ c.in-Cell.is)
-    (sym c.look_up-to.ensures ∙ c.in-Cell-to.is)
+    (sym c.look_up-from.ensures ∙ c.in-Ok.is)
+    (sym c.look_up-to.ensures ∙ c.in-Ok-to.is)
 
 pub returns : goal.returns
 returns c =
@@ -34,6 +31,6 @@ returns c =
     sym
     (both_found a.how a.n a.cells.now a.at a.camera a.ball
     c.look_up-from.ensures
-    c.in-Cell.is
-    c.look_up-to.ensures c.in-Cell-to.is
+    c.in-Ok.is
+    c.look_up-to.ensures c.in-Ok-to.is
     c.walked.ensures.says)
