@@ -5,7 +5,7 @@ use native.Mathlib.Omega.{arith}
 use mathlib.Core.Path.{refl}
 use Rattle.cells.specs.declared.Counts.{Counts}
 use Rattle.grids.specs.Grid.{size}
-use Rattle.grids.specs.Inside.{Good, Counted, Shaped}
+use Rattle.grids.specs.Inside.{Good, Shaped}
 use Rattle.grids.proofs.Places.{index_below}
 use Rattle.bricks.specs.Bricks.{bricks, brick_there}
 
@@ -44,24 +44,3 @@ module _ (n : Counts) (bytes : ℕ) (s : Shaped n bytes) where
         size_most = mul-le-mul per gz.most;
         layer_some = mul-le-mul gx.some gy.some;
       }
-
--- the products that lead to the number of bricks
-pub record SizeBounds (b : Counts) : Type 0 where
-  pub layer : b.nx * b.ny ≤ 1048576
-  pub all : size b ≤ 1073741824
-
-pub size_bounds : (n : Counts) → Counted n → SizeBounds (bricks n)
-size_bounds n c =
-    let per : (bricks n).nx * (bricks n).ny ≤ 1024 * 1024 = mul-le-mul (bricked n.nx c.x).most (bricked n.ny c.y).most in
-    record { layer = per; all = mul-le-mul per (bricked n.nz c.z).most }
-
--- the products that lead to a number, in a grid of at most 1,024 a side
-pub record IndexBounds (n : Counts) (y z : ℕ) : Type 0 where
-  pub layer : n.ny * z ≤ 1048576
-  pub start : n.nx * (y + n.ny * z) ≤ 1074790400
-
-pub index_bounds : (n : Counts) (y z : ℕ) → n.nx ≤ 1024 → n.ny ≤ 1024 → y ≤ 1024 → z ≤ 1024 → IndexBounds n y z
-index_bounds n y z hx hy by bz =
-    let layer : n.ny * z ≤ 1024 * 1024 = mul-le-mul hy bz in
-    let rows : y + n.ny * z ≤ 1049600 = omega arith in
-    record { layer = layer; start = mul-le-mul hx rows }

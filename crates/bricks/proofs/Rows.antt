@@ -98,14 +98,3 @@ row_in_whole l from row layer r e =
     let ey : r ≡ (4 * r + d) / 4 = omega arith in
     let ez : r / 4 ≡ (4 * r + d) / 16 = omega arith in
     λ i. solid (get_or l (from + row * (ey i % 4) + layer * ez i + ex i) 0))
-
--- and where it lies
-pub row_of_whole :
-    (from row layer r long : ℕ) → r < 16 → from + row * 3 + layer * 3 + 4 ≤ long →
-    (row * (r % 4) ≤ row * 3) × (layer * (r / 4) ≤ layer * 3) × (from + row * (r % 4) + layer * (r / 4) + 4 ≤ long)
-row_of_whole from row layer r long h fits =
-    let y : r % 4 ≤ 3 = omega arith in
-    let z : r / 4 ≤ 3 = omega arith in
-    let rows : row * (r % 4) ≤ row * 3 = mul-le-mul_left row y in
-    let layers : layer * (r / 4) ≤ layer * 3 = mul-le-mul_left layer z in
-    (rows, layers, omega arith)

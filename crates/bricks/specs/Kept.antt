@@ -1,6 +1,5 @@
 -- SCOPE K6: what holds from a build on: between counts, bytes, masks and total. Assumes nothing.
-use Rattle.std.specs.Prelude.{Ok}
-use Rattle.std.specs.Prelude.{ℕ, ◌≤◌, ◌<◌, ◌≡◌, List, length, get_or}
+use Rattle.std.specs.Prelude.{Ok, ℕ, ◌≤◌, ◌<◌, ◌≡◌, List, length, get_or}
 use Rattle.cells.specs.declared.Counts.{Counts}
 use Rattle.grids.specs.Grid.{shape, size}
 use Rattle.bricks.specs.Bricks.{bricks, mask_at, solids}

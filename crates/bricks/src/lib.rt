@@ -1,7 +1,7 @@
 // Solid counts that are kept: masks of bricks, a bit for each cell, and how many ones they have together. The build.
 #![tactic(auto)]
 
-ghost use Rattle.std.specs.Prelude.{◌+◌, ◌*◌, ◌≤◌, ◌<◌, ◌≡◌, true, length, get_or};
+ghost use Rattle.std.specs.Prelude.{◌+◌, ◌*◌, ◌≤◌, ◌<◌, ◌≡◌, Ok, true, length, get_or};
 ghost use Rattle.std.specs.Int.Count.{ones};
 ghost use Rattle.cells.specs.Fills.{Filled};
 ghost use Rattle.grids.specs.Grid.{shape, solid, size, index};
@@ -11,14 +11,7 @@ ghost use Rattle.bricks.specs.Bricks.{bricks, solid_at, mask_of, mask_at};
 ghost use Rattle.bricks.specs.Rows.{solid_from, brick_number, RowOfBricks};
 ghost use Rattle.bricks.specs.Builds.{bricks_check, Builds};
 
-use cells::{Counts, Refusal, Verdict};
-
-// The answer of the calls that keep counts: the total of solid cells, or why there is none.
-#[derive(Clone, Copy)]
-pub enum Tally {
-    Total(u64),
-    Refused(Refusal),
-}
+use cells::{Counts, Refusal};
 
 // A cell of the grid, or a brick, by natural numbers.
 #[derive(Clone, Copy)]
@@ -34,7 +27,7 @@ pub struct Slot {
 pub fn ones(mask: u64) -> u64
     ensures { (result ≡ ones mask) × (result ≤ 64) }
 {
-    u64::count_ones(mask) as u64
+    mask.count_ones() as u64
 }
 
 // 1 for a solid byte, else 0.
@@ -45,6 +38,7 @@ fn one(b: u8) -> u64
 }
 
 // The bits of four cells that stand in a row, the first at from.
+#[tactic(auto, unfolding(crate::specs::Sums::sum))]
 fn four_bits(cells: &[u8], from: usize) -> u64
     requires { from + 4 ≤ length cells.now }
     ensures { result ≡ number_of (λ d. solid (get_or cells.now (from + d) 0)) 4 }
@@ -55,32 +49,28 @@ fn four_bits(cells: &[u8], from: usize) -> u64
         + 8 * one(cells[from + 3])
 }
 
-// The bits of up to four cells that stand in a row, the first at from.
+// The bits of up to four cells that stand in a row, the first at from. Beside `four_bits`, which is quicker with no loop: most rows are whole.
+#[tactic(auto, using(crate::proofs::Sums::sum_none))]
 fn few_bits(cells: &[u8], from: usize, long: usize) -> u64
     requires { (from + long ≤ length cells.now) × (long ≤ 4) }
     ensures { result ≡ number_of (λ d. solid (get_or cells.now (from + d) 0)) long }
 {
     let mut bits = 0u64;
-    let mut d = 0;
-    while d < long {
+    for d in 0..long {
         bits += one(cells[from + d]) << d;
-        d += 1;
     }
     bits
 }
 
 // The bits of four cells from x on, those beyond the grid 0.
 fn row_bits(n: Counts, cells: &[u8], x: usize, y: usize, z: usize) -> u64
-    requires shaped { shape n (length cells.now) ≡ Verdict.Fine }
+    requires shaped { shape n (length cells.now) ≡ Ok tt }
     requires inside { x < n.nx }
     ensures { result ≡ number_of (λ d. solid_at n cells.now (x + d) y z) 4 }
 {
     let nx = n.nx as usize;
     let ny = n.ny as usize;
-    if ny <= y {
-        return 0;
-    }
-    if n.nz as usize <= z {
+    if ny <= y || n.nz as usize <= z {
         return 0;
     }
     let from = x + nx * (y + ny * z);
@@ -92,31 +82,30 @@ fn row_bits(n: Counts, cells: &[u8], x: usize, y: usize, z: usize) -> u64
 
 // ---- bricks
 
-// The mask of a brick that may reach beyond the grid, row by row.
+// The mask of a brick that may reach beyond the grid, row by row. Beside `whole_mask`: the build took 1.5 times as long as plain C with a test
+// of each row, and 0.85 times where whole bricks have none.
+#[tactic(auto, using(crate::proofs::Sums::sum_none))]
 fn part_mask(n: Counts, cells: &[u8], bx: usize, by: usize, bz: usize) -> u64
-    requires shaped { shape n (length cells.now) ≡ Verdict.Fine }
+    requires shaped { shape n (length cells.now) ≡ Ok tt }
     requires starts_inside { (4 * bx < n.nx) × (4 * by < n.ny) × (4 * bz < n.nz) }
     ensures { result ≡ mask_of n cells.now bx by bz }
 {
     let mut mask = 0u64;
-    let mut r = 0;
-    while r < 16 {
+    for r in 0..16 {
         mask += row_bits(n, cells, 4 * bx, 4 * by + r % 4, 4 * bz + r / 4) << (4 * r);
-        r += 1;
     }
     mask
 }
 
 // The mask of a brick that lies in the grid whole, its first byte at from, the next row and the next layer so many bytes on: no row of it is tested.
+#[tactic(auto, using(crate::proofs::Sums::sum_none))]
 fn whole_mask(cells: &[u8], from: usize, row: usize, layer: usize) -> u64
     requires { from + row * 3 + layer * 3 + 4 ≤ length cells.now }
     ensures { result ≡ number_of (solid_from cells.now from row layer) 64 }
 {
     let mut mask = 0u64;
-    let mut r = 0;
-    while r < 16 {
+    for r in 0..16 {
         mask += four_bits(cells, from + row * (r % 4) + layer * (r / 4)) << (4 * r);
-        r += 1;
     }
     mask
 }
@@ -127,18 +116,12 @@ fn is_whole(n: Counts, bx: usize, by: usize, bz: usize) -> bool
     requires counted { Counted n }
     ensures { result ≡ true → (4 * bx + 4 ≤ n.nx) × (4 * by + 4 ≤ n.ny) × (4 * bz + 4 ≤ n.nz) }
 {
-    if (n.nx as usize) < 4 * bx + 4 {
-        return false;
-    }
-    if (n.ny as usize) < 4 * by + 4 {
-        return false;
-    }
-    4 * bz + 4 <= n.nz as usize
+    4 * bx + 4 <= n.nx as usize && 4 * by + 4 <= n.ny as usize && 4 * bz + 4 <= n.nz as usize
 }
 
 // The mask of the brick (bx, by, bz).
 pub fn mask_of(n: Counts, cells: &[u8], bx: usize, by: usize, bz: usize) -> u64
-    requires shaped { shape n (length cells.now) ≡ Verdict.Fine }
+    requires shaped { shape n (length cells.now) ≡ Ok tt }
     requires starts_inside { (4 * bx < n.nx) × (4 * by < n.ny) × (4 * bz < n.nz) }
     ensures { result ≡ mask_of n cells.now bx by bz }
 {
@@ -186,26 +169,24 @@ pub fn index_in(n: Counts, c: Slot) -> usize
 
 // Puts the masks of `long` bricks in a row along x, the first of them `at`, into the lent memory; answers their ones.
 pub fn fill_masks(n: Counts, cells: &[u8], masks: &mut [u64], at: Slot, long: usize) -> u64
-    requires shaped { shape n (length cells.now) ≡ Verdict.Fine }
+    requires shaped { shape n (length cells.now) ≡ Ok tt }
     requires row_of_bricks { RowOfBricks n at long × (size (bricks n) ≤ length masks.old) }
     ensures value { (result ≡ sum (λ i. ones (mask_at n cells.now (brick_number n at + i))) long) × (result ≤ 64 * long) }
     ensures filled { Filled (mask_at n cells.now) (brick_number n at) (brick_number n at + long) masks.old masks.new }
 {
     let from = index_in(bricks_of(n), at);
     let mut found = 0u64;
-    let mut d = 0;
-    while d < long {
+    for d in 0..long {
         let mask = mask_of(n, cells, at.x + d, at.y, at.z);
         masks[from + d] = mask;
         found += ones(mask);
-        d += 1;
     }
     found
 }
 
 // Puts the masks of all bricks into the front of the lent memory, row by row; answers their ones.
 fn fill_all(n: Counts, cells: &[u8], masks: &mut [u64]) -> u64
-    requires shaped { shape n (length cells.now) ≡ Verdict.Fine }
+    requires shaped { shape n (length cells.now) ≡ Ok tt }
     requires room { size (bricks n) ≤ length masks.old }
     ensures value { result ≡ sum (λ k. ones (mask_at n cells.now k)) (size (bricks n)) }
     ensures filled { Filled (mask_at n cells.now) 0 (size (bricks n)) masks.old masks.new }
@@ -213,43 +194,34 @@ fn fill_all(n: Counts, cells: &[u8], masks: &mut [u64]) -> u64
     let b = bricks_of(n);
     let wide = b.nx as usize;
     let tall = b.ny as usize;
-    let all = tall * b.nz as usize;
     let mut found = 0u64;
-    let mut r = 0;
-    while r < all {
+    for r in 0..tall * b.nz as usize {
         let at = Slot {
             x: 0,
             y: r % tall,
             z: r / tall,
         };
         found += fill_masks(n, cells, masks, at, wide);
-        r += 1;
     }
     found
 }
 
 // Refusals 2, 3, then 6.
-pub fn check_bricks(n: Counts, bytes: usize, lent: usize) -> Verdict
+#[tactic(auto, unfolding(crate::specs::Builds::bricks_check))]
+pub fn check_bricks(n: Counts, bytes: usize, lent: usize) -> Result<(), Refusal>
     ensures { result ≡ bricks_check n bytes lent }
 {
-    match grids::shape(n, bytes) {
-        Verdict::Refused(r) => Verdict::Refused(r),
-        Verdict::Fine => {
-            if lent < brick_count(n) {
-                Verdict::Refused(Refusal::Room)
-            } else {
-                Verdict::Fine
-            }
-        }
+    grids::shape(n, bytes)?;
+    if lent < brick_count(n) {
+        return Err(Refusal::Room);
     }
+    Ok(())
 }
 
 // The masks of all bricks, at the front of the lent memory; answers the total of solid cells.
-pub fn build(n: Counts, cells: &[u8], masks: &mut [u64]) -> Tally
+pub fn build(n: Counts, cells: &[u8], masks: &mut [u64]) -> Result<u64, Refusal>
     ensures { Builds n cells.now masks.old result masks.new }
 {
-    match check_bricks(n, cells.len(), masks.len()) {
-        Verdict::Refused(r) => Tally::Refused(r),
-        Verdict::Fine => Tally::Total(fill_all(n, cells, masks)),
-    }
+    check_bricks(n, cells.len(), masks.len())?;
+    Ok(fill_all(n, cells, masks))
 }

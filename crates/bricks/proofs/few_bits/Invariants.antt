@@ -1,4 +1,4 @@
-use Prim.Native.Nat.{ℕ, ◌+◌, ◌-◌, ◌≤◌}
+use Prim.Native.Nat.{ℕ, ◌+◌}
 use mathlib.Core.Path.{◌≡◌}
 use mathlib.Core.Bool.{Bool}
 use mathlib.Core.List.{List}
@@ -12,7 +12,4 @@ abbrev pub bits_from : List ℕ → ℕ → ℕ → Bool
 bits_from cells from d = solid (get_or cells (from + d) 0)
 
 abbrev pub invariant-loop-d : goal.invariant-loop-d
-invariant-loop-d l = (l.d ≤ l.long) × (l.bits ≡ number_of (bits_from l.cells l.from) l.d)
-
-abbrev pub decreases-loop-d : goal.decreases-loop-d
-decreases-loop-d l = l.long - l.d
+invariant-loop-d l = l.bits ≡ number_of (bits_from l.cells l.from) l.d

@@ -1,4 +1,4 @@
-use Prim.Native.Nat.{◌-◌, ◌*◌, ◌≤◌}
+use Prim.Native.Nat.{◌*◌, ◌≤◌}
 use mathlib.Core.Path.{◌≡◌}
 use lib.Count.{ones}
 use Rattle.cells.specs.Fills.{Filled}
@@ -7,7 +7,8 @@ use Rattle.bricks.specs.Bricks.{mask_at}
 use Rattle.bricks.proofs.fill_all.Given as goal
 
 abbrev pub invariant-loop-r : goal.invariant-loop-r
-invariant-loop-r l = (l.r ≤ l.all) × Filled (mask_at l.n l.cells) 0 (l.wide * l.r) l.initial.masks l.masks × (l.found ≡ sum (λ k. ones (mask_at l.n l.cells k)) (l.wide * l.r)) × (l.found ≤ 65536 * l.r)
-
-abbrev pub decreases-loop-r : goal.decreases-loop-r
-decreases-loop-r l = l.all - l.r
+invariant-loop-r l = record {
+  filled : Filled (mask_at l.n l.cells) 0 (l.wide * l.r) l.initial.masks l.masks;
+  value : l.found ≡ sum (λ k. ones (mask_at l.n l.cells k)) (l.wide * l.r);
+  most : l.found ≤ 65536 * l.r;
+}

@@ -1,4 +1,4 @@
-use Prim.Native.Nat.{◌+◌, ◌-◌, ◌*◌, ◌≤◌}
+use Prim.Native.Nat.{◌+◌, ◌*◌, ◌≤◌}
 use mathlib.Core.Path.{◌≡◌}
 use lib.Count.{ones}
 use Rattle.cells.specs.Fills.{Filled}
@@ -7,7 +7,8 @@ use Rattle.bricks.specs.Bricks.{mask_at}
 use Rattle.bricks.proofs.fill_masks.Given as goal
 
 abbrev pub invariant-loop-d : goal.invariant-loop-d
-invariant-loop-d l = (l.d ≤ l.long) × Filled (mask_at l.n l.cells) l.from (l.from + l.d) l.initial.masks l.masks × (l.found ≡ sum (λ i. ones (mask_at l.n l.cells (l.from + i))) l.d) × (l.found ≤ 64 * l.d)
-
-abbrev pub decreases-loop-d : goal.decreases-loop-d
-decreases-loop-d l = l.long - l.d
+invariant-loop-d l = record {
+  filled : Filled (mask_at l.n l.cells) l.from (l.from + l.d) l.initial.masks l.masks;
+  value : l.found ≡ sum (λ i. ones (mask_at l.n l.cells (l.from + i))) l.d;
+  most : l.found ≤ 64 * l.d;
+}

@@ -6,29 +6,21 @@ use lib.ListN.{length}
 use Rattle.grids.proofs.Shapes.{shaped}
 use Rattle.bricks.proofs.Rows.{RowBounds, row_bounds, row_beyond_y, row_beyond_z, row_is}
 use Rattle.bricks.proofs.row_bits.Goals as goal
-use Rattle.bricks.proofs.row_bits.Goals.{Else-n-z}
+use Rattle.bricks.proofs.row_bits.Goals.{Else-n-z, then-ny-y-via-then-ny-y, then-ny-y-via-else-ny-y+then-n-z}
 
 pub returns-then-ny-y : goal.returns-then-ny-y
 returns-then-ny-y c =
     let a = c.args in
-    row_beyond_y a.n a.cells.now a.x a.y a.z c.if-ny-y.true
-
-pub returns-then-n-z : goal.returns-then-n-z
-returns-then-n-z c =
-    let a = c.args in
-    row_beyond_z a.n a.cells.now a.x a.y a.z c.if-n-z.true
+    elim c.then-ny-y.branch [
+      | then-ny-y-via-then-ny-y w ↦ row_beyond_y a.n a.cells.now a.x a.y a.z w.if-ny-y.true
+      | then-ny-y-via-else-ny-y+then-n-z w ↦ row_beyond_z a.n a.cells.now a.x a.y a.z w.if-n-z.true
+    ]
 
 -- past both tests the row lies within the grid
 within : (c : Else-n-z) → let a = c.args in RowBounds a.n (length a.cells.now) a.y a.z
 within c =
     let a = c.args in
     row_bounds a.n (length a.cells.now) a.y a.z (shaped _ _ c.requires.shaped) c.if-ny-y.false c.if-n-z.false
-
-pub overflow_mul-from : goal.overflow_mul-from
-overflow_mul-from c = let b = within c in omega arith
-
-pub overflow_add-from : goal.overflow_add-from
-overflow_add-from c = let b = within c in omega arith
 
 pub overflow_mul-from-2 : goal.overflow_mul-from-2
 overflow_mul-from-2 c = let b = within c in omega arith
