@@ -1,5 +1,5 @@
 -- How the answers of marking, completeness and layers are flattened for C: what SCOPE says of them, as numbers. Assumes nothing.
-use Rattle.std.specs.Prelude.{Ok, Err, Result}
+use Rattle.std.specs.Prelude.{Bool, true, false, Ok, Err, Result}
 use Rattle.cells.specs.declared.Refusal.{Refusal}
 use Rattle.cells.specs.Checks.{Verdict}
 use Rattle.grids.specs.declared.LayerPart.{LayerPart}
