@@ -16,8 +16,7 @@ use Rattle.cells.specs.declared.Counts.{Counts}
 use Rattle.cells.specs.declared.End.{End}
 use Rattle.cells.specs.declared.End.TheVariants.{P, Q}
 use Rattle.cells.specs.declared.Refusal.TheVariants.{Count, Bytes, OffGrid, Room, Stale, Corners}
-use Rattle.cells.specs.Checks.{Verdict}
-use Rattle.cells.specs.Checks.{◌then◌, by_verdict}
+use Rattle.cells.specs.Checks.{Verdict, ◌then◌, by_verdict}
 use Rattle.cells.specs.Refusals.{told}
 use Rattle.cells.proofs.Tabulate.{is_tabulate}
 use Rattle.cells.proofs.Checks.{by_fine, fine_first, fine_rest, passed, NotBy, not_then, not_first, not_when}
@@ -32,8 +31,7 @@ use Rattle.bricks.proofs.CellBits.{masks_alike}
 use Rattle.bricks.proofs.Bricked.{brick_below}
 use Rattle.refills.specs.Boxes.{corner, in_box_at, box_put}
 use Rattle.refills.specs.Rows.{Boxed}
-use Rattle.refills.specs.Refills.{holds_named, refilled, remasked, ones_in, moved, crossed, box_check, differs_in}
-use Rattle.refills.specs.Refills.{stale, stale_check, Refills, Sets}
+use Rattle.refills.specs.Refills.{holds_named, refilled, remasked, ones_in, moved, crossed, box_check, differs_in, stale, stale_check, Refills, Sets}
 use Rattle.refills.proofs.Boxes.{put_long, put_inside, put_outside, brick_holds}
 use Rattle.refills.proofs.Checked.{counts_shaped, boxed}
 use Rattle.refills.proofs.Keeping.{total_fits, agrees}

@@ -83,17 +83,17 @@ differs_is n l m lo hi box = sym (any_box (bricks n) lo hi box (differs n l m))
 differs_not_ones : (t : ℕ) → None ≡ Some t → ⊥
 differs_not_ones t e = let z : ◌≡◌ {A = ℕ} 0 1 = cc in omega arith
 
--- an answer that is Ones has found no wrong mask, and gives the sum
+-- an answer with ones has found no wrong mask, and gives the sum
 pub ones_tells : (t : Bool) (a b : ℕ) → Some a ≡ agreed t b → (t ≡ false) × (a ≡ b)
 ones_tells true a b e = absurd (differs_not_ones a (sym e))
 ones_tells false a b e = (refl, cc)
 
--- and one that is Differs has found one
+-- and one with none has found one
 pub differs_tells : (t : Bool) (b : ℕ) → None ≡ agreed t b → t ≡ true
 differs_tells true b e = refl
 differs_tells false b e = absurd (differs_not_ones b e)
 
--- one row of the box more: it answered Differs, or Ones
+-- one row of the box more: it answered with its ones, or with none
 
 -- row r of the box has a wrong mask
 abbrev pub row_wrong : Counts → List ℕ → List ℕ → Slot → Slot → ℕ → Bool

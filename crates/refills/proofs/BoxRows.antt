@@ -12,11 +12,9 @@ use Rattle.cells.proofs.Tabulate.{is_tabulate}
 use Rattle.grids.specs.Grid.{size, index}
 use Rattle.grids.proofs.Places.{rest_of, whole_of, index_below, index_of_cell}
 use Rattle.bricks.specs.declared.Slot.{Slot}
-use Rattle.bricks.specs.Bricks.{bricks}
-use Rattle.bricks.specs.Rows.{RowOfBricks}
 use Rattle.cells.specs.Fills.{Filled}
 use Rattle.refills.specs.Boxes.{in_box_at, box_put}
-use Rattle.refills.specs.Rows.{Boxed, In, wide, tall, deep, rows, row_slot, row_start, row_number, BoxFilled}
+use Rattle.refills.specs.Rows.{Boxed, In, wide, tall, deep, rows, row_start, row_number, BoxFilled}
 use Rattle.refills.proofs.Boxes.{is_in, passes, row_below}
 
 -- row r lies at lo.y + r % tall, lo.z + r / tall
@@ -138,14 +136,3 @@ rows_most lo hi hy hz =
     let y : tall lo hi ≤ 1024 = omega arith in
     let z : deep lo hi ≤ 1024 = omega arith in
     mul-le-mul y z
-
--- a row of a box of bricks is a row of bricks
-pub row_of_box : (n : Counts) (lo hi : Slot) → Boxed (bricks n) lo hi → (r : ℕ) → r < rows lo hi → RowOfBricks n (row_slot lo hi r) (wide lo hi)
-row_of_box n lo hi box r h =
-    let x = box.x in
-    let y = box.y in
-    let z = box.z in
-    let i = row_in (bricks n) lo hi box r 0 h (omega arith) in
-    let iy = i.up in
-    let iz = i.deep in
-    record { x = omega arith; some = omega arith; y = omega arith; z = omega arith }

@@ -2,7 +2,7 @@
 use Rattle.std.specs.Prelude.{Ok, Err, Result}
 use Prim.Native.Nat.{ℕ, ◌≤◌, ◌<◌}
 use native.Mathlib.Omega.{arith}
-use mathlib.Core.Path.{◌≡◌}
+use mathlib.Core.Path.{◌≡◌, sym, ap, ◌∙◌}
 use mathlib.Core.Bool.{false}
 use mathlib.Core.List.{List}
 use lib.IntN.{ℤ, pos, nat_abs}
@@ -15,7 +15,7 @@ use Rattle.cells.specs.declared.End.TheVariants.{P, Q}
 use Rattle.cells.specs.declared.Refusal.{Refusal}
 use Rattle.cells.specs.declared.Refusal.TheVariants.{Corners}
 use Rattle.cells.specs.Checks.{refuse_when, ◌then◌}
-use Rattle.cells.proofs.Checks.{fine_first, fine_rest, passed}
+use Rattle.cells.proofs.Checks.{fine_first, fine_rest, passed, then_assoc}
 use Rattle.cells.proofs.Signed.{lt_z_false, abs_is}
 use Rattle.grids.specs.Inside.{off_axis, InGrid, grid_check, Shaped}
 use Rattle.grids.proofs.Any.{or_neither}
@@ -87,12 +87,17 @@ module _ (n : Counts) (bytes lent : ℕ) (low high : Cell) (e : box_check n byte
           let eb = abs_is b in
           omega arith
 
+-- where the ends are refused, the corners are not looked at
+pub ends_refused :
+    (n : Counts) (bytes lent : ℕ) (low high : Cell) (r : Refusal) → bricks_check n bytes lent ≡ Ok tt →
+    (grid_check P n low then grid_check Q n high) ≡ Err r → box_check n bytes lent low high ≡ Err r
+unfolding box_check
+ends_refused n bytes lent low high r fits e =
+    rw fits (sym (then_assoc (grid_check P n low) (grid_check Q n high) _) ∙ ap (λ v. v then refuse_when (crossed low high) Corners) e)
+
 -- ---- the ways out
 
 module _ (n : Counts) (low high : Cell) (byte : ℕ) (l m : List ℕ) (total : ℕ) where
-  pub refused_before : (r : Refusal) → box_check n (length l) (length m) low high ≡ Err r → Refills n low high byte l m total (Err r) l m
-  refused_before r e = record { says = rw e; bytes = rw e; masks = rw e }
-
   pub looked_at :
       (r : Result ℕ Refusal) (l' m' : List ℕ) → box_check n (length l) (length m) low high ≡ Ok tt →
       Changes (stale_check n (corner low) (corner high) l m total) n (corner low) (corner high) byte l m total r l' m' →

@@ -1,16 +1,14 @@
 -- SCOPE K5, K7, R13, R14, O9: a box is refilled with one byte, the masks of its bricks are made anew, and the total moves as their ones do; and
 -- what is refused. A set is the refill of one cell. Assumes nothing.
-use Rattle.std.specs.Prelude.{Ok, Err, Result}
+use Rattle.std.specs.Prelude.{Ok, Err, Result, ℕ, ◌+◌, ◌-◌, ◌*◌, ◌≡◌, Bool, not, ◌&&◌, ◌||◌, List, ltb, eqb, length, get_or}
 use Rattle.cells.specs.declared.Refusal.{Refusal}
-use Rattle.std.specs.Prelude.{ℕ, ◌+◌, ◌-◌, ◌*◌, ◌≡◌, Bool, not, ◌&&◌, ◌||◌, List, ltb, eqb, length, get_or}
 use Rattle.std.specs.Int.Count.{ones}
 use Rattle.std.specs.Int.Signed.{lt_z}
 use Rattle.cells.specs.declared.Cell.{Cell}
 use Rattle.cells.specs.declared.Counts.{Counts}
 use Rattle.cells.specs.declared.End.TheVariants.{P, Q}
 use Rattle.cells.specs.declared.Refusal.TheVariants.{Stale, Corners}
-use Rattle.cells.specs.Checks.{Verdict}
-use Rattle.cells.specs.Checks.{refuse_when, ◌then◌, by_verdict}
+use Rattle.cells.specs.Checks.{Verdict, refuse_when, ◌then◌, by_verdict}
 use Rattle.grids.specs.Grid.{size}
 use Rattle.grids.specs.Inside.{grid_check}
 use Rattle.grids.specs.Marks.{any}

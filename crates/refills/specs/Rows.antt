@@ -1,8 +1,7 @@
 -- How the code goes through a box: rows along x, first in y, then in z. Words for the contracts of its inner functions; no promise rests on this
 -- file. Assumes nothing.
-use Rattle.std.specs.Prelude.{Result, Some, None, Option}
+use Rattle.std.specs.Prelude.{Result, Some, None, Option, ℕ, ◌+◌, ◌-◌, ◌*◌, ◌/◌, ◌%◌, ◌≤◌, ◌<◌, ◌≡◌, Bool, true, false, ◌&&◌, List, length, get_or, pos, nat_abs}
 use Rattle.cells.specs.declared.Refusal.{Refusal}
-use Rattle.std.specs.Prelude.{ℕ, ◌+◌, ◌-◌, ◌*◌, ◌/◌, ◌%◌, ◌≤◌, ◌<◌, ◌≡◌, Bool, true, false, ◌&&◌, List, length, get_or, pos, nat_abs}
 use Rattle.std.specs.Int.Count.{ones}
 use Rattle.cells.specs.declared.Cell.{Cell}
 use Rattle.cells.specs.declared.Counts.{Counts}

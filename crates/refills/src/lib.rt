@@ -1,7 +1,7 @@
 // One cell set, or a box of cells refilled, with one byte: the masks of the bricks concerned are made anew, and the total moves as their ones do.
 #![tactic(auto)]
 
-ghost use Rattle.std.specs.Prelude.{◌+◌, ◌*◌, ◌^◌, ◌≤◌, ◌<◌, ◌≡◌, length};
+ghost use Rattle.std.specs.Prelude.{◌+◌, ◌*◌, ◌^◌, ◌≤◌, ◌<◌, ◌≡◌, Ok, length};
 ghost use Rattle.std.specs.Int.Count.{ones};
 ghost use Rattle.cells.specs.Fills.{Filled};
 ghost use Rattle.grids.specs.Grid.{shape, size};
@@ -12,15 +12,8 @@ ghost use Rattle.refills.specs.Boxes.{corner, brick_of};
 ghost use Rattle.refills.specs.Rows.{Natural, Boxed, wide, rows, row_slot, BoxFilled, box_sum, row_agreed, box_agreed, Looked};
 ghost use Rattle.refills.specs.Refills.{crossed, box_check, bad_total, Refills, Sets};
 
-use bricks::{Slot, Tally};
-use cells::{Cell, Counts, Refusal, Verdict};
-
-// Whether masks are those of the bytes, and how many ones they have.
-#[derive(Clone, Copy)]
-pub enum Agreed {
-    Ones(u64),
-    Differs,
-}
+use bricks::Slot;
+use cells::{Cell, Counts, Refusal};
 
 // ---- what is tested before memory is read
 
@@ -28,31 +21,20 @@ pub enum Agreed {
 fn is_crossed(low: Cell, high: Cell) -> bool
     ensures { result ≡ crossed low high }
 {
-    if high.x < low.x {
-        return true;
-    }
-    if high.y < low.y {
-        return true;
-    }
-    high.z < low.z
+    high.x < low.x || high.y < low.y || high.z < low.z
 }
 
 // Refusals 2, 3, 6, 5, then 14.
-fn check_box(n: Counts, bytes: usize, lent: usize, low: Cell, high: Cell) -> Verdict
+#[tactic(auto, using(cells::proofs::Checks::then_assoc), unfolding(crate::specs::Refills::box_check))]
+fn check_box(n: Counts, bytes: usize, lent: usize, low: Cell, high: Cell) -> Result<(), Refusal>
     ensures { result ≡ box_check n bytes lent low high }
 {
-    let fits = bricks::check_bricks(n, bytes, lent);
-    let Verdict::Fine = fits else {
-        return fits;
-    };
-    let inside = grids::check_ends(n, low, high);
-    let Verdict::Fine = inside else {
-        return inside;
-    };
+    bricks::check_bricks(n, bytes, lent)?;
+    grids::check_ends(n, low, high)?;
     if is_crossed(low, high) {
-        return Verdict::Refused(Refusal::Corners);
+        return Err(Refusal::Corners);
     }
-    inside
+    Ok(())
 }
 
 // A cell of the grid as a corner.
@@ -116,11 +98,7 @@ fn fill_row(cells: &mut [u8], from: usize, long: usize, byte: u8)
     requires { from + long ≤ length cells.old }
     ensures { Filled (λ _. byte) from (from + long) cells.old cells.new }
 {
-    let mut d = 0;
-    while d < long {
-        cells[from + d] = byte;
-        d += 1;
-    }
+    cells[from..from + long].fill(byte);
 }
 
 // Puts a byte into each cell of a box, row by row.
@@ -129,12 +107,9 @@ fn fill_box(n: Counts, cells: &mut [u8], lo: Slot, hi: Slot, byte: u8)
     ensures { BoxFilled n lo hi (λ _. byte) (rows lo hi) cells.old cells.new }
 {
     let wide = row_width(lo, hi);
-    let all = row_count(lo, hi);
-    let mut r = 0;
-    while r < all {
+    for r in 0..row_count(lo, hi) {
         let from = bricks::index_in(n, row_slot(lo, hi, r));
         fill_row(cells, from, wide, byte);
-        r += 1;
     }
 }
 
@@ -142,73 +117,56 @@ fn fill_box(n: Counts, cells: &mut [u8], lo: Slot, hi: Slot, byte: u8)
 
 // Puts the masks of a box of bricks anew, row by row; answers their ones.
 fn fill_brick_box(n: Counts, cells: &[u8], masks: &mut [u64], lo: Slot, hi: Slot) -> u64
-    requires shaped { shape n (length cells.now) ≡ Verdict.Fine }
+    requires shaped { shape n (length cells.now) ≡ Ok tt }
     requires boxed { Boxed (bricks n) lo hi × (size (bricks n) ≤ length masks.old) }
     ensures value { result ≡ box_sum (bricks n) lo hi (λ k. ones (mask_at n cells.now k)) (rows lo hi) }
     ensures box_filled { BoxFilled (bricks n) lo hi (mask_at n cells.now) (rows lo hi) masks.old masks.new }
 {
     let wide = row_width(lo, hi);
-    let all = row_count(lo, hi);
     let mut found = 0u64;
-    let mut r = 0;
-    while r < all {
-        let at = row_slot(lo, hi, r);
-        found += bricks::fill_masks(n, cells, masks, at, wide);
-        r += 1;
+    for r in 0..row_count(lo, hi) {
+        found += bricks::fill_masks(n, cells, masks, row_slot(lo, hi, r), wide);
     }
     found
 }
 
-// Whether the masks of `long` bricks in a row along x, the first of them `at`, are those of the bytes; their ones.
-fn same_masks(n: Counts, cells: &[u8], masks: &[u64], at: Slot, long: usize) -> Agreed
-    requires shaped { shape n (length cells.now) ≡ Verdict.Fine }
+// The ones of the masks of `long` bricks in a row along x, the first of them `at`, if they are those of the bytes.
+fn same_masks(n: Counts, cells: &[u8], masks: &[u64], at: Slot, long: usize) -> Option<u64>
+    requires shaped { shape n (length cells.now) ≡ Ok tt }
     requires row_of_bricks { RowOfBricks n at long × (size (bricks n) ≤ length masks.now) }
     ensures { result ≡ row_agreed n (brick_number n at) long cells.now masks.now }
 {
     let from = bricks::index_in(bricks::bricks_of(n), at);
     let mut found = 0u64;
-    let mut d = 0;
-    while d < long {
+    for d in 0..long {
         let mask = bricks::mask_of(n, cells, at.x + d, at.y, at.z);
         if masks[from + d] != mask {
-            return Agreed::Differs;
+            return None;
         }
         found += bricks::ones(mask);
-        d += 1;
     }
-    Agreed::Ones(found)
+    Some(found)
 }
 
-// Whether the masks of a box of bricks are those of the bytes; their ones.
-fn same_box(n: Counts, cells: &[u8], masks: &[u64], lo: Slot, hi: Slot) -> Agreed
-    requires shaped { shape n (length cells.now) ≡ Verdict.Fine }
+// The ones of the masks of a box of bricks, if they are those of the bytes.
+fn same_box(n: Counts, cells: &[u8], masks: &[u64], lo: Slot, hi: Slot) -> Option<u64>
+    requires shaped { shape n (length cells.now) ≡ Ok tt }
     requires boxed { Boxed (bricks n) lo hi × (size (bricks n) ≤ length masks.now) }
     ensures { result ≡ box_agreed n lo hi cells.now masks.now }
 {
     let wide = row_width(lo, hi);
-    let all = row_count(lo, hi);
     let mut found = 0u64;
-    let mut r = 0;
-    while r < all {
-        let at = row_slot(lo, hi, r);
-        let Agreed::Ones(t) = same_masks(n, cells, masks, at, wide) else {
-            return Agreed::Differs;
-        };
-        found += t;
-        r += 1;
+    for r in 0..row_count(lo, hi) {
+        found += same_masks(n, cells, masks, row_slot(lo, hi, r), wide)?;
     }
-    Agreed::Ones(found)
+    Some(found)
 }
 
 // Whether a total is below the ones of some masks, or above the number of cells.
 fn bad_total(total: u64, ones: u64, cells: usize) -> bool
     ensures { result ≡ bad_total total ones cells }
 {
-    if total < ones {
-        true
-    } else {
-        (cells as u64) < total
-    }
+    total < ones || (cells as u64) < total
 }
 
 // ---- the calls
@@ -222,22 +180,20 @@ fn refill_box(
     lo: Slot,
     hi: Slot,
     byte: u8,
-) -> Tally
-    requires shaped { shape n (length cells.old) ≡ Verdict.Fine }
+) -> Result<u64, Refusal>
+    requires shaped { shape n (length cells.old) ≡ Ok tt }
     requires boxed { Boxed n lo hi × (size (bricks n) ≤ length masks.old) }
     ensures { Looked n lo hi byte cells.old masks.old total result cells.new masks.new }
 {
     let first = brick_of(lo);
     let last = brick_of(hi);
-    let Agreed::Ones(old) = same_box(n, cells, masks, first, last) else {
-        return Tally::Refused(Refusal::Stale);
-    };
+    let old = same_box(n, cells, masks, first, last).ok_or(Refusal::Stale)?;
     if bad_total(total, old, cells.len()) {
-        return Tally::Refused(Refusal::Stale);
+        return Err(Refusal::Stale);
     }
     fill_box(n, cells, lo, hi, byte);
     let new = fill_brick_box(n, cells, masks, first, last);
-    Tally::Total(total - old + new)
+    Ok(total - old + new)
 }
 
 // The bit of a cell in the mask of its brick.
@@ -248,6 +204,7 @@ fn bit_in_brick(c: Slot) -> u64
 }
 
 // The mask with bit b on or off.
+#[tactic(auto, using(crate::proofs::Bits::bit_on, crate::proofs::Bits::bit_off, crate::proofs::Bits::power_within))]
 fn with_bit(mask: u64, b: u64, on: bool) -> u64
     requires { b < 64 }
     ensures { result + digit (bit mask b) * 2 ^ b ≡ mask + digit on * 2 ^ b }
@@ -258,8 +215,15 @@ fn with_bit(mask: u64, b: u64, on: bool) -> u64
 }
 
 // Puts a byte at one cell and its bit into the mask of its brick; the total moves as the mask's ones. Refusal 13.
-fn set_cell(n: Counts, cells: &mut [u8], masks: &mut [u64], total: u64, at: Slot, byte: u8) -> Tally
-    requires shaped { shape n (length cells.old) ≡ Verdict.Fine }
+fn set_cell(
+    n: Counts,
+    cells: &mut [u8],
+    masks: &mut [u64],
+    total: u64,
+    at: Slot,
+    byte: u8,
+) -> Result<u64, Refusal>
+    requires shaped { shape n (length cells.old) ≡ Ok tt }
     requires boxed { Boxed n at at × (size (bricks n) ≤ length masks.old) }
     ensures { Looked n at at byte cells.old masks.old total result cells.new masks.new }
 {
@@ -267,17 +231,16 @@ fn set_cell(n: Counts, cells: &mut [u8], masks: &mut [u64], total: u64, at: Slot
     let k = bricks::index_in(bricks::bricks_of(n), b);
     let mask = bricks::mask_of(n, cells, b.x, b.y, b.z);
     if masks[k] != mask {
-        return Tally::Refused(Refusal::Stale);
+        return Err(Refusal::Stale);
     }
     let old = bricks::ones(mask);
     if bad_total(total, old, cells.len()) {
-        return Tally::Refused(Refusal::Stale);
+        return Err(Refusal::Stale);
     }
     let turned = with_bit(mask, bit_in_brick(at), 1 < byte);
-    let i = bricks::index_in(n, at);
-    cells[i] = byte;
+    cells[bricks::index_in(n, at)] = byte;
     masks[k] = turned;
-    Tally::Total(total - old + bricks::ones(turned))
+    Ok(total - old + bricks::ones(turned))
 }
 
 // Gives each cell of a box, both corners included, one byte; answers the total that follows.
@@ -289,17 +252,19 @@ pub fn refill(
     low: Cell,
     high: Cell,
     byte: u8,
-) -> Tally
+) -> Result<u64, Refusal>
     ensures { Refills n low high byte cells.old masks.old total result cells.new masks.new }
 {
-    match check_box(n, cells.len(), masks.len(), low, high) {
-        Verdict::Refused(r) => Tally::Refused(r),
-        Verdict::Fine => {
-            let lo = corner_of(low);
-            let hi = corner_of(high);
-            refill_box(n, cells, masks, total, lo, hi, byte)
-        }
-    }
+    check_box(n, cells.len(), masks.len(), low, high)?;
+    refill_box(
+        n,
+        cells,
+        masks,
+        total,
+        corner_of(low),
+        corner_of(high),
+        byte,
+    )
 }
 
 // Gives one cell one byte; answers the total that follows.
@@ -310,14 +275,9 @@ pub fn set(
     total: u64,
     cell: Cell,
     byte: u8,
-) -> Tally
+) -> Result<u64, Refusal>
     ensures { Sets n cell byte cells.old masks.old total result cells.new masks.new }
 {
-    match check_box(n, cells.len(), masks.len(), cell, cell) {
-        Verdict::Refused(r) => Tally::Refused(r),
-        Verdict::Fine => {
-            let at = corner_of(cell);
-            set_cell(n, cells, masks, total, at, byte)
-        }
-    }
+    check_box(n, cells.len(), masks.len(), cell, cell)?;
+    set_cell(n, cells, masks, total, corner_of(cell), byte)
 }

@@ -1,9 +1,5 @@
-use Prim.Native.Nat.{◌-◌, ◌≤◌}
 use Rattle.refills.specs.Rows.{BoxFilled}
 use Rattle.refills.proofs.fill_box.Given as goal
 
 abbrev pub invariant-loop-r : goal.invariant-loop-r
-invariant-loop-r l = (l.r ≤ l.all) × BoxFilled l.n l.lo l.hi (λ _. l.byte) l.r l.initial.cells l.cells
-
-abbrev pub decreases-loop-r : goal.decreases-loop-r
-decreases-loop-r l = l.all - l.r
+invariant-loop-r l = BoxFilled l.n l.lo l.hi (λ _. l.byte) l.r l.initial.cells l.cells

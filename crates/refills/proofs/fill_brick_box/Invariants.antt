@@ -1,4 +1,4 @@
-use Prim.Native.Nat.{◌-◌, ◌*◌, ◌≤◌}
+use Prim.Native.Nat.{◌*◌, ◌≤◌}
 use mathlib.Core.Path.{◌≡◌}
 use lib.Count.{ones}
 use Rattle.bricks.specs.Bricks.{bricks, mask_at}
@@ -6,8 +6,8 @@ use Rattle.refills.specs.Rows.{BoxFilled, box_sum}
 use Rattle.refills.proofs.fill_brick_box.Given as goal
 
 abbrev pub invariant-loop-r : goal.invariant-loop-r
-invariant-loop-r l = (l.r ≤ l.all) × BoxFilled (bricks l.n) l.lo l.hi (mask_at l.n l.cells) l.r l.initial.masks l.masks × (l.found ≡ box_sum (bricks l.n) l.lo l.hi (λ k. ones (mask_at l.n l.cells k)) l.r)
-    × (l.found ≤ 65536 * l.r)
-
-abbrev pub decreases-loop-r : goal.decreases-loop-r
-decreases-loop-r l = l.all - l.r
+invariant-loop-r l = record {
+  box_filled : BoxFilled (bricks l.n) l.lo l.hi (mask_at l.n l.cells) l.r l.initial.masks l.masks;
+  value : l.found ≡ box_sum (bricks l.n) l.lo l.hi (λ k. ones (mask_at l.n l.cells k)) l.r;
+  most : l.found ≤ 65536 * l.r;
+}

@@ -1,53 +1,37 @@
 -- `refills::refill` meets its contract: refused before memory is read, or handed on with its corners. Assumes nothing.
-use Rattle.std.specs.Prelude.{Ok}
 use mathlib.Core.Path.{◌≡◌, sym, ◌∙◌}
+use Rattle.std.specs.Prelude.{Ok}
 use lib.ListN.{length}
 use Rattle.bricks.proofs.Building.{shape_fine, masks_lent}
 use Rattle.refills.specs.Refills.{box_check}
-use Rattle.refills.proofs.Checked.{natural, bricks_fine, low_in, high_in, counts_shaped, boxed, refused_before, looked_at}
+use Rattle.refills.proofs.Checked.{natural, bricks_fine, low_in, high_in, counts_shaped, boxed, looked_at}
 use Rattle.refills.proofs.refill.Goals as goal
-use Rattle.refills.proofs.refill.Goals.{In-Fine}
+use Rattle.refills.proofs.refill.Goals.{In_ok-check_box}
 
-fine : (c : In-Fine) → let a = c.args in box_check a.n (length a.cells.now) (length a.masks.now) a.low a.high ≡ Ok tt
-fine c = sym c.check_box.ensures ∙ c.in-Fine.is
+fine : (c : In_ok-check_box) → let a = c.args in box_check a.n (length a.cells.now) (length a.masks.now) a.low a.high ≡ Ok tt
+fine c = sym c.check_box.ensures ∙ c.in_ok-check_box.was
 
-pub corner_of-lo-requires : goal.corner_of-lo-requires
-corner_of-lo-requires c =
+pub corner_of-requires : goal.corner_of-requires
+corner_of-requires c =
+    let e = fine ((goal.at.corner_of-requires c).In_ok-check_box) in
+    natural _ _ (counts_shaped _ _ _ _ _ e) _ (low_in _ _ _ _ _ e)
+
+pub corner_of-requires-2 : goal.corner_of-requires-2
+corner_of-requires-2 c =
+    let e = fine ((goal.at.corner_of-requires-2 c).In_ok-check_box) in
+    natural _ _ (counts_shaped _ _ _ _ _ e) _ (high_in _ _ _ _ _ e)
+
+pub refill_box-requires-clause-shaped : goal.refill_box-requires-clause-shaped
+refill_box-requires-clause-shaped c =
+    let e = fine ((goal.at.refill_box-requires-clause-shaped c).In_ok-check_box) in shape_fine _ _ _ (bricks_fine _ _ _ _ _ e)
+
+pub refill_box-requires-clause-boxed : goal.refill_box-requires-clause-boxed
+refill_box-requires-clause-boxed c =
+    let e = fine ((goal.at.refill_box-requires-clause-boxed c).In_ok-check_box) in
+    (rw (c.corner_of.ensures, c.corner_of-2.ensures) (boxed _ _ _ _ _ e), masks_lent _ _ _ (bricks_fine _ _ _ _ _ e))
+
+pub returns : goal.returns
+returns c =
     let a = c.args in
-    natural a.n _ (counts_shaped a.n (length a.cells.now) (length a.masks.now) a.low a.high (fine c)) a.low (low_in a.n
-    (length a.cells.now) (length a.masks.now) a.low a.high (fine c))
-
-pub corner_of-hi-requires : goal.corner_of-hi-requires
-corner_of-hi-requires c =
-    let earlier = goal.at.corner_of-hi-requires c in
-    let a = c.args in
-    natural a.n _ (counts_shaped a.n (length a.cells.now) (length a.masks.now) a.low a.high (fine earlier.In-Fine)) a.high
-    (high_in a.n (length a.cells.now) (length a.masks.now) a.low a.high (fine earlier.In-Fine))
-
-pub refill_box-requires : goal.refill_box-requires
-refill_box-requires c =
-    let a = c.args in
-    let e = fine ((goal.at.refill_box-requires c).In-Fine) in
-    let f = bricks_fine a.n (length a.cells.now) (length a.masks.now) a.low a.high e in record {
-      shaped = shape_fine _ _ _ f;
-      boxed = (
-        rw (c.corner_of-lo.ensures, c.corner_of-hi.ensures) (boxed a.n (length a.cells.now) (length a.masks.now) a.low a.high e),
-        masks_lent _ _ _ f,
-      );
-    }
-
-pub returns-in-Refused : goal.returns-in-Refused
-returns-in-Refused c =
-    let a = c.args in
-    refused_before a.n a.low a.high a.byte a.cells.now a.masks.now a.total _ (sym
-    c.check_box.ensures ∙ c.in-Refused.is)
-
-pub returns-in-Fine : goal.returns-in-Fine
-returns-in-Fine c =
-    let a = c.args in
-    looked_at a.n a.low a.high a.byte a.cells.now a.masks.now a.total _ _ _ (fine
-    ((goal.at.returns-in-Fine c).In-Fine))
-    (rw (
-      c.corner_of-lo.ensures,
-      c.corner_of-hi.ensures,
-    ) at c.refill_box.ensures)
+    looked_at a.n a.low a.high a.byte a.cells.now a.masks.now a.total _ _ _ (fine ((goal.at.returns c).In_ok-check_box))
+    (rw (c.corner_of.ensures, c.corner_of-2.ensures) at c.refill_box.ensures)

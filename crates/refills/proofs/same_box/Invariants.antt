@@ -1,4 +1,3 @@
-use Prim.Native.Nat.{◌-◌, ◌≤◌}
 use mathlib.Core.Path.{◌≡◌}
 use mathlib.Core.Bool.{false}
 use lib.Count.{ones}
@@ -9,7 +8,7 @@ use Rattle.refills.proofs.Agreeing.{row_wrong}
 use Rattle.refills.proofs.same_box.Given as goal
 
 abbrev pub invariant-loop-r : goal.invariant-loop-r
-invariant-loop-r l = (l.r ≤ l.all) × (any (row_wrong l.n l.cells l.masks l.lo l.hi) l.r ≡ false) × (l.found ≡ box_sum (bricks l.n) l.lo l.hi (λ k. ones (mask_at l.n l.cells k)) l.r)
-
-abbrev pub decreases-loop-r : goal.decreases-loop-r
-decreases-loop-r l = l.all - l.r
+invariant-loop-r l = record {
+  right : any (row_wrong l.n l.cells l.masks l.lo l.hi) l.r ≡ false;
+  value : l.found ≡ box_sum (bricks l.n) l.lo l.hi (λ k. ones (mask_at l.n l.cells k)) l.r;
+}

@@ -1,4 +1,4 @@
-use Prim.Native.Nat.{◌+◌, ◌-◌, ◌≤◌}
+use Prim.Native.Nat.{◌+◌}
 use mathlib.Core.Path.{◌≡◌}
 use mathlib.Core.Bool.{false}
 use lib.Count.{ones}
@@ -9,7 +9,7 @@ use Rattle.refills.specs.Refills.{differs}
 use Rattle.refills.proofs.same_masks.Given as goal
 
 abbrev pub invariant-loop-d : goal.invariant-loop-d
-invariant-loop-d l = (l.d ≤ l.long) × (any (λ i. differs l.n l.cells l.masks (l.from + i)) l.d ≡ false) × (l.found ≡ sum (λ i. ones (mask_at l.n l.cells (l.from + i))) l.d)
-
-abbrev pub decreases-loop-d : goal.decreases-loop-d
-decreases-loop-d l = l.long - l.d
+invariant-loop-d l = record {
+  right : any (λ i. differs l.n l.cells l.masks (l.from + i)) l.d ≡ false;
+  value : l.found ≡ sum (λ i. ones (mask_at l.n l.cells (l.from + i))) l.d;
+}

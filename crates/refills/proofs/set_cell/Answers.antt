@@ -9,7 +9,6 @@ use Rattle.grids.proofs.Shapes.{shaped}
 use Rattle.bricks.specs.Bricks.{mask_of, brick_there}
 use Rattle.bricks.proofs.Bricked.{bricks_shaped}
 use Rattle.refills.specs.Refills.{bad_total}
-use Rattle.refills.proofs.Boxes.{boxed_bricks}
 use Rattle.refills.proofs.Single.{cell_below, there_below}
 use Rattle.refills.proofs.Keeping.{total_fits}
 use Rattle.refills.proofs.Changing.{refused_mask, refused_total, cell_differs, cell_ones, cell_set}
@@ -35,25 +34,6 @@ lent c =
     let few = (bricks_shaped a.n _ (shaped _ _ c.requires.shaped)).size_most in
     let number = numbered c in
     (omega (arith, c.requires.boxed.1), omega arith)
-
-pub bricks_of-requires : goal.bricks_of-requires
-bricks_of-requires c = let s = shaped _ _ c.requires.shaped in record { x = s.x; y = s.y; z = s.z }
-
-pub index_in-k-requires : goal.index_in-k-requires
-index_in-k-requires c =
-    let box = boxed_bricks c.args.n c.args.at c.args.at c.requires.boxed.0 in
-    rw (c.bricks_of.ensures, c.brick_of-b.ensures) (omega (arith, box.x, box.y, box.z))
-
-pub mask_of-mask-requires : goal.mask_of-mask-requires
-mask_of-mask-requires c =
-    let box = c.requires.boxed.0 in
-    record { shaped = c.requires.shaped; starts_inside = rw c.brick_of-b.ensures (omega (arith, box.x, box.y, box.z)) }
-
-pub offset_bounds-masks-k : goal.offset_bounds-masks-k
-offset_bounds-masks-k c = omega (arith, (lent c).1)
-
-pub bounds-masks-k : goal.bounds-masks-k
-bounds-masks-k c = (lent ((goal.at.bounds-masks-k c).After-mask_of-mask)).0
 
 pub returns-then-masks-k : goal.returns-then-masks-k
 returns-then-masks-k c =
@@ -87,32 +67,13 @@ fits c =
     c.bad_total.ensures ∙ ap (λ (k : ℕ). bad_total c.args.total c.ones-old.result k) (shaped _ _ c.requires.shaped).bytes_are in
     total_fits _ _ _ (sym is ∙ c.if-bad_total.false)
 
-pub index_in-i-requires : goal.index_in-i-requires
-index_in-i-requires c =
-    let box = c.requires.boxed.0 in
-    let s = shaped _ _ c.requires.shaped in record {
-      small = omega (arith, s.x.most, s.y.most, s.z.most);
-      inside = omega (arith, box.x, box.y, box.z);
-    }
-
-pub bounds-cells-i : goal.bounds-cells-i
-bounds-cells-i c =
+pub bounds-cells-index_in : goal.bounds-cells-index_in
+bounds-cells-index_in c =
     let a = c.args in
-    omega (arith, c.index_in-i.ensures, cell_below a.n a.at c.requires.boxed.0 a.cells.now (shaped _ _ c.requires.shaped))
-
-pub offset_bounds-masks-k-2 : goal.offset_bounds-masks-k-2
-offset_bounds-masks-k-2 c = omega (arith, (lent ((goal.at.offset_bounds-masks-k-2 c).After-mask_of-mask)).1)
+    omega (arith, c.index_in.ensures, cell_below a.n a.at c.requires.boxed.0 a.cells.now (shaped _ _ c.requires.shaped))
 
 pub bounds-masks-k-2 : goal.bounds-masks-k-2
 bounds-masks-k-2 c = (lent ((goal.at.bounds-masks-k-2 c).After-mask_of-mask)).0
-
-pub overflow_sub-result : goal.overflow_sub-result
-overflow_sub-result c = (fits ((goal.at.overflow_sub-result c).Else-bad_total)).0
-
-pub overflow_add-result : goal.overflow_add-result
-overflow_add-result c =
-    let s = shaped _ _ c.requires.shaped in
-    omega (arith, (fits ((goal.at.overflow_add-result c).Else-bad_total)).1, s.size_most, c.ones.ensures.1)
 
 pub returns : goal.returns
 returns c =
@@ -120,7 +81,7 @@ returns c =
     let a = c.args in
     cell_set a.n a.at c.requires.boxed.0 a.cells.now a.masks.now (shaped _ _ c.requires.shaped) _ _ (numbered earlier.After-mask_of-mask) (masked earlier.After-mask_of-mask)
     c.if-masks-k.false
-    a.byte a.total _ _ _ _ _ c.requires.boxed.1 c.index_in-i.ensures c.bit_in_brick.ensures.0
+    a.byte a.total _ _ _ _ _ c.requires.boxed.1 c.index_in.ensures c.bit_in_brick.ensures.0
     c.with_bit-turned.ensures
     c.ones-old.ensures.0 (sym (judged earlier.After-bad_total)
     ∙ c.if-bad_total.false) c.ones.ensures.0
