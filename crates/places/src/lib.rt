@@ -3,7 +3,6 @@
 #![tactic(auto)]
 
 ghost use Rattle.std.specs.Prelude.{◌≡◌, cond, ◌&&◌, ◌≤◌};
-ghost use Rattle.std.specs.Int.Signed.{le_z};
 ghost use Rattle.cells.specs.declared.Face.TheVariants as Face;
 ghost use Rattle.lines.specs.Steps.{X, Y, Z};
 ghost use Rattle.lines.specs.Lines.{face_along};

@@ -1,12 +1,9 @@
 -- `hits::run_on` meets its contract: the run starts at a clear cell, so it leads on, and each long step of it is one of the walk's. Assumes nothing.
 use mathlib.Core.Path.{◌≡◌, ap, ◌∙◌}
 use Prim.Native.Nat.{◌+◌, ◌-◌}
-use native.Mathlib.Omega.{arith}
 use mathlib.Core.Bool.{true, false}
-use Rattle.lines.specs.Steps.{X, Y, Z}
 use Rattle.tripod.specs.Tripod.{steps}
 use Rattle.routes.specs.Route.{raised_spot, lowered_spot}
-use Rattle.routes.proofs.Spots.{short_at}
 use Rattle.runs.specs.Run.{run_spot}
 use Rattle.hits.specs.Found.{Reached}
 use Rattle.hits.proofs.Turns.{turn_small, turn_raised_small, can_run, end_small, end_values_small, run_leads}
@@ -54,25 +51,6 @@ led c begun =
     let (g, is, clear) = c.requires in
     run_leads _ _ _ _ _ _ _ g _ is _ begun _ c.clear_run-r.ensures _
     (c.lowered.ensures ∙ ap (lowered_spot c.args.k.order) c.spot_of.ensures)
-
-pub overflow_sub-made : goal.overflow_sub-made
-overflow_sub-made c = omega (arith, c.clear_run-r.ensures.fewer)
-
-pub overflow_add-result : goal.overflow_add-result
-overflow_add-result c =
-    let g = c.requires.0 in
-    let at = goal.at.overflow_add-result c in
-    let w = (led at.After-lowered (begins at.After-run_spot_of-start)).outcome g.from g.at in
-    record {
-      fits = omega (
-        arith,
-        w.on.few,
-        w.on.most,
-        short_at _ c.args.k g.plan X,
-        short_at _ c.args.k g.plan Y,
-        short_at _ c.args.k g.plan Z,
-      );
-    }
 
 pub returns : goal.returns
 returns c = let at = goal.at.returns c in led at.After-lowered (begins at.After-run_spot_of-start)

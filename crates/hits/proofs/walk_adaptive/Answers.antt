@@ -1,6 +1,6 @@
 -- `hits::walk_adaptive` meets its contract: the invariant: whichever walk set out so, it is at the cell of the 26-line from which t.left long steps are
 -- left; a turn leads it to a later one, or stops it. The measure is how many are left. Assumes nothing.
-use mathlib.Core.Path.{◌≡◌, sym, ap, ◌∙◌}
+use mathlib.Core.Path.{◌≡◌, ap, ◌∙◌}
 use mathlib.Core.Bool.{true}
 use native.Mathlib.Omega.{arith}
 use Rattle.cells.specs.declared.Start.{Start}
@@ -21,16 +21,8 @@ use Rattle.hits.proofs.walk_adaptive.Goals.{At-loop-t, In-loop-t}
 pub run_route_of-h-requires : goal.run_route_of-h-requires
 run_route_of-h-requires c = route_small _ c.args.k c.requires.0
 
-pub set_out-t-requires : goal.set_out-t-requires
-set_out-t-requires c =
-    let longest-is = c.longest_axis-long.ensures in
-    (c.requires.0, c.requires.1, c.along.ensures ∙ longest-is, sym c.along.ensures)
-
 pub returns-then-t : goal.returns-then-t
 returns-then-t c = turn_stopped c.args.how.start c.args.cells.now c.args.k c.set_out-t.result c.set_out-t.ensures.outcome c.if-t.true
-
-pub loop-t-init : goal.loop-t-init
-loop-t-init c = (c.if-t.false, λ from came. came)
 
 -- where the call's own walk is
 came : (c : At-loop-t) →
@@ -68,9 +60,6 @@ returns-then-t-2 c =
     turn_stopped g.how.start g.cells.now g.k c.next_26-t.result
     (c.next_26-t.ensures.outcome g.how.start (here earlier.In-loop-t g.how.start (came earlier.At-loop-t)))
     c.if-t-2.true
-
-pub loop-t-smaller : goal.loop-t-smaller
-loop-t-smaller c = omega (arith, c.next_26-t.ensures.fewer)
 
 pub loop-t-preserved : goal.loop-t-preserved
 loop-t-preserved c = (

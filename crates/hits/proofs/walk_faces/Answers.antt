@@ -1,13 +1,11 @@
 -- `hits::walk_faces` meets its contract: the invariant: with j faces behind it the walk is at s, and no cell on the way was solid; a turn crosses the
--- next face. The measure is how many faces are left. Assumes nothing.
+-- next face. Assumes nothing.
 use mathlib.Core.Path.{◌≡◌, sym, ap, ◌∙◌, subst}
-use Prim.Native.Nat.{◌+◌, ◌-◌, ◌≤◌}
-use native.Mathlib.Omega.{arith}
-use Rattle.lines.specs.Steps.{X, Y, Z}
+use Prim.Native.Nat.{◌+◌, ◌-◌}
 use Rattle.grids.specs.Grid.{solid}
 use Rattle.routes.specs.Route.{byte_of_spot}
 use Rattle.hits.specs.Found.{Walking}
-use Rattle.routes.proofs.Spots.{spot_byte, can_cross, place_within, short_at}
+use Rattle.routes.proofs.Spots.{spot_byte, can_cross, place_within}
 use Rattle.hits.proofs.Walking.{Following, no_face, one_face, hit_face, last_face}
 use Rattle.hits.proofs.walk_faces.Goals as goal
 use Rattle.hits.proofs.walk_faces.Goals.{After-is_solid, At-loop-j}
@@ -17,12 +15,6 @@ followed : (c : At-loop-j) →
     Walking c.requires.2.from c.args.cells.now c.args.k c.requires.2.next (c.requires.2.number + (c.loop-j.j - c.args.past))
     (c.args.reads + c.loop-j.j) c.loop-j.s
 followed c = let w = c.requires.2 in c.loop-j.invariant.follows w.from w.next w.number w.crossing
-
--- how many cells were read, at most
-few : (c : At-loop-j) → c.args.reads + c.loop-j.j ≤ 49149
-few c =
-    let w = followed c in
-    omega (arith, w.on.few, w.on.most, short_at _ c.args.k c.requires.0 X, short_at _ c.args.k c.requires.0 Y, short_at _ c.args.k c.requires.0 Z)
 
 pub loop-j-init : goal.loop-j-init
 loop-j-init c = no_face _ c.args.k c.requires.0 c.args.cells.now c.args.start c.args.reads c.args.past c.args.faces c.requires.1
@@ -36,12 +28,6 @@ byte_at-requires c =
 tested : (c : After-is_solid) →
     solid (byte_of_spot c.args.cells.now c.loop-j.s) ≡ c.is_solid.result
 tested c = sym (c.is_solid.ensures ∙ ap solid c.byte_at.ensures)
-
-pub overflow_add-result : goal.overflow_add-result
-overflow_add-result c = record { fits = omega (arith, few ((goal.at.overflow_add-result c).At-loop-j)) }
-
-pub overflow_add-result-then-is_solid : goal.overflow_add-result-then-is_solid
-overflow_add-result-then-is_solid c = record { fits = omega (arith, few ((goal.at.overflow_add-result-then-is_solid c).At-loop-j)) }
 
 pub returns-then-is_solid : goal.returns-then-is_solid
 returns-then-is_solid c =
