@@ -12,7 +12,6 @@ use borrow.Author.Tests.{le-ltb, ltb-false, ne_eqb, eqb-false, leb-true, leb-fal
 use Rattle.cells.specs.declared.Counts.{Counts}
 use Rattle.cells.specs.declared.Refusal.{Refusal}
 use Rattle.cells.specs.declared.Refusal.TheVariants.{Room, Record}
-use Rattle.records.specs.declared.venues.VenueRead.TheVariants as VenueRead
 use Rattle.records.specs.Heads.{length_field, announced}
 use Rattle.records.specs.Venues.{venue_read, venue_cells}
 use Rattle.records.specs.Pairs.{pair_read}
@@ -92,6 +91,15 @@ module _ (s : List ℕ) where
   venue_within : beyond venue_most s ≡ false → venue_said s ≡ said_of_venue (venue_read s)
   unfolding venue_said
   venue_within h = rw h
+
+-- by the venue that is in the frame, or why there is none
+pub venue_said_of : (s : List ℕ) → venue_said s ≡ said_of_venue (cond (beyond venue_most s) (Err Room) (venue_read s))
+unfolding venue_said
+venue_said_of s = go (beyond venue_most s)
+  where
+    go : (b : Bool) → cond b (venue_refused Room) (said_of_venue (venue_read s)) ≡ said_of_venue (cond b (Err Room) (venue_read s))
+    go true = refl
+    go false = refl
 
 said_unread : Unread venue_said
 unfolding venue_said

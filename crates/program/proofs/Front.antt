@@ -19,12 +19,12 @@ unfolding over
 nothing_put at s = record { says = sym (add-zero at); holds = sym (take-append-drop at s) ∙ ap (λ k. take at s ++ drop k s) (sym (add-zero at)) }
 
 -- a step that put its text from the front on, and says what comes next
-pub front : {text entry exit : List ℕ} {long : ℕ} {next x : (Option ℕ)} → Puts text 0 entry long exit → x ≡ next
+pub front : {text entry exit : List ℕ} {long : ℕ} {next x : Option ℕ} → Puts text 0 entry long exit → x ≡ next
     → Says (record { text = text; next = next }) entry (record { long = long; next = x }) exit
 front h e = record { long = front_long h; holds = front_holds h; next = e }
 
 -- one that put nothing
-pub silent : {next : (Option ℕ)} (s : List ℕ) → Says (record { text = []; next = next }) s (record { long = 0; next = next }) s
+pub silent : {next : Option ℕ} (s : List ℕ) → Says (record { text = []; next = next }) s (record { long = 0; next = next }) s
 silent s = record { long = refl; holds = refl; next = refl }
 
 -- the text lies within the lent bytes

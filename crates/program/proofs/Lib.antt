@@ -1,5 +1,5 @@
 pub mod Front
 pub mod Lines
+pub mod Walked
 pub mod Frames
 pub mod Reading
-pub mod Following

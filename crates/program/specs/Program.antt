@@ -1,6 +1,6 @@
 -- SCOPE, V and T: what the program writes, from all the bytes of its input. Assumes nothing.
-use Rattle.std.specs.Prelude.{Ok, Err, Result, Some, None, Option}
-use Rattle.std.specs.Prelude.{ℕ, zero, suc, ◌+◌, ◌*◌, ◌≡◌, Bool, false, ◌||◌, List, [], ◌∷◌, ◌++◌, ltb, eqb, length, take, drop}
+use Rattle.std.specs.Prelude.{Result, Ok, Err, Option, Some, None, ℕ, zero, suc, ◌+◌, ◌*◌, ◌≡◌, Bool, false, ◌||◌}
+use Rattle.std.specs.Prelude.{List, [], ◌∷◌, ◌++◌, ltb, eqb, length, take, drop}
 use Rattle.std.proofs.Math.Bool.{cond}
 use Rattle.cells.specs.declared.Counts.{Counts}
 use Rattle.cells.specs.declared.Refusal.{Refusal}
@@ -12,9 +12,8 @@ use Rattle.cells.specs.Refusals.{told}
 use Rattle.walks.specs.declared.FirstHit.{FirstHit}
 use Rattle.grids.specs.Inside.{walk_check}
 use Rattle.walks.specs.Answers.{first_hit}
-use Rattle.records.specs.declared.venues.VenueRead.{VenueRead}
+use Rattle.records.specs.declared.venues.Venue.{Venue}
 use Rattle.records.specs.declared.pairs.Pair.{Pair}
-use Rattle.records.specs.declared.pairs.PairRead.{PairRead}
 use Rattle.records.specs.Heads.{length_field, announced}
 use Rattle.records.specs.Venues.{venue_read, venue_cells}
 use Rattle.records.specs.Pairs.{pair_read}
@@ -27,7 +26,7 @@ use Rattle.program.specs.declared.Step.{Step}
 -- what is written for a record, and what comes next: the pair of a number, or the end
 pub record Said : Type 0 where
   pub text : List ℕ
-  pub next : (Option ℕ)
+  pub next : Option ℕ
 
 -- SCOPE T2, T3: the greatest lengths of a venue and of a pair that the program reads
 abbrev pub venue_most : ℕ
@@ -47,7 +46,7 @@ abbrev pub venue_refused : Refusal → Said
 venue_refused r = record { text = venue_refused_line (told r).number; next = None }
 
 -- SCOPE T5: after a venue that is read comes pair 1
-abbrev pub said_of_venue : VenueRead → Said
+abbrev pub said_of_venue : Result Venue Refusal → Said
 said_of_venue (Ok v) = record { text = []; next = Some 1 }
 said_of_venue (Err r) = venue_refused r
 
@@ -79,23 +78,23 @@ abbrev pub adaptive_letter : ℕ
 adaptive_letter = 65
 
 -- SCOPE T8, T16, T17: the letter of each walk and what it answers, in the order of the lines; the start is tested, ties go by the pair's rule
-abbrev pub answers : Counts → List ℕ → Pair → List (ℕ × (Result FirstHit Refusal))
+abbrev pub answers : Counts → List ℕ → Pair → List (ℕ × Result FirstHit Refusal)
 answers n cells e =
     let how : Manner = tested_by e.rule in
     (plain_letter, first_hit Plain how n cells e.p e.q) ∷ (adaptive_letter, first_hit Adaptive how n cells e.p e.q) ∷ []
 
 -- a line for each
-abbrev pub walk_lines : (k : ℕ) → List (ℕ × (Result FirstHit Refusal)) → List ℕ
+abbrev pub walk_lines : (k : ℕ) → List (ℕ × Result FirstHit Refusal) → List ℕ
 walk_lines k [] = []
 walk_lines k (a ∷ more) = walk_line k a.0 a.1 ++ walk_lines k more
 
 -- SCOPE T5, T8: refused, or a line for each walk
-abbrev pub said_of_walks : (k : ℕ) → Verdict → List (ℕ × (Result FirstHit Refusal)) → Said
+abbrev pub said_of_walks : (k : ℕ) → Verdict → List (ℕ × Result FirstHit Refusal) → Said
 said_of_walks k (Err r) found = pair_refused k r
 said_of_walks k (Ok _) found = record { text = walk_lines k found; next = Some (k + 1) }
 
 module _ (n : Counts) (cells : List ℕ) (k : ℕ) where
-  abbrev pub said_of_pair : PairRead → Said
+  abbrev pub said_of_pair : Result Pair Refusal → Said
   said_of_pair (Err r) = pair_refused k r
   said_of_pair (Ok e) = said_of_walks k (walk_check n (length cells) e.p e.q) (answers n cells e)
 
@@ -113,7 +112,7 @@ abbrev pub after_record : List ℕ → List ℕ
 after_record s = drop (length_field + announced s) s
 
 -- what follows, by what comes next
-abbrev pub then_on : (Option ℕ) → (ℕ → List ℕ) → List ℕ
+abbrev pub then_on : Option ℕ → (ℕ → List ℕ) → List ℕ
 then_on (Some k) rest = rest k
 then_on None rest = []
 
@@ -126,7 +125,7 @@ pairs (suc turns) n cells k s =
     said.text ++ then_on said.next (λ j. pairs turns n cells j (after_record s))
 
 -- the pairs behind a venue, the first of them of number k
-abbrev pub after_venue : VenueRead → List ℕ → ℕ → List ℕ
+abbrev pub after_venue : Result Venue Refusal → List ℕ → ℕ → List ℕ
 after_venue (Ok v) s k = pairs (length s) v.counts (venue_cells s) k (after_record s)
 after_venue (Err r) s k = []
 
@@ -155,6 +154,11 @@ pub record Says (said : Said) (entry : List ℕ) (r : Step) (exit : List ℕ) : 
   pub long : r.long ≡ length said.text
   pub holds : exit ≡ said.text ++ drop (length said.text) entry
   pub next : r.next ≡ said.next
+
+-- the same of a pair whose lines are counted: after it comes the next; or it is refused, and the lent bytes stay for its one line
+abbrev pub SaysOrRefuses : (k : ℕ) (said : Said) (entry : List ℕ) (r : Result ℕ Refusal) (exit : List ℕ) → Type 0
+SaysOrRefuses k said entry (Ok long) exit = Says said entry (record { long = long; next = Some (k + 1) }) exit
+SaysOrRefuses k said entry (Err r) exit = (said ≡ pair_refused k r) × (exit ≡ entry)
 
 -- after pair k comes pair k + 1, or nothing
 abbrev pub Follows : ℕ → Option ℕ → Type 0
