@@ -2,10 +2,10 @@
 // marks and their completeness too; their calls are in `marks`.
 #![tactic(auto)]
 
-ghost use Rattle.std.specs.Prelude.{◌≡◌, ◌<◌, length};
+ghost use Rattle.std.specs.Prelude.{Ok, ◌≡◌, ◌<◌, length};
 ghost use Rattle.cells.specs.Checks.{◌then◌};
 ghost use Rattle.cells.specs.declared.End.TheVariants.{P, Q};
-ghost use Rattle.grids.specs.Grid.{count_check, bad_count, Shapes, bad_layer, layer_check, GivesLayerPart, GivesLayer, byte_index, cell_at};
+ghost use Rattle.grids.specs.Grid.{count_check, bad_count, shape, Shapes, bad_layer, layer_check, GivesLayerPart, GivesLayer, byte_index, cell_at};
 ghost use Rattle.grids.specs.Inside.{off_axis, grid_check, walk_check, Good, Counted, Enclosed};
 
 use cells::{Axis, Cell, Counts, End, Refusal};
@@ -15,6 +15,14 @@ use cells::{Axis, Cell, Counts, End, Refusal};
 pub struct LayerPart {
     pub start: usize,
     pub long: usize,
+}
+
+// Counts with the bytes that make a grid of them.
+#[derive(Clone, Copy)]
+pub struct Grid<'a> {
+    pub counts: Counts,
+    pub cells: &'a [u8],
+    ghost shaped: { shape counts (length cells.now) ≡ Ok tt },
 }
 
 fn bad_count(n: u32) -> bool
