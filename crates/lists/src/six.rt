@@ -32,11 +32,12 @@ pub fn six_way_of(p: Cell, q: Cell, d: Diffs) -> SixWay
     requires { InLimit p × InLimit q × (steps d ≡ differences p q) × Short d }
     ensures { SixWayOf p q result }
 {
-    let x = unit_to(p.x, q.x);
-    let y = unit_to(p.y, q.y);
-    let z = unit_to(p.z, q.z);
     SixWay {
-        towards: Each { x, y, z },
+        towards: Each {
+            x: unit_to(p.x, q.x),
+            y: unit_to(p.y, q.y),
+            z: unit_to(p.z, q.z),
+        },
         twice: tripod::twice(d),
     }
 }
@@ -46,8 +47,10 @@ pub fn first_spot(p: Cell, q: Cell, d: Diffs, rule: Rule) -> SixSpot
     requires { Measured p q d }
     ensures { SixSpotAt (order_of rule p q) p q (at 0 0 0) result }
 {
-    let e = tripod::lowered(tripod::first_values(d), tripod::order_of(rule, p, q));
-    SixSpot { at: p, e }
+    SixSpot {
+        at: p,
+        e: tripod::lowered(tripod::first_values(d), tripod::order_of(rule, p, q)),
+    }
 }
 
 // The neighbouring cell along n.

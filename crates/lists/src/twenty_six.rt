@@ -30,13 +30,11 @@ fn pace_of(p: i32, q: i32, d: u32, last: u32) -> Pace
     requires { (d ≤ 16383) × (last ≤ 16383) }
     ensures { result ≡ pace p q d last }
 {
-    let by = unit_to(p, q);
     let stay = (2 * d) as i32;
-    let less = (2 * last) as i32;
     Pace {
-        by,
+        by: unit_to(p, q),
         stay,
-        go: stay - less,
+        go: stay - (2 * last) as i32,
     }
 }
 
@@ -45,11 +43,9 @@ fn first_coordinate(p: i32, d: u32, last: u32) -> Coordinate
     requires { (d ≤ 16383) × (last ≤ 16383) }
     ensures { result ≡ first_of p d last }
 {
-    let stay = (2 * d) as i32;
-    let less = last as i32;
     Coordinate {
         at: p,
-        due: stay - less,
+        due: (2 * d) as i32 - last as i32,
     }
 }
 
@@ -76,10 +72,11 @@ fn paces_of(p: Cell, q: Cell, d: Diffs, last: u32) -> Each<Pace>
     requires { Short d × (last ≡ longest (steps d)) }
     ensures { result ≡ paces p q (steps d) }
 {
-    let x = pace_of(p.x, q.x, d.a, last);
-    let y = pace_of(p.y, q.y, d.b, last);
-    let z = pace_of(p.z, q.z, d.c, last);
-    Each { x, y, z }
+    Each {
+        x: pace_of(p.x, q.x, d.a, last),
+        y: pace_of(p.y, q.y, d.b, last),
+        z: pace_of(p.z, q.z, d.c, last),
+    }
 }
 
 // The three at P.
@@ -87,10 +84,11 @@ fn first_coordinates(p: Cell, d: Diffs, last: u32) -> Each<Coordinate>
     requires { Short d × (last ≡ longest (steps d)) }
     ensures { result ≡ firsts p (steps d) }
 {
-    let x = first_coordinate(p.x, d.a, last);
-    let y = first_coordinate(p.y, d.b, last);
-    let z = first_coordinate(p.z, d.c, last);
-    Each { x, y, z }
+    Each {
+        x: first_coordinate(p.x, d.a, last),
+        y: first_coordinate(p.y, d.b, last),
+        z: first_coordinate(p.z, d.c, last),
+    }
 }
 
 // The three in the next cell.
@@ -98,10 +96,11 @@ fn next_coordinates(c: Each<Coordinate>, k: Each<Pace>) -> Each<Coordinate>
     requires { CanMoves c k }
     ensures { result ≡ nexts k c }
 {
-    let x = next_coordinate(c.x, k.x);
-    let y = next_coordinate(c.y, k.y);
-    let z = next_coordinate(c.z, k.z);
-    Each { x, y, z }
+    Each {
+        x: next_coordinate(c.x, k.x),
+        y: next_coordinate(c.y, k.y),
+        z: next_coordinate(c.z, k.z),
+    }
 }
 
 // Their cell.

@@ -9,8 +9,8 @@ use Rattle.tripod.proofs.Laws.{place_small, short_at}
 use Rattle.lists.proofs.Filling.{no_steps}
 use Rattle.lists.proofs.six.first_spot.Goals as goal
 
-pub lowered-e-requires : goal.lowered-e-requires
-lowered-e-requires c =
+pub lowered-requires : goal.lowered-requires
+lowered-requires c =
     let d = c.args.d in
     rw c.first_values.ensures (place_small (steps d) (at 0 0 0) (short_at d c.requires.short) (λ a. rw (no_steps a) (omega arith)))
 
@@ -18,6 +18,6 @@ pub returns : goal.returns
 returns c =
     record {
       cell = sym (cell_start c.args.p c.args.q (at 0 0 0) no_steps);
-      value = c.lowered-e.ensures
+      value = c.lowered.ensures
           ∙ ap₂ lowered c.order_of.ensures (c.first_values.ensures ∙ ap (λ D. values D (at 0 0 0)) c.requires.is);
     }

@@ -26,9 +26,9 @@ returns c =
     let q = c.args.q in
     record {
       towards = λ i. record {
-        x = unit_of p q hp hq X c.unit_to-x.ensures i;
-        y = unit_of p q hp hq Y c.unit_to-y.ensures i;
-        z = unit_of p q hp hq Z c.unit_to-z.ensures i;
+        x = unit_of p q hp hq X c.unit_to.ensures i;
+        y = unit_of p q hp hq Y c.unit_to-2.ensures i;
+        z = unit_of p q hp hq Z c.unit_to-3.ensures i;
       };
       twice = c.twice.ensures ∙ ap doubled is;
     }

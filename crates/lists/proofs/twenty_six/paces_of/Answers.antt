@@ -21,7 +21,7 @@ returns c =
     let d = c.args.d in
     let e = c.requires.1 in
     λ i. record {
-      x = pace_is p.x q.x d.a (search rules) (search rules) e c.pace_of-x.ensures i;
-      y = pace_is p.y q.y d.b (search rules) (search rules) e c.pace_of-y.ensures i;
-      z = pace_is p.z q.z d.c (search rules) (search rules) e c.pace_of-z.ensures i;
+      x = pace_is p.x q.x d.a (search rules) (search rules) e c.pace_of.ensures i;
+      y = pace_is p.y q.y d.b (search rules) (search rules) e c.pace_of-2.ensures i;
+      z = pace_is p.z q.z d.c (search rules) (search rules) e c.pace_of-3.ensures i;
     }
