@@ -18,7 +18,7 @@ use Rattle.lines.proofs.Signs.{step_moves}
 use Rattle.lines.proofs.Ways.{at_even}
 use Rattle.tripod.specs.Tripod.{SmallTripod, NextTie}
 use Rattle.tripod.proofs.Laws.{place_small, doubled_small}
-use Rattle.touching.specs.declared.list.PastValues.{PastValues}
+use Rattle.touching.specs.declared.list.Past.{Past}
 use Rattle.touching.specs.Passing.{CanTie, tie_size}
 use Rattle.touching.specs.Listing.{course_of, CanCount, Counted}
 use Rattle.touching.proofs.Group.{tie_counts, tie_steps_from, can_map}
@@ -77,7 +77,7 @@ module _ (D : Steps) where
                 h.full.within less));
           }
 
-      pub counting_next : (r : PastValues) → Counted (doubled D) e r → Counting r.e (m + r.faces) (count + r.cells)
+      pub counting_next : (r : Past Tripod) → Counted (doubled D) e r → Counting r.spot (m + r.faces) (count + r.cells)
       counting_next r c =
           let is = found c.tie c.next in
           let size : length (visits_by h.t (tie_steps (course_of D) h.t) ways) ≡ r.cells =

@@ -1,6 +1,4 @@
 -- The walk from tie to tie: what is still to be found from here is what the whole walk finds. Assumes nothing.
-use Rattle.std.specs.Prelude.{Ok, Result}
-use Rattle.cells.specs.declared.Refusal.{Refusal}
 use mathlib.Core.Path.{◌≡◌, refl, sym, ap, ap₂, ◌∙◌, subst}
 use mathlib.Core.Bool.{Bool, true, false, cond, not, ◌&&◌, ◌||◌}
 use mathlib.Core.List.{List, [], ◌∷◌, ◌++◌}
@@ -130,24 +128,24 @@ module _ (l : List ℕ) (k : Route) (plan : Planned (length l) k) where
       }
 
   -- what is answered at a place whose cell is a hit
-  abbrev hit_at_place : Steps → ℕ → Result FirstHit Refusal
+  abbrev hit_at_place : Steps → ℕ → FirstHit
   hit_at_place t reads =
       let c : Cell = cell_of k.p k.q t in
-      Ok (FirstHit.Hit (record { cell = c; code = byte_of k.n l c; place = entered k.p k.q Xzy D t; reads = reads }))
+      FirstHit.Hit (record { cell = c; code = byte_of k.n l c; place = entered k.p k.q Xzy D t; reads = reads })
 
   -- the hit of a visit, where it is one
-  abbrev hit_of : Visit → ℕ → Result FirstHit Refusal
+  abbrev hit_of : Visit → ℕ → FirstHit
   hit_of v reads =
       let c : Cell = visit_cell k.p k.q v in
-      Ok (FirstHit.Hit (record { cell = c; code = byte_of k.n l c; place = visit_place k.p k.q v; reads = reads }))
+      FirstHit.Hit (record { cell = c; code = byte_of k.n l c; place = visit_place k.p k.q v; reads = reads })
 
   hit_answer :
       (start : Start) (u : Steps) (v : Visit) → Visiting (crossings k.p k.q) (centres_good y_z_x D) u v → (r : Stop) → At (visited v) r.spot →
       solid (byte_of k.n l (visit_cell k.p k.q v)) ≡ true → answer_from start l (told_from k) r ≡ hit_of v r.reads
   hit_answer start u v h r at-v there =
       place_answers start (length l) (told_from k) told_planned l (visited v) r at-v.0 at-v.1.index
-      ∙ ap (λ b. cond b (hit_at_place (visited v) r.reads) (Ok (FirstHit.Clear r.reads))) ((past_start start (visited v) (omega (arith, total_further v.from v.by, h.some))).1 ∙ there)
-      ∙ ap (λ a. FIXMEokhit (record {
+      ∙ ap (λ b. cond b (hit_at_place (visited v) r.reads) (FirstHit.Clear r.reads)) ((past_start start (visited v) (omega (arith, total_further v.from v.by, h.some))).1 ∙ there)
+      ∙ ap (λ a. FirstHit.Hit (record {
         cell = visit_cell k.p k.q v;
         code = byte_of k.n l (visit_cell k.p k.q v);
         place = a;
@@ -271,8 +269,8 @@ module _ (l : List ℕ) (k : Route) (plan : Planned (length l) k) where
         byte = spot_byte (length l) k plan (at 0 0 0) s none h;
         answers =
             place_answers start (length l) (told_from k) told_planned l (at 0 0 0) (record { spot = s; reads = 1 }) none h.index
-            ∙ ap (λ b. cond b (hit_at_place (at 0 0 0) 1) (Ok (FirstHit.Clear 1))) (start_test start ∙ met)
-            ∙ ap (λ c. Ok (FirstHit.Hit (record { cell = c; code = byte_of k.n l c; place = place_at_p; reads = 1 })))
+            ∙ ap (λ b. cond b (hit_at_place (at 0 0 0) 1) (FirstHit.Clear 1)) (start_test start ∙ met)
+            ∙ ap (λ c. FirstHit.Hit (record { cell = c; code = byte_of k.n l c; place = place_at_p; reads = 1 }))
             (cell_start k.p k.q (at 0 0 0) (at_even 0) ∙ sym (start_cell k.p k.q))
             ∙ sym (ap (λ b. cond b (hit_of (record { from = at 0 0 0; by = at 0 0 0 }) 1)
             (found_in (test start) k.n l k.p k.q 1 (visits_from (crossings k.p k.q) (total D) (at 0 0 0))))
@@ -375,7 +373,7 @@ module _ (l : List ℕ) (k : Route) (plan : Planned (length l) k) where
           record {
             byte = spot_byte (length l) k plan (visited w.v) r.turn.spot w.belongs.0 w.belongs.1;
             answers =
-                ap (λ b. cond b (answer_from start l (told_from k) (record { spot = r.turn.spot; reads = r.turn.reads })) (Ok (FirstHit.Clear r.turn.reads))) hit
+                ap (λ b. cond b (answer_from start l (told_from k) (record { spot = r.turn.spot; reads = r.turn.reads })) (FirstHit.Clear r.turn.reads)) hit
                 ∙ hit_answer start t w.v w.visiting (record { spot = r.turn.spot; reads = r.turn.reads }) w.belongs w.there
                 ∙ sym (w.finds more) ∙ ap (found_in (test start) k.n l k.p k.q reads) (sym e) ∙ h.between.rest start miss;
           }

@@ -1,4 +1,4 @@
--- Spots looked at one after the other: a look that hit is the answer, one that missed goes on where it ended. Assumes nothing.
+-- Spots looked at one after the other: a look that missed goes on where it ended. Assumes nothing.
 use mathlib.Core.Path.{◌≡◌, refl, sym, ap, ◌∙◌}
 use mathlib.Core.Bool.{Bool, true, false, cond}
 use mathlib.Core.List.{List, [], ◌∷◌, ◌++◌, append-nil}
@@ -28,16 +28,6 @@ last_spot d [] = d
 last_spot d (s ∷ k) = last_spot s k
 
 module _ (l : List ℕ) where
-  pub looked_hit : (reads : ℕ) (d : Spot) (k m : List Spot) → (looked l reads d k).hit ≡ true → looked l reads d (k ++ m) ≡ looked l reads d k
-  looked_hit reads d [] m h = absurd (never h)
-  looked_hit reads d (s ∷ k) m h = go (solid (byte_of_spot l s)) h (looked_hit (reads + 1) s k m)
-    where
-      go : (b : Bool) → (cond b (at_spot s (reads + 1) true) (looked l (reads + 1) s k)).hit ≡ true →
-          ((looked l (reads + 1) s k).hit ≡ true → looked l (reads + 1) s (k ++ m) ≡ looked l (reads + 1) s k) →
-          cond b (at_spot s (reads + 1) true) (looked l (reads + 1) s (k ++ m)) ≡ cond b (at_spot s (reads + 1) true) (looked l (reads + 1) s k)
-      go true h below = refl
-      go false h below = below h
-
   pub looked_miss : (reads : ℕ) (d : Spot) (k m : List Spot) → (looked l reads d k).hit ≡ false →
       looked l reads d (k ++ m) ≡ looked l (reads + length k) (last_spot d k) m
   looked_miss reads d [] m h = ap (λ i. looked l i d m) (omega arith)

@@ -13,8 +13,7 @@ use Rattle.tripod.specs.Tripod.{SmallTripod, SmallDoubled, NextTie}
 use Rattle.lists.specs.declared.six.SixWay.{SixWay}
 use Rattle.lists.specs.declared.six.SixSpot.{SixSpot}
 use Rattle.lists.specs.Kept.{crossed_six, CanCrossSix, put3}
-use Rattle.touching.specs.declared.list.PastCells.{PastCells}
-use Rattle.touching.specs.declared.list.PastValues.{PastValues}
+use Rattle.touching.specs.declared.list.Past.{Past}
 use Rattle.touching.specs.Passing.{of_tie, tie_end, CanTie, tie_size, tie_faces}
 
 -- cells stored one after the other, from a place of the slice on
@@ -34,7 +33,7 @@ pub record CanPut (room at : ℕ) (w : SixWay) (s : SixSpot) : Type 0 where
   pub fits : (tie : Tie) → NextTie s.e tie → (at + 3 * tie_size tie ≤ room) × CanTieSix w tie s
 
 -- they are stored, and the spot behind it is found
-pub record Put (entry : List ℤ) (at : ℕ) (w : SixWay) (s : SixSpot) (r : PastCells) (exit : List ℤ) : Type 0 where
+pub record Put (entry : List ℤ) (at : ℕ) (w : SixWay) (s : SixSpot) (r : Past SixSpot) (exit : List ℤ) : Type 0 where
   pub tie : Tie
   pub next : NextTie s.e tie
   pub stored : exit ≡ put_cells entry at (cells_of (of_tie (crossed_six w) tie s))
@@ -52,9 +51,9 @@ pub record CanCount (twice : Doubled) (e : Tripod) : Type 0 where
   pub small : SmallDoubled twice
   pub fits : (tie : Tie) → NextTie e tie → CanTie SmallTripod (moved_values twice) tie e
 
-pub record Counted (twice : Doubled) (e : Tripod) (r : PastValues) : Type 0 where
+pub record Counted (twice : Doubled) (e : Tripod) (r : Past Tripod) : Type 0 where
   pub tie : Tie
   pub next : NextTie e tie
-  pub values : r.e ≡ tie_end (moved_values twice) tie e
+  pub values : r.spot ≡ tie_end (moved_values twice) tie e
   pub cells : r.cells ≡ tie_size tie
   pub faces : r.faces ≡ tie_faces tie

@@ -1,6 +1,4 @@
 -- What the walk keeps from tie to tie, and what its steps ask and promise. No promise to users rests on this file. Assumes nothing.
-use Rattle.std.specs.Prelude.{Ok, Result}
-use Rattle.cells.specs.declared.Refusal.{Refusal}
 use Rattle.std.specs.Prelude.{ℕ, ◌+◌, ◌≤◌, ◌≡◌, true, false, cond, List, [], ◌∷◌, length}
 use Rattle.cells.specs.declared.Start.{Start}
 use Rattle.lines.specs.declared.Order.TheVariants.{Xzy}
@@ -54,14 +52,14 @@ abbrev pub told_from : Route → Route
 told_from k = record { n = k.n; p = k.p; q = k.q; order = Xzy; d = k.d; strides = k.strides; twice = k.twice }
 
 -- the definition's answer along a route
-abbrev pub found_along : Start → List ℕ → Route → Result FirstHit Refusal
+abbrev pub found_along : Start → List ℕ → Route → FirstHit
 found_along start l k = found_in (hit_at (walking start) k.n l k.p) k.n l k.p k.q 0 (visits (crossings k.p k.q))
 
 -- where the walk stopped there is a byte. If it hit, the answer from there is the definition's; if not, that is clear, with so many reads.
 pub record StopsTouching (start : Start) (l : List ℕ) (k : Route) (r : Turn) : Type 0 where
   pub byte : HasByte (length l) r.spot.at
   pub answers :
-      cond r.hit (answer_from start l (told_from k) (record { spot = r.spot; reads = r.reads })) (Ok (FirstHit.Clear r.reads)) ≡ found_along start l k
+      cond r.hit (answer_from start l (told_from k) (record { spot = r.spot; reads = r.reads })) (FirstHit.Clear r.reads) ≡ found_along start l k
 
 -- whichever the start, if P is no hit
 abbrev pub WalksTies : List ℕ → Route → Turn → Type 0

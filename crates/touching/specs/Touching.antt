@@ -1,8 +1,7 @@
 -- SCOPE M: the list of the touching line, and the first hit along it. Refusals: of the list 1, then 6, as for every line list; of the first hit 2, 3, then 5,
 -- as for every walk. Assumes nothing.
-use Rattle.std.specs.Prelude.{Ok, Err, Result}
+use Rattle.std.specs.Prelude.{Ok, Err, Result, ℕ, ◌+◌, ◌≡◌, Bool, cond, List, [], ◌∷◌, ℤ, length}
 use Rattle.cells.specs.declared.Refusal.{Refusal}
-use Rattle.std.specs.Prelude.{ℕ, ◌+◌, ◌≡◌, Bool, cond, List, [], ◌∷◌, ℤ, length}
 use Rattle.cells.specs.declared.Cell.{Cell}
 use Rattle.cells.specs.declared.Counts.{Counts}
 use Rattle.cells.specs.declared.Start.{Start}
@@ -35,12 +34,12 @@ visit_place p q v =
     }
 
 -- SCOPE M5, M7: of some visits the first whose cell passes the test is the hit; so many cells were read before them. Where there is none: clear.
-unfoldable pub found_in : (Cell → Bool) → Counts → List ℕ → Cell → Cell → (reads : ℕ) → List Visit → Result FirstHit Refusal
+unfoldable pub found_in : (Cell → Bool) → Counts → List ℕ → Cell → Cell → (reads : ℕ) → List Visit → FirstHit
 unfolding visit_place
-found_in test n l p q reads [] = Ok (FirstHit.Clear reads)
+found_in test n l p q reads [] = FirstHit.Clear reads
 found_in test n l p q reads (v ∷ more) =
     let c : Cell = visit_cell p q v in
-    cond (test c) (Ok (FirstHit.Hit (record { cell = c; code = byte_of n l c; place = visit_place p q v; reads = reads + 1 })))
+    cond (test c) (FirstHit.Hit (record { cell = c; code = byte_of n l c; place = visit_place p q v; reads = reads + 1 }))
     (found_in test n l p q (reads + 1) more)
 
 -- SCOPE M5, W9: the test is that of every walk: a solid byte, unless it is that of a P that is not tested. No rule plays a part in it.
@@ -50,7 +49,7 @@ walking start = record { start = start; preference = y_z_x }
 unfoldable pub first_touching : Start → Counts → List ℕ → Cell → Cell → Result FirstHit Refusal
 unfolding walk_check found_in visits
 first_touching start n l p q =
-    by_verdict Err (found_in (hit_at (walking start) n l p) n l p q 0 (visits (crossings p q))) (walk_check n (length l) p q)
+    by_verdict Err (Ok (found_in (hit_at (walking start) n l p) n l p q 0 (visits (crossings p q)))) (walk_check n (length l) p q)
 
 -- its contract
 pub record FindsTouching (start : Start) (n : Counts) (l : List ℕ) (p q : Cell) (r : Result FirstHit Refusal) : Type 0 where

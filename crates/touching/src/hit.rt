@@ -10,7 +10,7 @@ ghost use Rattle.touching.specs.Touching.{FindsTouching};
 ghost use Rattle.touching.specs.Passing.{of_tie};
 ghost use Rattle.touching.specs.Looking.{looked, CanLook, CanLookTie, CanTurn, Turned, told_from, found_along, WalksTies, StopsTouching};
 
-use cells::{Axis, Cell, Counts, Manner, Rule, Start, Verdict};
+use cells::{Axis, Cell, Counts, Manner, Refusal, Rule, Start};
 use hits::{Stop, Turn};
 use lines::{Order, Tie, Tripod};
 use routes::{Route, Spot};
@@ -28,11 +28,10 @@ fn look(cells: &[u8], s: Spot, reads: u32) -> Turn
     requires { CanLook (length cells.now) reads (s ∷ []) }
     ensures { result ≡ looked cells.now reads s (s ∷ []) }
 {
-    let hit = hits::is_solid(routes::byte_at(cells, s));
     Turn {
         spot: s,
         reads: reads + 1,
-        hit: hit,
+        hit: hits::is_solid(routes::byte_at(cells, s)),
     }
 }
 
@@ -41,17 +40,15 @@ fn look_three(cells: &[u8], a: Spot, b: Spot, c: Spot, reads: u32) -> Turn
     requires { CanLook (length cells.now) reads (a ∷ b ∷ c ∷ []) }
     ensures { result ≡ looked cells.now reads a (a ∷ b ∷ c ∷ []) }
 {
-    let past_one = reads + 1;
-    let past_two = reads + 2;
     let first = look(cells, a, reads);
     if first.hit {
         return first;
     }
-    let second = look(cells, b, past_one);
+    let second = look(cells, b, reads + 1);
     if second.hit {
         return second;
     }
-    look(cells, c, past_two)
+    look(cells, c, reads + 2)
 }
 
 // The cells of a tie of two axes: by the first step, by the second, by both.
@@ -70,8 +67,6 @@ fn look_all(cells: &[u8], k: Route, s: Spot, reads: u32) -> Turn
     requires { CanLookTie (length cells.now) k s reads Three }
     ensures { result ≡ looked cells.now reads s (of_tie (crossed_spot k) Three s) }
 {
-    let past_ones = reads + 3;
-    let past_twos = reads + 6;
     let y = routes::crossed(s, k, Axis::Y);
     let z = routes::crossed(s, k, Axis::Z);
     let x = routes::crossed(s, k, Axis::X);
@@ -82,11 +77,11 @@ fn look_all(cells: &[u8], k: Route, s: Spot, reads: u32) -> Turn
     let yz = routes::crossed(y, k, Axis::Z);
     let yx = routes::crossed(y, k, Axis::X);
     let zx = routes::crossed(z, k, Axis::X);
-    let twos = look_three(cells, yz, yx, zx, past_ones);
+    let twos = look_three(cells, yz, yx, zx, reads + 3);
     if twos.hit {
         return twos;
     }
-    look(cells, routes::crossed(yz, k, Axis::X), past_twos)
+    look(cells, routes::crossed(yz, k, Axis::X), reads + 6)
 }
 
 // The cells of the next tie.
@@ -95,13 +90,10 @@ fn tie_turn(cells: &[u8], k: Route, s: Spot, reads: u32) -> TieTurn
     ensures { Turned cells.now k s reads result }
 {
     match tripod::next_tie(s.e) {
-        Tie::One(n) => {
-            let spot = routes::crossed(s, k, n);
-            TieTurn {
-                turn: look(cells, spot, reads),
-                faces: 1,
-            }
-        }
+        Tie::One(n) => TieTurn {
+            turn: look(cells, routes::crossed(s, k, n), reads),
+            faces: 1,
+        },
         Tie::Two(a, b) => TieTurn {
             turn: look_two(cells, k, s, a, b, reads),
             faces: 2,
@@ -114,16 +106,15 @@ fn tie_turn(cells: &[u8], k: Route, s: Spot, reads: u32) -> TieTurn
 }
 
 // From P, which is passed, from tie to tie: to the first solid cell, or to Q. A tie of one axis, the most frequent, is passed here: then the cells read grow
-// with the faces, and one number counts both; `more` is how many more they are.
+// with the faces, and one number counts both; `more` is how many more they are. A turn passes one, two or three faces.
 fn walk_ties(cells: &[u8], k: Route, start: Spot) -> Turn
     requires { Planned (length cells.now) k × (k.order ≡ Yzx) × SpotAt k (at 0 0 0) start }
     ensures { WalksTies cells.now k result }
 {
-    let d = k.d;
-    let faces = d.total();
+    let faces = k.d.total();
     let mut s = start;
-    let mut more: u32 = 1;
-    let mut m: u32 = 0;
+    let mut more = 1;
+    let mut m = 0;
     while m < faces {
         match tripod::next_tie(s.e) {
             Tie::One(n) => {
@@ -139,13 +130,12 @@ fn walk_ties(cells: &[u8], k: Route, start: Spot) -> Turn
             }
             _ => {
                 let t = tie_turn(cells, k, s, m + more);
-                let turn = t.turn;
-                s = turn.spot;
+                s = t.turn.spot;
                 m += t.faces;
-                if turn.hit {
-                    return turn;
+                if t.turn.hit {
+                    return t.turn;
                 }
-                more = turn.reads - m;
+                more = t.turn.reads - m;
             }
         }
     }
@@ -161,10 +151,7 @@ fn starts_solid(cells: &[u8], s: Spot, how: Manner) -> bool
     requires { HasByte (length cells.now) s.at }
     ensures { result ≡ (is_tested how.start && solid (byte_of_spot cells.now s)) }
 {
-    if how.tests_start() {
-        return hits::is_solid(routes::byte_at(cells, s));
-    }
-    false
+    how.tests_start() && hits::is_solid(routes::byte_at(cells, s))
 }
 
 // The walk: P, where it is tested, then the ties.
@@ -186,20 +173,9 @@ fn walk_touching(cells: &[u8], k: Route, start: Spot, how: Manner) -> Turn
 fn told_from(k: Route) -> Route
     ensures { result ≡ told_from k }
 {
-    let n = k.n;
-    let p = k.p;
-    let q = k.q;
-    let d = k.d;
-    let strides = k.strides;
-    let twice = k.twice;
     Route {
-        n: n,
-        p: p,
-        q: q,
         order: Order::Xzy,
-        d: d,
-        strides: strides,
-        twice: twice,
+        ..k
     }
 }
 
@@ -212,14 +188,15 @@ fn touching_answer(cells: &[u8], k: Route, how: Manner) -> FirstHit
     let told = told_from(k);
     let t = walk_touching(cells, k, routes::first_spot(k), how);
     if t.hit {
-        let spot = t.spot;
-        let at = spot.at;
         let none = Tripod {
             xy: 0,
             xz: 0,
             zy: 0,
         };
-        let there = Spot { at: at, e: none };
+        let there = Spot {
+            at: t.spot.at,
+            e: none,
+        };
         let stop = Stop {
             spot: there,
             reads: t.reads,
@@ -230,15 +207,20 @@ fn touching_answer(cells: &[u8], k: Route, how: Manner) -> FirstHit
 }
 
 // The first hit along the touching line from p to q.
-pub fn first_touching(n: Counts, cells: &[u8], p: Cell, q: Cell, start: Start) -> FirstHit
+#[tactic(auto, unfolding(crate::specs::Touching::first_touching))]
+pub fn first_touching(
+    n: Counts,
+    cells: &[u8],
+    p: Cell,
+    q: Cell,
+    start: Start,
+) -> Result<FirstHit, Refusal>
     ensures { FindsTouching start n cells.now p q result }
 {
     let how = Manner {
-        start: start,
+        start,
         rule: Rule::One,
     };
-    match grids::check_walk(n, cells.len(), p, q) {
-        Verdict::Refused(r) => FirstHit::Refused(r),
-        Verdict::Fine => touching_answer(cells, routes::route_of(n, p, q, Rule::One), how),
-    }
+    grids::check_walk(n, cells.len(), p, q)?;
+    Ok(touching_answer(cells, routes::route_of(n, p, q, Rule::One), how))
 }

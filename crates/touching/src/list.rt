@@ -9,23 +9,15 @@ ghost use Rattle.touching.specs.Touching.{LineTouching};
 ghost use Rattle.touching.specs.Passing.{of_tie, tie_end};
 ghost use Rattle.touching.specs.Listing.{put_cells, cells_of, CanTieSix, CanPut, Put, course_of, CanCount, Counted};
 
-use cells::{Axis, Cell, Refusal, Rule, Verdict};
+use cells::{Axis, Cell, Refusal, Rule};
 use lines::{Doubled, Tie, Tripod};
-use lists::{Listed, SixSpot, SixWay};
+use lists::{SixSpot, SixWay};
 use tripod::Diffs;
 
-// Past a tie: the spot behind it, and how many cells and how many faces it has.
+// Past a tie: what is behind it, the spot or, where cells are counted alone, its values; and how many cells and how many faces it has.
 #[derive(Clone, Copy)]
-pub struct PastCells {
-    pub spot: SixSpot,
-    pub cells: u32,
-    pub faces: u32,
-}
-
-// Past a tie, by its values alone.
-#[derive(Clone, Copy)]
-pub struct PastValues {
-    pub e: Tripod,
+pub struct Past<S> {
+    pub spot: S,
     pub cells: u32,
     pub faces: u32,
 }
@@ -57,8 +49,6 @@ fn put_all(out: &mut [i32], at: usize, s: SixSpot, w: SixWay) -> SixSpot
     requires { (at + 21 ≤ length out.old) × CanTieSix w Three s }
     ensures { (out.new ≡ put_cells out.old at (cells_of (of_tie (crossed_six w) Three s))) × (result ≡ tie_end (crossed_six w) Three s) }
 {
-    let twos = at + 9;
-    let last = at + 18;
     let y = lists::crossed(s, w, Axis::Y);
     let z = lists::crossed(s, w, Axis::Z);
     let x = lists::crossed(s, w, Axis::X);
@@ -67,13 +57,13 @@ fn put_all(out: &mut [i32], at: usize, s: SixSpot, w: SixWay) -> SixSpot
     let zx = lists::crossed(z, w, Axis::X);
     let yzx = lists::crossed(yz, w, Axis::X);
     put_three(out, at, y.at, z.at, x.at);
-    put_three(out, twos, yz.at, yx.at, zx.at);
-    lists::put(out, last, yzx.at);
+    put_three(out, at + 9, yz.at, yx.at, zx.at);
+    lists::put(out, at + 18, yzx.at);
     yzx
 }
 
 // The cells of the next tie.
-fn put_tie(out: &mut [i32], at: usize, s: SixSpot, w: SixWay) -> PastCells
+fn put_tie(out: &mut [i32], at: usize, s: SixSpot, w: SixWay) -> Past<SixSpot>
     requires { CanPut (length out.old) at w s }
     ensures { Put out.old at w s result out.new }
 {
@@ -81,33 +71,27 @@ fn put_tie(out: &mut [i32], at: usize, s: SixSpot, w: SixWay) -> PastCells
         Tie::One(n) => {
             let spot = lists::crossed(s, w, n);
             lists::put(out, at, spot.at);
-            PastCells {
-                spot: spot,
+            Past {
+                spot,
                 cells: 1,
                 faces: 1,
             }
         }
-        Tie::Two(a, b) => {
-            let spot = put_two(out, at, s, w, a, b);
-            PastCells {
-                spot: spot,
-                cells: 3,
-                faces: 2,
-            }
-        }
-        Tie::Three => {
-            let spot = put_all(out, at, s, w);
-            PastCells {
-                spot: spot,
-                cells: 7,
-                faces: 3,
-            }
-        }
+        Tie::Two(a, b) => Past {
+            spot: put_two(out, at, s, w, a, b),
+            cells: 3,
+            faces: 2,
+        },
+        Tie::Three => Past {
+            spot: put_all(out, at, s, w),
+            cells: 7,
+            faces: 3,
+        },
     }
 }
 
 // The cells of the line, at the front of the slice, and how many they are. A tie of one axis, the most frequent, is passed here: then the cells grow with the
-// faces, and one number counts both; `more` is how many more they are.
+// faces, and one number counts both; `more` is how many more they are. A turn passes one, two or three faces.
 fn fill(out: &mut [i32], p: Cell, q: Cell, d: Diffs) -> u32
     requires { Measured p q d × (3 * length (touching_line p q) ≤ length out.old) }
     ensures { (out.new ≡ filled (touching_line p q) out.old) × (result ≡ length (touching_line p q)) }
@@ -115,9 +99,9 @@ fn fill(out: &mut [i32], p: Cell, q: Cell, d: Diffs) -> u32
     let w = lists::six_way_of(p, q, d);
     let mut s = lists::first_spot(p, q, d, Rule::One);
     let crossings = d.total();
-    let mut m: u32 = 0;
-    let mut more: u32 = 1;
-    let mut at: usize = 3;
+    let mut m = 0;
+    let mut more = 1;
+    let mut at = 3;
     lists::put(out, 0, p);
     while m < crossings {
         match tripod::next_tie(s.e) {
@@ -140,26 +124,26 @@ fn fill(out: &mut [i32], p: Cell, q: Cell, d: Diffs) -> u32
 }
 
 // The values behind the next tie, and how many cells it has.
-fn past_tie(e: Tripod, twice: Doubled) -> PastValues
+fn past_tie(e: Tripod, twice: Doubled) -> Past<Tripod>
     requires { CanCount twice e }
     ensures { Counted twice e result }
 {
     match tripod::next_tie(e) {
-        Tie::One(n) => PastValues {
-            e: tripod::moved(e, twice, n),
+        Tie::One(n) => Past {
+            spot: tripod::moved(e, twice, n),
             cells: 1,
             faces: 1,
         },
-        Tie::Two(a, b) => PastValues {
-            e: tripod::moved(tripod::moved(e, twice, a), twice, b),
+        Tie::Two(a, b) => Past {
+            spot: tripod::moved(tripod::moved(e, twice, a), twice, b),
             cells: 3,
             faces: 2,
         },
         Tie::Three => {
             let y = tripod::moved(e, twice, Axis::Y);
             let yz = tripod::moved(y, twice, Axis::Z);
-            PastValues {
-                e: tripod::moved(yz, twice, Axis::X),
+            Past {
+                spot: tripod::moved(yz, twice, Axis::X),
                 cells: 7,
                 faces: 3,
             }
@@ -167,7 +151,7 @@ fn past_tie(e: Tripod, twice: Doubled) -> PastValues
     }
 }
 
-// How many cells the line has, before the first is stored.
+// How many cells the line has, before the first is stored. A turn passes one, two or three faces.
 fn count_cells(d: Diffs) -> u32
     requires { Short d }
     ensures { result ≡ length (visits (course_of (steps d))) }
@@ -175,11 +159,11 @@ fn count_cells(d: Diffs) -> u32
     let twice = tripod::twice(d);
     let mut e = tripod::first_values(d);
     let crossings = d.total();
-    let mut m: u32 = 0;
-    let mut count: u32 = 1;
+    let mut m = 0;
+    let mut count = 1;
     while m < crossings {
         let past = past_tie(e, twice);
-        e = past.e;
+        e = past.spot;
         count += past.cells;
         m += past.faces;
     }
@@ -192,25 +176,17 @@ fn lacks_room(room: usize, d: Diffs) -> bool
     ensures { result ≡ ltb room (3 * length (visits (course_of (steps d)))) }
 {
     let most = 3 + 7 * d.total();
-    if most as usize <= room {
-        return false;
-    }
-    room < 3 * (count_cells(d) as usize)
+    room < most as usize && room < 3 * (count_cells(d) as usize)
 }
 
 // The touching line from p to q.
-pub fn line_touching(p: Cell, q: Cell, out: &mut [i32]) -> Listed
+pub fn line_touching(p: Cell, q: Cell, out: &mut [i32]) -> Result<u32, Refusal>
     ensures { LineTouching p q out.old result out.new }
 {
-    match lists::check_ends(p, q) {
-        Verdict::Refused(r) => Listed::Refused(r),
-        Verdict::Fine => {
-            let d = tripod::measured(p, q);
-            if lacks_room(out.len(), d) {
-                Listed::Refused(Refusal::Room)
-            } else {
-                Listed::Cells(fill(out, p, q, d))
-            }
-        }
+    lists::check_ends(p, q)?;
+    let d = tripod::measured(p, q);
+    if lacks_room(out.len(), d) {
+        return Err(Refusal::Room);
     }
+    Ok(fill(out, p, q, d))
 }

@@ -1,5 +1,4 @@
 -- `touching::hit::touching_answer` meets its contract: the answer is worked out from where the walk hit, or it is clear. Assumes nothing.
-use Rattle.std.specs.Prelude.{Ok}
 use Prim.Native.Nat.{ℕ}
 use mathlib.Core.Path.{◌≡◌, refl, sym, ap, ◌∙◌, subst}
 use mathlib.Core.Bool.{Bool, true, false, cond}
@@ -30,11 +29,11 @@ by_place start l k at e f reads = refl
 -- what the walk says, by whether it hit
 says : (c : After-walk_touching-t) (hit : Bool) → c.walk_touching-t.result.hit ≡ hit →
     let r = c.walk_touching-t.result in
-    cond hit (answer_from c.args.how.start c.args.cells.now (told_from c.args.k) (record { spot = r.spot; reads = r.reads })) (Ok (FirstHit.Clear r.reads)) ≡
+    cond hit (answer_from c.args.how.start c.args.cells.now (told_from c.args.k) (record { spot = r.spot; reads = r.reads })) (FirstHit.Clear r.reads) ≡
     found_along c.args.how.start c.args.cells.now c.args.k
 says c hit is =
     let r = c.walk_touching-t.result in
-    ap (λ b. cond b (answer_from c.args.how.start c.args.cells.now (told_from c.args.k) (record { spot = r.spot; reads = r.reads })) (Ok (FirstHit.Clear r.reads)))
+    ap (λ b. cond b (answer_from c.args.how.start c.args.cells.now (told_from c.args.k) (record { spot = r.spot; reads = r.reads })) (FirstHit.Clear r.reads))
     (sym is) ∙ c.walk_touching-t.ensures.answers
 
 -- the place of the byte is read back as it is

@@ -5,18 +5,16 @@ use mathlib.Core.Bool.{Bool, true, false}
 use Prim.Native.Nat.{◌+◌, ◌-◌, ◌≤◌, ◌<◌}
 use native.Mathlib.Omega.{arith}
 use lib.ListN.{length}
-use Rattle.lines.specs.Steps.{X, Y, Z, total}
+use Rattle.lines.specs.Steps.{total}
 use Rattle.lines.specs.Lines.{differences}
 use Rattle.lines.specs.declared.Tie.TheVariants.{One}
 use Rattle.tripod.specs.Tripod.{NextTie}
 use Rattle.grids.specs.Grid.{solid}
 use Rattle.routes.specs.Route.{Planned, HasByte}
-use Rattle.routes.proofs.Spots.{short_at}
 use Rattle.touching.specs.Looking.{CanLookTie, Turned, WalksTies}
-use Rattle.touching.proofs.Group.{tie_few}
-use Rattle.touching.proofs.Finding.{one_turned, Walking, walking_start, faces_most, reads_most, walking_can, turn_stops, turn_goes, walk_stops}
+use Rattle.touching.proofs.Finding.{one_turned, Walking, walking_start, reads_most, walking_can, turn_stops, turn_goes, walk_stops}
 use Rattle.touching.proofs.hit.walk_ties.Goals as goal
-use Rattle.touching.proofs.hit.walk_ties.Goals.{After-is_solid, After-total-faces, At-loop-m, Else-turn, In-One, In-loop-m}
+use Rattle.touching.proofs.hit.walk_ties.Goals.{After-is_solid, After-total-faces, At-loop-m, Else-t, In-One, In-loop-m}
 
 -- how many crossings there are
 all : (c : After-total-faces) → let k = c.args.k in c.total-faces.result ≡ total (differences k.p k.q)
@@ -71,9 +69,6 @@ returns-then-is_solid c =
     subst (λ r. WalksTies c.args.cells.now c.args.k (record { spot = c.crossed-s.result; reads = r; hit = true })) one_more
     (turn_stops c.args.cells.now c.args.k c.requires.0 c.requires.1 _ _ _ (here earlier.At-loop-m) (below earlier.In-loop-m (all earlier.After-total-faces)) _ (turned earlier.After-is_solid (one earlier.In-One) true c.if-is_solid.true) refl)
 
-pub loop-m-smaller-else-is_solid : goal.loop-m-smaller-else-is_solid
-loop-m-smaller-else-is_solid c = omega (arith, c.loop-m-test.true)
-
 pub loop-m-preserved-else-is_solid : goal.loop-m-preserved-else-is_solid
 loop-m-preserved-else-is_solid c =
     let earlier = goal.at.loop-m-preserved-else-is_solid c in
@@ -90,44 +85,35 @@ tie_turn-t-requires c =
     let earlier = goal.at.tie_turn-t-requires c in
     walking_can c.args.cells.now c.args.k c.requires.0 c.requires.1 _ _ _ (here earlier.At-loop-m) (below earlier.In-loop-m (all earlier.After-total-faces))
 
-pub overflow_add-m-in_default-2 : goal.overflow_add-m-in_default-2
-overflow_add-m-in_default-2 c =
-    let short = short_at _ c.args.k c.requires.0 in
-    let most = faces_most c.args.cells.now c.args.k c.requires.0 c.requires.1 _ _ _ (here ((goal.at.overflow_add-m-in_default-2 c).At-loop-m)) in
-    record { fits = omega (arith, most, short X, short Y, short Z, tie_few c.tie_turn-t.ensures.tie, c.tie_turn-t.ensures.faces) }
-
-pub returns-then-turn : goal.returns-then-turn
-returns-then-turn c =
-    let earlier = goal.at.returns-then-turn c in
-    turn_stops c.args.cells.now c.args.k c.requires.0 c.requires.1 _ _ _ (here earlier.At-loop-m) (below earlier.In-loop-m (all earlier.After-total-faces)) c.tie_turn-t.result c.tie_turn-t.ensures c.if-turn.true
+pub returns-then-t : goal.returns-then-t
+returns-then-t c =
+    let earlier = goal.at.returns-then-t c in
+    turn_stops c.args.cells.now c.args.k c.requires.0 c.requires.1 _ _ _ (here earlier.At-loop-m) (below earlier.In-loop-m (all earlier.After-total-faces)) c.tie_turn-t.result c.tie_turn-t.ensures c.if-t.true
 
 -- a turn that missed
-on : (c : Else-turn) → c.loop-m.m < total (differences c.args.k.p c.args.k.q) →
+on : (c : Else-t) → c.loop-m.m < total (differences c.args.k.p c.args.k.q) →
     (plan : Planned (length c.args.cells.now) c.args.k) →
     Walking c.args.cells.now c.args.k plan c.tie_turn-t.result.turn.spot (c.loop-m.m + c.tie_turn-t.result.faces)
     c.tie_turn-t.result.turn.reads
 on c below plan =
-    turn_goes c.args.cells.now c.args.k plan c.requires.1 _ _ _ (c.loop-m.invariant plan) below c.tie_turn-t.result c.tie_turn-t.ensures c.if-turn.false
+    turn_goes c.args.cells.now c.args.k plan c.requires.1 _ _ _ (c.loop-m.invariant plan) below c.tie_turn-t.result c.tie_turn-t.ensures c.if-t.false
 
 -- its reads are more than its faces
-more_reads : (c : Else-turn) → c.loop-m.m < total (differences c.args.k.p c.args.k.q) →
+more_reads : (c : Else-t) → c.loop-m.m < total (differences c.args.k.p c.args.k.q) →
     c.loop-m.m + c.tie_turn-t.result.faces < c.tie_turn-t.result.turn.reads
 more_reads c below = (on c below c.requires.0).least
 
 pub overflow_sub-more : goal.overflow_sub-more
 overflow_sub-more c =
     let earlier = goal.at.overflow_sub-more c in
-    omega (arith, more_reads earlier.Else-turn (below earlier.In-loop-m (all earlier.After-total-faces)))
-
-pub loop-m-smaller : goal.loop-m-smaller
-loop-m-smaller c = omega (arith, c.loop-m-test.true, tie_few c.tie_turn-t.ensures.tie, c.tie_turn-t.ensures.faces)
+    omega (arith, more_reads earlier.Else-t (below earlier.In-loop-m (all earlier.After-total-faces)))
 
 pub loop-m-preserved : goal.loop-m-preserved
 loop-m-preserved c =
     let earlier = goal.at.loop-m-preserved c in
     let m = c.loop-m.m + c.tie_turn-t.result.faces in
-    let same : c.tie_turn-t.result.turn.reads ≡ m + (c.tie_turn-t.result.turn.reads - m) = omega (arith, more_reads earlier.Else-turn (below earlier.In-loop-m (all earlier.After-total-faces))) in
-    λ plan. subst (Walking c.args.cells.now c.args.k plan c.tie_turn-t.result.turn.spot m) same (on earlier.Else-turn (below earlier.In-loop-m (all earlier.After-total-faces)) plan)
+    let same : c.tie_turn-t.result.turn.reads ≡ m + (c.tie_turn-t.result.turn.reads - m) = omega (arith, more_reads earlier.Else-t (below earlier.In-loop-m (all earlier.After-total-faces))) in
+    λ plan. subst (Walking c.args.cells.now c.args.k plan c.tie_turn-t.result.turn.spot m) same (on earlier.Else-t (below earlier.In-loop-m (all earlier.After-total-faces)) plan)
 
 pub overflow_add-result-2 : goal.overflow_add-result-2
 overflow_add-result-2 c = record { fits = omega (arith, reads_most c.args.cells.now c.args.k c.requires.0 c.requires.1 _ _ _ (here ((goal.at.overflow_add-result-2 c).At-loop-m))) }

@@ -3,12 +3,11 @@
 use mathlib.Core.Path.{sym, subst}
 use Prim.Native.Nat.{◌+◌, ◌≤◌, ◌<◌}
 use native.Mathlib.Omega.{arith}
-use Rattle.lines.specs.Steps.{X, Y, Z, total}
+use Rattle.lines.specs.Steps.{total}
 use Rattle.tripod.specs.Tripod.{steps}
 use Rattle.tripod.proofs.Laws.{short_at}
 use Rattle.touching.specs.Listing.{CanCount, Counted}
-use Rattle.touching.proofs.Group.{tie_few}
-use Rattle.touching.proofs.Counting.{Counting, counting_start, faces_most, cells_most, counting_can, counting_next, counting_end}
+use Rattle.touching.proofs.Counting.{Counting, counting_start, cells_most, counting_can, counting_next, counting_end}
 use Rattle.touching.proofs.list.count_cells.Goals as goal
 use Rattle.touching.proofs.list.count_cells.Goals.{After-past_tie-past, At-loop-m, In-loop-m}
 
@@ -32,7 +31,7 @@ past_tie-past-requires c =
 turned : (c : After-past_tie-past) →
     Counting (steps c.args.d) c.loop-m.e c.loop-m.m c.loop-m.count → c.loop-m.m < total (steps c.args.d) →
     let r = c.past_tie-past.result in
-    Counting (steps c.args.d) r.e (c.loop-m.m + r.faces) (c.loop-m.count + r.cells)
+    Counting (steps c.args.d) r.spot (c.loop-m.m + r.faces) (c.loop-m.count + r.cells)
 turned c here below =
     counting_next _ _ _ _ here below _
     (subst (λ w. Counted w c.loop-m.e c.past_tie-past.result) c.twice-twice.ensures c.past_tie-past.ensures)
@@ -41,15 +40,6 @@ pub overflow_add-count : goal.overflow_add-count
 overflow_add-count c =
     let earlier = goal.at.overflow_add-count c in
     record { fits = omega (arith, cells_most _ _ _ _ (turned earlier.After-past_tie-past (here earlier.At-loop-m) (below earlier.In-loop-m)) (short_at c.args.d c.requires)) }
-
-pub overflow_add-m : goal.overflow_add-m
-overflow_add-m c =
-    let earlier = goal.at.overflow_add-m c in
-    let short = short_at c.args.d c.requires in
-    record { fits = omega (arith, faces_most _ _ _ _ (turned earlier.After-past_tie-past (here earlier.At-loop-m) (below earlier.In-loop-m)), short X, short Y, short Z) }
-
-pub loop-m-smaller : goal.loop-m-smaller
-loop-m-smaller c = omega (arith, below ((goal.at.loop-m-smaller c).In-loop-m), tie_few c.past_tie-past.ensures.tie, c.past_tie-past.ensures.faces)
 
 pub loop-m-preserved : goal.loop-m-preserved
 loop-m-preserved c =

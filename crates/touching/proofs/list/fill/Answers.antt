@@ -90,15 +90,6 @@ put-requires-in-One c =
     let earlier = goal.at.put-requires-in-One c in
     omega (arith, ((can earlier.In-loop-m (stored earlier.At-loop-m (spot earlier.After-first_spot-s))).fits _ (one earlier.In-One)).0, c.loop-m.invariant.0)
 
-pub overflow_add-at : goal.overflow_add-at
-overflow_add-at c =
-    let earlier = goal.at.overflow_add-at c in
-    let k = c.requires.0 in
-    record { fits = omega (arith, cells_most _ _ _ _ _ _ _ _ _ (stored earlier.At-loop-m (spot earlier.After-first_spot-s)) k.p_in k.q_in, c.loop-m.invariant.0) }
-
-pub loop-m-smaller-in-One : goal.loop-m-smaller-in-One
-loop-m-smaller-in-One c = omega (arith, c.loop-m-test.true)
-
 pub loop-m-preserved-in-One : goal.loop-m-preserved-in-One
 loop-m-preserved-in-One c =
     let at-is = c.loop-m.invariant.0 in
@@ -139,40 +130,10 @@ most c here =
     let b = c.put_tie-past.ensures.faces in
     (cells_most _ _ _ _ _ _ _ _ _ f k.p_in k.q_in, omega arith, omega arith, omega (arith, faces_most _ _ _ _ _ _ _ _ _ f, short X, short Y, short Z))
 
-pub overflow_cast-at : goal.overflow_cast-at
-overflow_cast-at c =
-    let earlier = goal.at.overflow_cast-at c in
-    record { fits = omega (arith, most earlier.After-put_tie-past (stored earlier.At-loop-m (spot earlier.After-first_spot-s))) }
-
-pub overflow_mul-at : goal.overflow_mul-at
-overflow_mul-at c =
-    let earlier = goal.at.overflow_mul-at c in
-    record { fits = omega (arith, most earlier.After-put_tie-past (stored earlier.At-loop-m (spot earlier.After-first_spot-s))) }
-
-pub overflow_add-at-in_default : goal.overflow_add-at-in_default
-overflow_add-at-in_default c =
-    let earlier = goal.at.overflow_add-at-in_default c in
-    record { fits = omega (arith, most earlier.After-put_tie-past (stored earlier.At-loop-m (spot earlier.After-first_spot-s)), c.loop-m.invariant.0) }
-
-pub overflow_add-m-in_default : goal.overflow_add-m-in_default
-overflow_add-m-in_default c =
-    let earlier = goal.at.overflow_add-m-in_default c in
-    record { fits = omega (arith, most earlier.After-put_tie-past (stored earlier.At-loop-m (spot earlier.After-first_spot-s))) }
-
-pub overflow_sub-more : goal.overflow_sub-more
-overflow_sub-more c =
-    let earlier = goal.at.overflow_sub-more c in
-    omega (arith, most earlier.After-put_tie-past (stored earlier.At-loop-m (spot earlier.After-first_spot-s)))
-
 pub overflow_add-more : goal.overflow_add-more
 overflow_add-more c =
     let earlier = goal.at.overflow_add-more c in
     record { fits = omega (arith, most earlier.After-put_tie-past (stored earlier.At-loop-m (spot earlier.After-first_spot-s))) }
-
-pub loop-m-smaller : goal.loop-m-smaller
-loop-m-smaller c =
-    let earlier = goal.at.loop-m-smaller c in
-    omega (arith, c.loop-m-test.true, most earlier.After-put_tie-past (stored earlier.At-loop-m (spot earlier.After-first_spot-s)))
 
 pub loop-m-preserved : goal.loop-m-preserved
 loop-m-preserved c =
@@ -192,11 +153,6 @@ overflow_add-result c =
     let earlier = goal.at.overflow_add-result c in
     let k = c.requires.0 in
     record { fits = omega (arith, cells_most _ _ _ _ _ _ _ _ _ (stored earlier.At-loop-m (spot earlier.After-first_spot-s)) k.p_in k.q_in) }
-
-pub shape_of-out : goal.shape_of-out
-shape_of-out c =
-    let earlier = goal.at.shape_of-out c in
-    long earlier.At-loop-m (stored earlier.At-loop-m (spot earlier.After-first_spot-s))
 
 pub returns : goal.returns
 returns c =

@@ -1,10 +1,9 @@
 -- `touching::list::lacks_room` meets its contract: where there is room for seven cells to three crossings nothing is counted, else the cells are.
 -- Assumes nothing.
-use mathlib.Core.Path.{sym, ap}
+use mathlib.Core.Path.{sym, ◌∙◌}
 use Prim.Native.Nat.{◌*◌}
 use native.Mathlib.Omega.{arith}
 use borrow.Author.Tests.{le-ltb}
-use lib.Dec.{ltb}
 use lib.ListN.{length}
 use Rattle.lines.specs.Preference.{y_z_x}
 use Rattle.lines.specs.Touching.{visits}
@@ -14,11 +13,8 @@ use Rattle.tripod.specs.Tripod.{steps}
 use Rattle.touching.specs.Listing.{course_of}
 use Rattle.touching.proofs.list.lacks_room.Goals as goal
 
-pub returns-then-most-room : goal.returns-then-most-room
-returns-then-most-room c =
+pub returns-else-room-most : goal.returns-else-room-most
+returns-else-room-most c =
     let d = c.args.d in
-    sym (le-ltb c.args.room (3 * length (visits (course_of (steps d))))
+    le-ltb _ _ c.if-room-most.false ∙ sym (le-ltb c.args.room (3 * length (visits (course_of (steps d))))
     (omega (arith, count_most (course_of (steps d)) (centres_good y_z_x (steps d)), c.total.ensures)))
-
-pub returns : goal.returns
-returns c = ap (λ n. ltb c.args.room (3 * n)) c.count_cells.ensures

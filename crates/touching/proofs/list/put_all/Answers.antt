@@ -1,29 +1,14 @@
 -- `touching::list::put_all` meets its contract: the cells of the seven ways through a tie of three axes. Assumes nothing.
-use mathlib.Core.Path.{◌≡◌, sym, ap, ◌∙◌, subst}
+use mathlib.Core.Path.{◌≡◌, ap, ◌∙◌}
 use mathlib.Core.List.{List, [], ◌∷◌}
 use Prim.Native.Nat.{ℕ, ◌+◌}
 use native.Mathlib.Omega.{arith}
 use lib.IntN.{ℤ}
 use Rattle.cells.specs.declared.Cell.{Cell}
 use Rattle.lines.specs.Steps.{X, Z}
-use Rattle.lists.specs.Kept.{crossed_six, CanCrossSix, put3}
+use Rattle.lists.specs.Kept.{crossed_six, put3}
 use Rattle.touching.specs.Listing.{put_cells}
 use Rattle.touching.proofs.list.put_all.Goals as goal
-
-pub crossed-yz-requires : goal.crossed-yz-requires
-crossed-yz-requires c = subst (λ u. CanCrossSix u c.args.w) (sym c.crossed-y.ensures) c.requires.1.1
-
-pub crossed-yx-requires : goal.crossed-yx-requires
-crossed-yx-requires c = subst (λ u. CanCrossSix u c.args.w) (sym c.crossed-y.ensures) c.requires.1.1
-
-pub crossed-zx-requires : goal.crossed-zx-requires
-crossed-zx-requires c = subst (λ u. CanCrossSix u c.args.w) (sym c.crossed-z.ensures) c.requires.1.2
-
-pub crossed-yzx-requires : goal.crossed-yzx-requires
-crossed-yzx-requires c = subst (λ u. CanCrossSix u c.args.w) (sym (c.crossed-yz.ensures ∙ ap (crossed_six c.args.w Z) c.crossed-y.ensures)) c.requires.1.3
-
-pub put-requires : goal.put-requires
-put-requires c = omega (arith, c.requires.0, c.put_three.auto, c.put_three-2.auto)
 
 -- seven cells, stored three, three and one
 three_three_one : (l m n : List ℤ) (at : ℕ) (a b c d e f g : Cell) → m ≡ put_cells l at (a ∷ b ∷ c ∷ []) → n ≡ put_cells m (at + 9) (d ∷ e ∷ f ∷ []) →
