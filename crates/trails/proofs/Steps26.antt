@@ -15,7 +15,7 @@ use Rattle.lines.specs.Crossings.{place}
 use Rattle.lines.specs.Lines.{differences, longest, six_cell, place_26, number_26}
 use Rattle.lines.specs.Decisions.{raised}
 use Rattle.lines.proofs.Centres.{within_26, grows_26}
-use Rattle.tripod.specs.declared.Moves.{Moves}
+use Rattle.cells.specs.declared.Each.{Each}
 use Rattle.tripod.specs.Tripod.{SmallTripod, LongMoves, moves_on}
 use Rattle.tripod.proofs.Laws.{place_small}
 use Rattle.grids.specs.Grid.{byte_of, clear}
@@ -74,7 +74,7 @@ module _ (k : Route) where
     spot_26 : (spot : Spot) → SpotAt k (place (course k) s) spot → SpotAt k (place (course k) (number b.next)) spot
     spot_26 spot = subst (λ m. SpotAt k (place (course k) m) spot) here_26
 
-    pub ahead_on : (spot : Spot) (r : Moves) → SpotAt k (place (course k) s) spot → LongMoves D (raised k.order spot.e) r →
+    pub ahead_on : (spot : Spot) (r : Each Bool) → SpotAt k (place (course k) s) spot → LongMoves D (raised k.order spot.e) r →
         Ahead26 k s 0 (total (moves_on r))
     ahead_on spot r h moves =
         let between = faces_between k b.next spot r below_26 (spot_26 spot h) moves in

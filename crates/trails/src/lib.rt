@@ -3,7 +3,6 @@
 #![tactic(auto)]
 
 ghost use Rattle.std.specs.Prelude.{◌≡◌, ◌*◌, ◌≤◌, length};
-ghost use Rattle.cells.specs.declared.Verdict.TheVariants.{Fine};
 ghost use Rattle.walks.specs.declared.Walker.TheVariants.{Adaptive};
 ghost use Rattle.walks.specs.Walks.{walk_of};
 ghost use Rattle.routes.specs.Route.{Planned, HasByte};
@@ -12,8 +11,7 @@ ghost use Rattle.lists.specs.Lists.{filled, Lists};
 ghost use Rattle.trails.specs.Trails.{AdaptiveCells};
 ghost use Rattle.trails.specs.Standing.{stand_cells, CanList, CanPass, Passed, CellOf, CanStep, StepsSomewhere, FacesAhead, to_cross, Stepped};
 
-use cells::{Axis, Cell, Counts, Manner, Refusal, Verdict};
-use lists::Listed;
+use cells::{Axis, Cell, Counts, Manner, Refusal};
 use routes::{Route, Spot};
 
 // Where the walk stands, and how many faces lead to the next cell of the 26-line; none where it stands on one.
@@ -29,10 +27,8 @@ fn over_faces(k: Route, start: Spot, faces: u32) -> Spot
     ensures { Passed k faces start result }
 {
     let mut s = start;
-    let mut j: u32 = 0;
-    while j < faces {
+    for _ in 0..faces {
         s = routes::crossed(s, k, tripod::next_face(s.e));
-        j += 1;
     }
     s
 }
@@ -45,11 +41,8 @@ fn faces_ahead(k: Route, long: Axis, t: Stand) -> u32
     if 0 < t.left {
         return t.left;
     }
-    let order = k.order;
-    let spot = t.spot;
-    let e = tripod::raised(spot.e, order);
-    let d = k.d;
-    hits::faces_of(tripod::long_moves(e, d, long))
+    let e = tripod::raised(t.spot.e, k.order);
+    hits::faces_of(tripod::long_moves(e, k.d, long))
 }
 
 // How many of the faces ahead the walk crosses before it stands again: all of them from a clear cell of the 26-line, else one.
@@ -57,10 +50,7 @@ fn to_cross(cells: &[u8], t: Stand, ahead: u32) -> u32
     requires { HasByte (length cells.now) t.spot.at }
     ensures { result ≡ to_cross cells.now t ahead }
 {
-    if 0 < t.left {
-        return 1;
-    }
-    if routes::byte_at(cells, t.spot) == 0 {
+    if t.left == 0 && routes::byte_at(cells, t.spot) == 0 {
         ahead
     } else {
         1
@@ -74,9 +64,8 @@ fn next_stand(cells: &[u8], k: Route, long: Axis, t: Stand) -> Stand
 {
     let ahead = faces_ahead(k, long, t);
     let faces = to_cross(cells, t, ahead);
-    let spot = over_faces(k, t.spot, faces);
     Stand {
-        spot: spot,
+        spot: over_faces(k, t.spot, faces),
         left: ahead - faces,
     }
 }
@@ -94,36 +83,30 @@ fn fill(cells: &[u8], k: Route, count: u32, out: &mut [i32])
     requires { Planned (length cells.now) k × CanList cells.now k count × (3 * count ≤ length out.old) }
     ensures { out.new ≡ filled (stand_cells cells.now k count) out.old }
 {
-    let d = k.d;
-    let long = d.longest_axis();
+    let long = k.d.longest_axis();
     let last = count - 1;
     let mut t = Stand {
         spot: routes::first_spot(k),
         left: 0,
     };
-    let mut m: u32 = 0;
-    let mut at: usize = 0;
-    while m < last {
-        lists::put(out, at, spot_cell(k, t.spot));
+    for m in 0..last {
+        lists::put(out, 3 * (m as usize), spot_cell(k, t.spot));
         t = next_stand(cells, k, long, t);
-        at += 3;
-        m += 1;
     }
-    lists::put(out, at, spot_cell(k, t.spot));
+    lists::put(out, 3 * (last as usize), spot_cell(k, t.spot));
 }
 
 // The trail along a route: counted first, then listed.
-fn list_along(cells: &[u8], k: Route, how: Manner, out: &mut [i32]) -> Listed
+fn list_along(cells: &[u8], k: Route, how: Manner, out: &mut [i32]) -> Result<u32, Refusal>
     requires { Planned (length cells.now) k }
-    ensures { Lists (walk_of Adaptive (conduct_of how.start k) k.n cells.now k.p k.q) Fine out.old result out.new }
+    ensures { Lists (walk_of Adaptive (conduct_of how.start k) k.n cells.now k.p k.q) (Ok tt) out.old result out.new }
 {
-    let stop = hits::walk_adaptive(cells, k, routes::first_spot(k), how);
-    let count = stop.reads;
+    let count = hits::walk_adaptive(cells, k, routes::first_spot(k), how).reads;
     if out.len() < 3 * (count as usize) {
-        return Listed::Refused(Refusal::Room);
+        return Err(Refusal::Room);
     }
     fill(cells, k, count, out);
-    Listed::Cells(count)
+    Ok(count)
 }
 
 // The cells on which the adaptive walk from p to q stands.
@@ -134,12 +117,9 @@ pub fn adaptive_cells(
     q: Cell,
     how: Manner,
     out: &mut [i32],
-) -> Listed
+) -> Result<u32, Refusal>
     ensures { AdaptiveCells how n cells.now p q out.old result out.new }
 {
-    let rule = how.rule;
-    match grids::check_walk(n, cells.len(), p, q) {
-        Verdict::Refused(r) => Listed::Refused(r),
-        Verdict::Fine => list_along(cells, routes::route_of(n, p, q, rule), how, out),
-    }
+    grids::check_walk(n, cells.len(), p, q)?;
+    list_along(cells, routes::route_of(n, p, q, how.rule), how, out)
 }

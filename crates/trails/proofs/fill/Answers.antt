@@ -1,30 +1,21 @@
--- `trails::fill` meets its contract: the invariant: m cells are stored, and the walk stands where it stands after m steps; a turn stores its cell and steps on.
--- The measure is how many cells are left. Assumes nothing.
+-- `trails::fill` meets its contract: the invariant: m cells are stored, and the walk stands where it stands after m steps; a turn stores its cell and steps on. Assumes
+-- nothing.
 use mathlib.Core.Path.{◌≡◌, sym, ap, ◌∙◌, subst}
 use Prim.Native.Nat.{ℕ, ◌+◌, ◌-◌, ◌*◌, ◌≤◌, ◌<◌}
 use native.Mathlib.Omega.{arith}
-use borrow.Author.Rules.{rules}
 use lib.ListN.{length}
 use Rattle.cells.specs.declared.Cell.{Cell}
-use Rattle.lines.specs.Steps.{X, Y, Z}
 use Rattle.lines.specs.Lines.{six_cell}
 use Rattle.walks.specs.Numbers.{stands, last_number}
 use Rattle.routes.specs.Route.{preference}
-use Rattle.routes.proofs.Accepting.{p_enclosed}
-use Rattle.routes.proofs.Spots.{at_first, short_at}
+use Rattle.routes.proofs.Spots.{at_first}
 use Rattle.lists.specs.Lists.{filled}
-use Rattle.lists.proofs.Filling.{filled_none, filled_one, filled_last}
+use Rattle.lists.proofs.Filling.{filled_none, filled_next, filled_end}
 use Rattle.trails.specs.Standing.{stand, stand_cells, StandsAt, CanPass}
 use Rattle.trails.proofs.Steps26.{starts_on}
 use Rattle.trails.proofs.Along.{stand_next, stand_most}
 use Rattle.trails.proofs.fill.Goals as goal
 use Rattle.trails.proofs.fill.Goals.{At-loop-m, In-loop-m}
-
-pub overflow_sub-last : goal.overflow_sub-last
-overflow_sub-last c = omega (arith, c.requires.1.some)
-
-pub first_spot-requires : goal.first_spot-requires
-first_spot-requires c = p_enclosed c.requires.0
 
 pub loop-m-init : goal.loop-m-init
 unfolding stands
@@ -58,9 +49,6 @@ below i =
 pub spot_cell-requires : goal.spot_cell-requires
 spot_cell-requires c = cell_there ((goal.at.spot_cell-requires c).At-loop-m)
 
-pub put-requires : goal.put-requires
-put-requires c = omega (arith, room ((goal.at.put-requires c).At-loop-m), c.loop-m.invariant.0)
-
 pub next_stand-t-requires : goal.next_stand-t-requires
 next_stand-t-requires c =
     record {
@@ -71,21 +59,12 @@ next_stand-t-requires c =
       at = c.loop-m.invariant.1;
     }
 
-pub overflow_add-at : goal.overflow_add-at
-overflow_add-at c =
-    let k = c.args.k in
-    let short = short_at _ k c.requires.0 in
-    record { fits = omega (arith, c.loop-m.invariant.0, c.requires.1.few, short X, short Y, short Z) }
-
-pub overflow_add-m : goal.overflow_add-m
-overflow_add-m c = record { fits = omega arith }
-
 pub loop-m-preserved : goal.loop-m-preserved
 loop-m-preserved c =
     let earlier = goal.at.loop-m-preserved c in
     let k = c.args.k in
     let cells = c.args.cells.now in (
-      filled_one (λ j. six_cell (preference k) k.p k.q (stand cells k j)) _ _ (room earlier.At-loop-m) _ _ _ c.loop-m.m _ c.loop-m.invariant.0 c.loop-m-test.true
+      filled_next (λ j. six_cell (preference k) k.p k.q (stand cells k j)) _ _ (room earlier.At-loop-m) _ _ _ c.loop-m.m c.loop-m.invariant.0 c.loop-m-test.true
           c.put.ensures (c.spot_cell.ensures.is (stand cells k c.loop-m.m) (within earlier.At-loop-m) c.loop-m.invariant.1.spot),
       subst (λ n. StandsAt k n c.next_stand-t.result) (stand_next cells k c.loop-m.m)
           (c.next_stand-t.ensures.leads (stand cells k c.loop-m.m) (below earlier.In-loop-m) c.loop-m.invariant.1),
@@ -93,12 +72,6 @@ loop-m-preserved c =
 
 pub spot_cell-requires-2 : goal.spot_cell-requires-2
 spot_cell-requires-2 c = cell_there ((goal.at.spot_cell-requires-2 c).At-loop-m)
-
-pub put-requires-2 : goal.put-requires-2
-put-requires-2 c = omega (arith, room ((goal.at.put-requires-2 c).At-loop-m), c.loop-m.invariant.0)
-
-pub shape_of-out : goal.shape_of-out
-shape_of-out c = let h = c.loop-m.invariant.0 in search (rules, h)
 
 pub returns : goal.returns
 returns c =
@@ -108,6 +81,6 @@ returns c =
     let count : c.args.count - 1 + 1 ≡ c.args.count = omega (arith, c.requires.1.some) in
     let f : ℕ → Cell = λ j. six_cell (preference k) k.p k.q (stand cells k j) in
     let last : c.loop-m.m ≡ c.args.count - 1 = omega (arith, c.loop-m.invariant.0.most, c.loop-m-test.false) in
-    filled_last f _ _ (room earlier.At-loop-m) _ _ _ c.loop-m.m _ c.loop-m.invariant.0 c.loop-m-test.false
+    filled_end f _ _ (room earlier.At-loop-m) _ _ _ c.loop-m.m c.loop-m.invariant.0 c.loop-m-test.false
     (ap f (sym last) ∙ sym (c.spot_cell-2.ensures.is (stand cells k c.loop-m.m) (within earlier.At-loop-m) c.loop-m.invariant.1.spot)) c.put-2.ensures
     ∙ ap (λ n. filled (stand_cells cells k n) c.args.out.now) count

@@ -28,9 +28,9 @@ few c ahead =
     subst (λ n. n ≤ c.faces_ahead-ahead.result) (sym c.to_cross-faces.ensures)
     (crosses_some c.args.cells.now c.args.k h.plan h.number h.below c.args.t _ h.at.spot ahead).1
 
-pub over_faces-spot-requires : goal.over_faces-spot-requires
-over_faces-spot-requires c =
-    let earlier = goal.at.over_faces-spot-requires c in
+pub over_faces-requires : goal.over_faces-requires
+over_faces-requires c =
+    let earlier = goal.at.over_faces-requires c in
     let h = c.requires in
     record {
       bytes = _;
@@ -39,6 +39,11 @@ over_faces-spot-requires c =
       at = h.at.spot;
       fits = omega (arith, few earlier.After-to_cross-faces (ahead earlier.After-faces_ahead-ahead), ahead_within c.args.k h.number _ _ (ahead earlier.After-faces_ahead-ahead));
     }
+
+pub overflow_sub-result : goal.overflow_sub-result
+overflow_sub-result c =
+    let earlier = goal.at.overflow_sub-result c in
+    few earlier.After-to_cross-faces (ahead earlier.After-faces_ahead-ahead)
 
 pub returns : goal.returns
 returns c =
@@ -51,7 +56,7 @@ returns c =
           let a = c.faces_ahead-ahead.ensures.leads n lt at in
           let few = (crosses_some l k c.requires.plan n lt t _ at.spot a).1 in
           stands_there l k c.requires.plan n lt t _ c.faces_ahead-ahead.result at.spot a
-          (subst (λ faces. SpotAt k (place (course k) (n + faces)) c.over_faces-spot.result) many
-          (c.over_faces-spot.ensures.leads n (omega (arith, many, ahead_within k n _ _ a)) at.spot))
+          (subst (λ faces. SpotAt k (place (course k) (n + faces)) c.over_faces.result) many
+          (c.over_faces.ensures.leads n (omega (arith, many, ahead_within k n _ _ a)) at.spot))
           (ap (λ faces. c.faces_ahead-ahead.result - faces) many);
     }

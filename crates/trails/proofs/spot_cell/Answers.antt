@@ -1,7 +1,7 @@
 -- `trails::spot_cell` meets its contract: the byte of a spot on the line tells the cell. Assumes nothing.
 use mathlib.Core.Path.{sym, ap, ◌∙◌}
 use native.Mathlib.Omega.{arith}
-use Rattle.cells.proofs.Held.{abs_nat, cast_32}
+use Rattle.cells.proofs.Held.{abs_nat}
 use Rattle.grids.specs.Grid.{cell_at}
 use Rattle.lines.proofs.Cells.{six_is}
 use Rattle.routes.specs.Route.{preference, HasByte}
@@ -11,9 +11,6 @@ use Rattle.trails.proofs.spot_cell.Goals.{Start}
 
 has_byte : (c : Start) → HasByte c.requires.bytes c.args.s.at
 has_byte c = let h = c.requires in spot_byte _ c.args.k h.plan _ _ (place_within _ c.args.k h.plan h.number (omega (arith, h.fits))) h.at
-
-pub overflow_cast-s : goal.overflow_cast-s
-overflow_cast-s c = let h = has_byte ((goal.at.overflow_cast-s c).Start) in cast_32 _ h.index h.is (omega arith)
 
 pub cell_at-requires : goal.cell_at-requires
 cell_at-requires c =
