@@ -9,8 +9,6 @@ ghost use Rattle.records.specs.Heads.{length_field};
 ghost use Rattle.program.specs.Program.{frame, Follows};
 
 use cells::Counts;
-use program::Next;
-use records::VenueRead;
 use std::io;
 use std::io::Read;
 
@@ -69,36 +67,33 @@ fn fail(rt: &HostRuntime, what: &str, e: io::Error) {
 
 // Where nothing comes next because the input could not be read, says so on standard error. A failed read gives a short frame, as an end of the input
 // does; what tells them apart is the error.
-fn say_unread(rt: &HostRuntime, next: Next, came: io::Result<()>) {
-    if let Next::Over = next {
-        if let Err(e) = came {
-            fail(rt, "sightlines: standard input cannot be read", e);
-        }
+fn say_unread(rt: &HostRuntime, next: Option<u64>, came: io::Result<()>) {
+    if let (None, Err(e)) = (next, came) {
+        fail(rt, "sightlines: standard input cannot be read", e);
     }
 }
 
 // What comes next, once the text is written. A write that fails is told on standard error and ends the program; nothing more is told then.
-fn written(rt: &HostRuntime, text: &[u8], next: Next, came: io::Result<()>) -> Next
+fn written(rt: &HostRuntime, text: &[u8], next: Option<u64>, came: io::Result<()>) -> Option<u64>
     ensures { (k : ℕ) → Follows k next → Follows k result }
 {
     if let Err(e) = rt.write_all(text) {
         fail(rt, "sightlines: standard output cannot be written", e);
-        return Next::Over;
+        return None;
     }
     say_unread(rt, next, came);
     next
 }
 
 // Writes what the venue's step says.
-fn answer_venue(rt: &HostRuntime, frame: &[u8], came: io::Result<()>) -> Next {
+fn answer_venue(rt: &HostRuntime, frame: &[u8], came: io::Result<()>) -> Option<u64> {
     let mut text = [0u8; program::TEXT_ROOM];
     let step = program::venue_step(frame, &mut text);
-    let next = step.next;
-    written(rt, &text[..step.long], next, came)
+    written(rt, &text[..step.long], step.next, came)
 }
 
 // Reads pair k and writes what its step says.
-fn answer_pair(rt: &HostRuntime, n: Counts, cells: &[u8], k: u64) -> Next
+fn answer_pair(rt: &HostRuntime, n: Counts, cells: &[u8], k: u64) -> Option<u64>
     requires { k < 2 ^ 64 - 1 }
     ensures { Follows k result }
 {
@@ -106,17 +101,15 @@ fn answer_pair(rt: &HostRuntime, n: Counts, cells: &[u8], k: u64) -> Next
     let mut text = [0u8; program::TEXT_ROOM];
     let (got, came) = read_frame(rt, &mut space, program::PAIR_MOST);
     let step = program::pair_step(n, cells, k, &space[..got], &mut text);
-    let next = step.next;
-    written(rt, &text[..step.long], next, came)
+    written(rt, &text[..step.long], step.next, came)
 }
 
-// Nothing can say that input ends, so pairs are read up to a number that no run reaches.
+// Pair after pair, until nothing comes next: what follows a pair is the pair of the next number. Nothing can say that input ends, so pairs are read up
+// to a number that no run reaches.
 fn answer_pairs(rt: &HostRuntime, n: Counts, cells: &[u8], first: u64) {
-    let mut k = first;
-    while k < u64::MAX {
-        match answer_pair(rt, n, cells, k) {
-            Next::On(j) => k = j,
-            Next::Over => return,
+    for k in first..u64::MAX {
+        if answer_pair(rt, n, cells, k).is_none() {
+            return;
         }
     }
 }
@@ -125,9 +118,9 @@ fn main(rt: HostRuntime) {
     let mut space = [0u8; 65536];
     let (got, came) = read_frame(&rt, &mut space, program::VENUE_MOST);
     let frame = &space[..got];
-    if let Next::On(first) = answer_venue(&rt, frame, came) {
-        if let VenueRead::Read(venue) = records::read_venue(frame) {
-            answer_pairs(&rt, venue.counts, records::venue_cells(frame), first);
-        }
+    if let Some(first) = answer_venue(&rt, frame, came)
+        && let Ok(venue) = records::read_venue(frame)
+    {
+        answer_pairs(&rt, venue.counts, records::venue_cells(frame), first);
     }
 }
