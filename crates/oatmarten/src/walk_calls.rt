@@ -3,27 +3,52 @@ ghost use Rattle.walks.specs.declared.Walker.TheVariants.{Plain, Adaptive};
 ghost use Rattle.trails.specs.Trails.{AdaptiveCells};
 ghost use Rattle.structs.specs.Inputs.{as_cell, as_counts, as_start, as_manner};
 ghost use Rattle.oatmarten.specs.LineCalls.{ListsByRule};
-ghost use Rattle.oatmarten.specs.WalkCalls.{FlatFinds, FlatAdaptiveCells, FlatFindsTouching};
+ghost use Rattle.oatmarten.specs.WalkCalls.{FindsByRule, FlatFinds, FlatAdaptiveCells, FlatFindsTouching};
 
 use cells::{Manner, Refusal};
 use structs::{OatCell, OatCounts, OatHit, OatListed, OatManner, start_of};
+use walks::FirstHit;
 
 // The first hit of the plain walk.
 pub fn oat_plain(n: OatCounts, cells: &[u8], p: OatCell, q: OatCell, how: OatManner) -> OatHit
     ensures { FlatFinds Plain how (as_counts n) cells.now (as_cell p) (as_cell q) result }
 {
-    Manner::try_from(how)
-        .and_then(|how| hits::first_plain(n.into(), cells, p.into(), q.into(), how))
-        .into()
+    plain(n, cells, p, q, how).into()
+}
+
+// Its answer: 12 comes first.
+fn plain(
+    n: OatCounts,
+    cells: &[u8],
+    p: OatCell,
+    q: OatCell,
+    how: OatManner,
+) -> Result<FirstHit, Refusal>
+    ensures { FindsByRule Plain how (as_counts n) cells.now (as_cell p) (as_cell q) result }
+{
+    let how = Manner::try_from(how)?;
+    hits::first_plain(n.into(), cells, p.into(), q.into(), how)
 }
 
 // The first hit of the adaptive walk.
 pub fn oat_adaptive(n: OatCounts, cells: &[u8], p: OatCell, q: OatCell, how: OatManner) -> OatHit
     ensures { FlatFinds Adaptive how (as_counts n) cells.now (as_cell p) (as_cell q) result }
 {
-    Manner::try_from(how)
-        .and_then(|how| hits::first_adaptive(n.into(), cells, p.into(), q.into(), how))
-        .into()
+    adaptive(n, cells, p, q, how).into()
+}
+
+// Its answer: 12 comes first.
+fn adaptive(
+    n: OatCounts,
+    cells: &[u8],
+    p: OatCell,
+    q: OatCell,
+    how: OatManner,
+) -> Result<FirstHit, Refusal>
+    ensures { FindsByRule Adaptive how (as_counts n) cells.now (as_cell p) (as_cell q) result }
+{
+    let how = Manner::try_from(how)?;
+    hits::first_adaptive(n.into(), cells, p.into(), q.into(), how)
 }
 
 // The cells on which the adaptive walk stands.

@@ -1,30 +1,12 @@
--- `oatmarten::sight_calls::oat_sight` meets its contract: 12 where no rule is named; else the sight call does the work, and its answer is flattened.
--- Assumes nothing.
+-- `oatmarten::sight_calls::oat_sight` meets its contract: where no rule is named, 12. Assumes nothing.
 use mathlib.Core.Path.{refl, sym, ◌∙◌}
-use Rattle.oatmarten.proofs.After.{after_refusal, after_all}
+use Rattle.oatmarten.proofs.After.{after_refusal, unnamed}
 use Rattle.oatmarten.proofs.sight_calls.oat_sight.Goals as goal
 
-pub returns-in-Refused : goal.returns-in-Refused
-returns-in-Refused c =
+pub returns-in-Err : goal.returns-in-Err
+returns-in-Err c =
     record {
       answer = _;
-      meets = after_refusal _ _ _ _ (sym c.check_rule.ensures ∙ c.in-Refused.is) refl;
-      flat = c.flat_sight.ensures;
-    }
-
-pub returns-in-Fine : goal.returns-in-Fine
-returns-in-Fine c =
-    record {
-      answer = c.see.result;
-      meets = after_all _ _ _ (sym c.check_rule.ensures ∙ c.in-Fine.is) (record {
-        says = rw (
-          c.see.ensures.says,
-          c.manner.ensures,
-          c.point-to.ensures,
-          c.point-from.ensures,
-          c.placement-place.ensures,
-          c.counts-grid.ensures,
-        );
-      });
-      flat = c.flat_sight-in-Fine.ensures;
+      meets = after_refusal _ _ _ _ (unnamed _ _ (sym c.try_from.ensures ∙ c.in-Err.is)) refl;
+      flat = c.into.ensures;
     }
