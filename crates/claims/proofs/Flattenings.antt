@@ -1,5 +1,5 @@
 -- The claims about the structs for C, from one law over an answer and its struct. Assumes nothing.
-use Rattle.std.specs.Prelude.{Ok, Err, Result}
+use Rattle.std.specs.Prelude.{Bool, Ok, Err, Result}
 use Rattle.records.specs.declared.venues.Venue.{Venue}
 use Rattle.records.specs.declared.pairs.Pair.{Pair}
 use Rattle.cells.specs.declared.Cell.{Cell}

@@ -169,7 +169,7 @@ pub complete_means : (k : ℕ) (n : Counts) (l : List ℕ) → Complete k n l
 complete_means k n l = record { means = complete_iff k n l }
 
 -- what the call says is what the test says, since a refusal is neither
-which : (b t : Bool) → Ok t ≡ Ok b → b ≡ t
+which : (b t : Bool) → ◌≡◌ {A = Result Bool Refusal} (Ok t) (Ok b) → b ≡ t
 which true true e = refl
 which false false e = refl
 which true false e = absurd (let z : ◌≡◌ {A = ℕ} 0 1 = cc in omega arith)

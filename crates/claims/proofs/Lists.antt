@@ -65,7 +65,7 @@ numbers_at (c ∷ line) l (suc n) d lt =
 
 -- of any line
 module _ (line : List Cell) (first : Verdict) (entry exit : List ℤ) (k : ℕ) (h : Lists line first entry (Ok k) exit) where
-  pub fits : (list_check first (length line) (length entry) ≡ Ok tt) × (Ok (length line) ≡ Ok k)
+  pub fits : (list_check first (length line) (length entry) ≡ Ok tt) × (◌≡◌ {A = Result ℕ Refusal} (Ok (length line)) (Ok k))
   unfolding accepted
   fits =
       by_fine Err (list_check first (length line) (length entry)) (Ok (length line))

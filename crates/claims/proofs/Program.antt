@@ -234,7 +234,7 @@ walked w how n l p q fine =
     let c : Conduct = conduct how p q in
     subst Walked (sym (first_hit_is how n l p q w)) (rw fine (by (hits_at c n l p q (end_of c n l p q w)) _ _))
   where
-    by : (b : Bool) (h : Hit) (reads : ℕ) → Walked (cond b (Ok (FirstHit.Hit h)) (Ok (FirstHit.Clear reads)))
+    by : (b : Bool) (h : Hit) (reads : ℕ) → Walked (Ok (cond b (FirstHit.Hit h) (FirstHit.Clear reads)))
     by true h reads = tt
     by false h reads = tt
 

@@ -87,17 +87,16 @@ trails_told how n l p q entry exit r = record { told = listed_told (trail how n 
 -- ---- grids
 
 -- what a walk answers, and that it is no refusal
-abbrev answer : Walker → Manner → Counts → List ℕ → (p q : cell.Cell) → Result FirstHit Refusal
+abbrev answer : Walker → Manner → Counts → List ℕ → (p q : cell.Cell) → FirstHit
 answer k how n l p q = let c : Conduct = conduct how p q in answer_of c n l p q (walk_of k c n l p q)
 
-hit_told : (k : Walker) (how : Manner) (n : Counts) (l : List ℕ) (p q : cell.Cell) → (w : WalkSaid) × (told_hit (answer k how n l p q) ≡ inr w)
+hit_told : (k : Walker) (how : Manner) (n : Counts) (l : List ℕ) (p q : cell.Cell) → (w : WalkSaid) × (told_hit (Ok (answer k how n l p q)) ≡ inr w)
 unfolding answer_of
 hit_told k how n l p q = let c : Conduct = conduct how p q in by (hit_at c n l p (last_of p (walk_of k c n l p q))) _ _
   where
-    by : (b : Bool) (h : Hit) (reads : ℕ) → (w : WalkSaid) × (told_hit (cond b (Ok (FirstHit.Hit h)) (Ok (FirstHit.Clear reads))) ≡ inr w)
+    by : (b : Bool) (h : Hit) (reads : ℕ) → (w : WalkSaid) × (told_hit (Ok (cond b (FirstHit.Hit h) (FirstHit.Clear reads))) ≡ inr w)
     by true h reads = (hit h, refl)
     by false h reads = (clear reads, refl)
-
 
 layer_part_told : (n : Counts) (l : List ℕ) (z : ℤ) (r : Result LayerPart Refusal) → GivesLayerPart n (length l) z r → ByTests (layer_tests n (length l) z) (told_part r)
 unfolding layer_part
@@ -123,15 +122,15 @@ layer_told n z cells part c =
     (λ v e none. let (r, refused) = (layer_empty n l z).0 (sym c.says ∙ none) in one_of_two (sym (ap told_part refused) ∙ e))
 
 -- the same of the touching walk
-abbrev found_along : Start → Counts → List ℕ → (p q : cell.Cell) → Result FirstHit Refusal
+abbrev found_along : Start → Counts → List ℕ → (p q : cell.Cell) → FirstHit
 found_along from n l p q = found_in (hit_at (walking from) n l p) n l p q 0 (visits (crossings p q))
 
-touching_told : (from : Start) (n : Counts) (l : List ℕ) (p q : cell.Cell) → (w : WalkSaid) × (told_hit (found_along from n l p q) ≡ inr w)
+touching_told : (from : Start) (n : Counts) (l : List ℕ) (p q : cell.Cell) → (w : WalkSaid) × (told_hit (Ok (found_along from n l p q)) ≡ inr w)
 touching_told from n l p q = by (search_of (hit_at (walking from) n l p) n l p q (start p q) 0 (visits (crossings p q)))
   where
-    by : Search (hit_at (walking from) n l p) n l p q (start p q) 0 (visits (crossings p q)) → (w : WalkSaid) × (told_hit (found_along from n l p q) ≡ inr w)
-    by (found i lt met before is) = (_, ap told_hit is)
-    by (none all is) = (_, ap told_hit is)
+    by : Search (hit_at (walking from) n l p) n l p q (start p q) 0 (visits (crossings p q)) → (w : WalkSaid) × (told_hit (Ok (found_along from n l p q)) ≡ inr w)
+    by (found i lt met before is) = (_, ap (λ h. told_hit (Ok h)) is)
+    by (none all is) = (_, ap (λ h. told_hit (Ok h)) is)
 
 pub grids_told : (n : Counts) (l : List ℕ) → GridsTold n l
 unfolding completeness first_hit first_touching
@@ -145,10 +144,10 @@ grids_told n l =
       layer_part = layer_part_told n l;
       layer = layer_told n;
       first_hit = λ k how p q r c.
-          answered told_hit (by_verdict Err (answer k how n l p q)) (λ r. refl) (walk_judged n (length l) p q)
+          answered told_hit (by_verdict Err (Ok (answer k how n l p q))) (λ r. refl) (walk_judged n (length l) p q)
           (λ fine. hit_told k how n l p q) c.says;
       first_touching = λ from p q r c.
-          answered told_hit (by_verdict Err (found_along from n l p q)) (λ r. refl) (walk_judged n (length l) p q)
+          answered told_hit (by_verdict Err (Ok (found_along from n l p q))) (λ r. refl) (walk_judged n (length l) p q)
           (λ fine. touching_told from n l p q) c.says;
     }
 
@@ -321,7 +320,7 @@ rules_told =
         by_rule_told how.rule (trail (as_manner how) n l p q) (walk_judged n (length l) p q) entry exit h.answer h.meets,
       );
       walks = λ w how n l p q r h.
-          let x = answer w (as_manner how) n l p q in (
+          let x : Result FirstHit Refusal = Ok (answer w (as_manner how) n l p q) in (
             h.answer,
             h.flat,
             answered told_hit (by_verdict Err x) (λ r. refl) (rule_judged how.rule next walk_judged n (length l) p q)

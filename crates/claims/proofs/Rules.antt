@@ -191,7 +191,7 @@ module _ (n : Counts) (l : List ℕ) (p q : Cell) where
   clear_back reads (Ok (FirstHit.Clear m)) h g =
       let e : m ≡ reads =
       omega (arith, (reads_hold (tested_by Two) n l p q).plain reads h, (reads_hold (tested_by Two) n l q p).plain m g, either_way_total p q) in
-      ap Ok (FirstHit.Clear e)
+      ap (λ m. Ok (FirstHit.Clear m)) e
   clear_back reads (Ok (FirstHit.Hit k)) h g = absurd (none_back reads h k g)
   clear_back reads (Err r) h g =
       absurd (not_refused (tested_by Two) n l q p Plain (back_fine n l p q (clear_found (tested_by Two) n l p q Plain reads h).0) r g)

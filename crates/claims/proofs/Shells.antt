@@ -77,13 +77,13 @@ module _ (how : Manner) (n : Counts) (p q : Cell) (a b : List ℕ) (clearer : Mo
   -- where the marks of both are complete, from 2 on, the ends lie in the grid and solid cells have one code
   both_complete : (j k : ℕ) → 2 ≤ j → 2 ≤ k → complete j n a ≡ true → complete k n b ≡ true → walk_check n (length a) p q ≡ Ok tt →
       walk_check n (length b) p q ≡ Ok tt → ((c : Cell) → solid (byte_of n b c) ≡ true → byte_of n b c ≡ byte_of n a c) →
-      SameStory (answer_at C n b p q (end_of C n b p q Adaptive) (reads_of C n b p q Adaptive))
-      (answer_at C n a p q (end_of C n a p q Adaptive) (reads_of C n a p q Adaptive))
+      SameStory (Ok (answer_at C n b p q (end_of C n b p q Adaptive) (reads_of C n b p q Adaptive)))
+      (Ok (answer_at C n a p q (end_of C n a p q Adaptive) (reads_of C n a p q Adaptive)))
   both_complete j k two-j two-k whole-a whole-b fine-a fine-b codes =
       let last : ℕ = end_of C n b p q Adaptive in
       let e : end_of C n a p q Adaptive ≡ last =
       alike how n a p q j two-j fine-a whole-a ∙ plain_alike n a b clearer p q C ∙ sym (alike how n b p q k two-k fine-b whole-b) in
-      subst (λ t. SameStory (answer_at C n b p q last (reads_of C n b p q Adaptive)) (answer_at C n a p q t (reads_of C n a p q Adaptive))) (sym e)
+      subst (λ t. SameStory (Ok (answer_at C n b p q last (reads_of C n b p q Adaptive))) (Ok (answer_at C n a p q t (reads_of C n a p q Adaptive)))) (sym e)
       (told_alike (hits_at C n b p q last) (hits_at C n a p q last) (ap (λ hits. hits last) (same_hits n a b clearer p q C)) _ _
       (λ hit. codes (six_cell C.preference p q last) (hit_solid C n b p q last hit)) (clearer_reads n a b clearer p q C e))
 
@@ -103,8 +103,9 @@ module _ (how : Manner) (n : Counts) (l : List ℕ) (p q : Cell) (j k : ℕ) (le
   -- the answer over the cells marked at i, by the test of the shape that both share
   abbrev told_at : ℕ → Verdict → Result FirstHit Refusal
   told_at i = by_verdict Err
+      (Ok
       (answer_at (conduct how p q) n (marked i n l) p q (end_of (conduct how p q) n (marked i n l) p q Adaptive)
-      (reads_of (conduct how p q) n (marked i n l) p q Adaptive))
+      (reads_of (conduct how p q) n (marked i n l) p q Adaptive)))
 
   found_marked : (i : ℕ) {r : (Result FirstHit Refusal)} → Finds Adaptive how n (marked i n l) p q r → r ≡ told_at i (walk_check n (length l) p q)
   found_marked i h = found how n (marked i n l) p q h ∙ ap (λ long. told_at i (walk_check n long p q)) (marked_length i n l)

@@ -72,8 +72,8 @@ kind (Err r) = 2
 
 -- answers at one place of the line say the same where both are hits, with one code, or neither is
 pub told_alike : (t u : Bool) → u ≡ t → (c : Cell) (place : Place) {x y r s : ℕ} → (t ≡ true → x ≡ y) → s ≤ r →
-    SameStory (cond t (Ok (FirstHit.Hit (record { cell = c; code = x; place = place; reads = r }))) (Ok (FirstHit.Clear r)))
-    (cond u (Ok (FirstHit.Hit (record { cell = c; code = y; place = place; reads = s }))) (Ok (FirstHit.Clear s)))
+    SameStory (Ok (cond t (FirstHit.Hit (record { cell = c; code = x; place = place; reads = r })) (FirstHit.Clear r)))
+    (Ok (cond u (FirstHit.Hit (record { cell = c; code = y; place = place; reads = s })) (FirstHit.Clear s)))
 told_alike true true e c place code fewer = hits refl (code refl) refl fewer
 told_alike false false e c place code fewer = clears fewer
 told_alike true false e c place code fewer = absurd (true≢false (sym e))
@@ -94,10 +94,10 @@ module _ (how : Manner) (n : Counts) (l : List ℕ) (p q : Cell) where
   abbrev E : Walker → ℕ
   E w = end_of C n l p q w
 
-  abbrev answered : Walker → Result FirstHit Refusal
+  abbrev answered : Walker → FirstHit
   answered w = answer_at C n l p q (E w) (reads_of C n l p q w)
 
-  pub found : {w : Walker} {r : (Result FirstHit Refusal)} → Finds w how n l p q r → r ≡ by_verdict Err (answered w) check
+  pub found : {w : Walker} {r : (Result FirstHit Refusal)} → Finds w how n l p q r → r ≡ by_verdict Err (Ok (answered w)) check
   found {w} h = h.says ∙ first_hit_is how n l p q w
 
   -- where the marks are complete at k, from 2 on, and the ends are in the grid, both walks end at the same number
@@ -107,11 +107,11 @@ module _ (how : Manner) (n : Counts) (l : List ℕ) (p q : Cell) where
       ends_alike C n l p q k two a.p_in a.q_in (complete_safe k n l a.shaped whole)
 
   same_answers : (k : ℕ) → 2 ≤ k → complete k n l ≡ true → (v : Verdict) → check ≡ v →
-      SameStory (by_verdict Err (answered Plain) v) (by_verdict Err (answered Adaptive) v)
+      SameStory (by_verdict Err (Ok (answered Plain)) v) (by_verdict Err (Ok (answered Adaptive)) v)
   same_answers k two whole (Err r) h = refusals
   same_answers k two whole (Ok _) h =
       let e = alike k two h whole in
-      subst (λ k. SameStory (answered Plain) (answer_at C n l p q k (reads_of C n l p q Adaptive))) (sym e)
+      subst (λ k. SameStory (Ok (answered Plain)) (Ok (answer_at C n l p q k (reads_of C n l p q Adaptive)))) (sym e)
       (told_alike (hits_at C n l p q (E Plain)) _ refl _ _ (λ hit. refl) (reads_no_more C n l p q e))
 
   pub one_story : (k : ℕ) → 2 ≤ k → OneStory k how n l p q
@@ -124,14 +124,15 @@ module _ (how : Manner) (n : Counts) (l : List ℕ) (p q : Cell) where
   hit_of e r = record { cell = six_cell R p q e; code = byte_of n l (six_cell R p q e); place = entered_at R p q e; reads = r }
 
   -- an answer that is a hit is the hit at the walk's end
-  hit_told : (v : Verdict) (k : Hit) (e r : ℕ) → Ok (FirstHit.Hit k) ≡ by_verdict Err (answer_at C n l p q e r) v →
+  hit_told : (v : Verdict) (k : Hit) (e r : ℕ) → Ok (FirstHit.Hit k) ≡ by_verdict Err (Ok (answer_at C n l p q e r)) v →
       (v ≡ Ok tt) × (hits_at C n l p q e ≡ true) × (k ≡ hit_of e r)
   unfolding kind hit_or
   hit_told (Err x) k e r h = absurd (let z : ◌≡◌ {A = ℕ} 0 2 = ap kind h in omega arith)
   hit_told (Ok _) k e r h = by (hits_at C n l p q e) refl h
     where
-      by : (b : Bool) → hits_at C n l p q e ≡ b → Ok (FirstHit.Hit k) ≡ cond b (Ok (FirstHit.Hit (hit_of e r))) (Ok (FirstHit.Clear r)) →
-          ((Ok tt) ≡ Ok tt) × (hits_at C n l p q e ≡ true) × (k ≡ hit_of e r)
+      by : (b : Bool) → hits_at C n l p q e ≡ b →
+          ◌≡◌ {A = Result FirstHit Refusal} (Ok (FirstHit.Hit k)) (Ok (cond b (FirstHit.Hit (hit_of e r)) (FirstHit.Clear r))) →
+          (◌≡◌ {A = Verdict} (Ok tt) (Ok tt)) × (hits_at C n l p q e ≡ true) × (k ≡ hit_of e r)
       by true b h = (refl, b, ap (hit_or k) h)
       by false b h = absurd (let z : ◌≡◌ {A = ℕ} 0 1 = ap kind h in omega arith)
 
@@ -140,15 +141,16 @@ module _ (how : Manner) (n : Counts) (l : List ℕ) (p q : Cell) where
   hit_found w k h = hit_told check k (E w) (reads_of C n l p q w) (found h)
 
   -- an answer that is clear is so at the walk's end
-  clear_told : (v : Verdict) (k e r : ℕ) → Ok (FirstHit.Clear k) ≡ by_verdict Err (answer_at C n l p q e r) v →
+  clear_told : (v : Verdict) (k e r : ℕ) → Ok (FirstHit.Clear k) ≡ by_verdict Err (Ok (answer_at C n l p q e r)) v →
       (v ≡ Ok tt) × (hits_at C n l p q e ≡ false) × (k ≡ r)
   unfolding kind reads_or
   clear_told (Err x) k e r h = absurd (let z : ◌≡◌ {A = ℕ} 1 2 = ap kind h in omega arith)
   clear_told (Ok _) k e r h = by _ (hits_at C n l p q e) refl h
     where
       by :
-          (there : Hit) (b : Bool) → hits_at C n l p q e ≡ b → Ok (FirstHit.Clear k) ≡ cond b (Ok (FirstHit.Hit there)) (Ok (FirstHit.Clear r)) →
-          ((Ok tt) ≡ Ok tt) × (hits_at C n l p q e ≡ false) × (k ≡ r)
+          (there : Hit) (b : Bool) → hits_at C n l p q e ≡ b →
+          ◌≡◌ {A = Result FirstHit Refusal} (Ok (FirstHit.Clear k)) (Ok (cond b (FirstHit.Hit there) (FirstHit.Clear r))) →
+          (◌≡◌ {A = Verdict} (Ok tt) (Ok tt)) × (hits_at C n l p q e ≡ false) × (k ≡ r)
       by there true b h = absurd (let z : ◌≡◌ {A = ℕ} 1 0 = ap kind h in omega arith)
       by there false b h = (refl, b, ap (reads_or k) h)
 
@@ -159,9 +161,9 @@ module _ (how : Manner) (n : Counts) (l : List ℕ) (p q : Cell) where
   -- a walk that passed its tests is not refused
   pub not_refused : (w : Walker) → check ≡ Ok tt → (r : Refusal) → Finds w how n l p q (Err r) → ⊥
   unfolding kind
-  not_refused w fine r h = by (hits_at C n l p q (E w)) _ _ (found h ∙ ap (by_verdict Err (answered w)) fine)
+  not_refused w fine r h = by (hits_at C n l p q (E w)) _ _ (found h ∙ ap (by_verdict Err (Ok (answered w))) fine)
     where
-      by : (b : Bool) (k : Hit) (m : ℕ) → Err r ≡ cond b (Ok (FirstHit.Hit k)) (Ok (FirstHit.Clear m)) → ⊥
+      by : (b : Bool) (k : Hit) (m : ℕ) → Err r ≡ Ok (cond b (FirstHit.Hit k) (FirstHit.Clear m)) → ⊥
       by true k m e = let z : ◌≡◌ {A = ℕ} 2 0 = ap kind e in omega arith
       by false k m e = let z : ◌≡◌ {A = ℕ} 2 1 = ap kind e in omega arith
 
@@ -252,8 +254,8 @@ module _ (how : Manner) (n : Counts) (l : List ℕ) (p q : Cell) where
             let (fine, hit, is) = hit_found Adaptive k ha in
             let there : Hit = hit_of (E Plain) (reads_of C n l p q Plain) in (
               there,
-              found hp ∙ ap (by_verdict Err (answered Plain)) fine
-                  ∙ ap (λ b. cond b (Ok (FirstHit.Hit there)) (Ok (FirstHit.Clear (reads_of C n l p q Plain)))) (not_invented C n l p q hit),
+              found hp ∙ ap (by_verdict Err (Ok (answered Plain))) fine
+                  ∙ ap (λ b. Ok (cond b (FirstHit.Hit there) (FirstHit.Clear (reads_of C n l p q Plain)))) (not_invented C n l p q hit),
               subst (λ h. there.place.num * h.place.den ≤ h.place.num * there.place.den) (sym is)
                   (never_falls R p q (E Plain) (E Adaptive) (no_earlier C n l p q) (end_below C n l p q Adaptive)),
               record {

@@ -146,13 +146,13 @@ module _ (from : Start) (n : Counts) (l : List ℕ) (p q : Cell) where
 
   -- what is answered, once the tests of the inputs are passed
   says : {r : (Result FirstHit Refusal)} → FindsTouching from n l p q r →
-      r ≡ by_verdict Err (found_in test n l p q 0 (visits (crossings p q))) (walk_check n (length l) p q)
+      r ≡ by_verdict Err (Ok (found_in test n l p q 0 (visits (crossings p q)))) (walk_check n (length l) p q)
   unfolding first_touching
   says h = h.says
 
   passed : {r : (Result FirstHit Refusal)} → ((e : Refusal) → Err e ≡ r → ⊥) → FindsTouching from n l p q r →
-      (walk_check n (length l) p q ≡ Ok tt) × (found_in test n l p q 0 (visits (crossings p q)) ≡ r)
-  passed other h = by_fine Err (walk_check n (length l) p q) (found_in test n l p q 0 (visits (crossings p q))) other (sym (says h))
+      (walk_check n (length l) p q ≡ Ok tt) × (Ok (found_in test n l p q 0 (visits (crossings p q))) ≡ r)
+  passed other h = by_fine Err (walk_check n (length l) p q) (Ok (found_in test n l p q 0 (visits (crossings p q)))) other (sym (says h))
 
   no_refusal : {r : (Result FirstHit Refusal)} → kind r < 2 → (e : Refusal) → Err e ≡ r → ⊥
   unfolding kind
@@ -253,19 +253,19 @@ module _ (from : Start) (n : Counts) (l : List ℕ) (p q : Cell) where
   unfolding kind hit_or reads_or
   touching_hits = record { hit = λ h f. by_hit h (passed (no_refusal (omega arith)) f).1 search; clear = λ m f. by_clear m (passed (no_refusal (omega arith)) f).1 search }
     where
-      by_hit : (h : Hit) → found_in test n l p q 0 (visits (crossings p q)) ≡ Ok (FirstHit.Hit h) → Search test n l p q (start p q) 0 (visits (crossings p q)) →
+      by_hit : (h : Hit) → ◌≡◌ {A = Result FirstHit Refusal} (Ok (found_in test n l p q 0 (visits (crossings p q)))) (Ok (FirstHit.Hit h)) → Search test n l p q (start p q) 0 (visits (crossings p q)) →
           FirstTouched from n l p q h
       by_hit h e (found i lt met before is) =
-          let k : h ≡ hit_or h (hit_on test n l p q (start p q) (visit p q i) (0 + i + 1)) = ap (hit_or h) (sym e ∙ is) in
+          let k : h ≡ hit_or h (Ok (hit_on test n l p q (start p q) (visit p q i) (0 + i + 1))) = ap (hit_or h) (sym e ∙ ap Ok is) in
           first_touched i lt met before h (ap (λ x. x.cell) k) (ap (λ x. x.code) k) (ap (λ x. x.place) k) (ap (λ x. x.reads) k)
-      by_hit h e (none all is) = absurd (let z : ◌≡◌ {A = ℕ} 0 1 = ap kind (sym e ∙ is) in omega arith)
+      by_hit h e (none all is) = absurd (let z : ◌≡◌ {A = ℕ} 0 1 = ap kind (sym e ∙ ap Ok is) in omega arith)
 
-      by_clear : (m : ℕ) → found_in test n l p q 0 (visits (crossings p q)) ≡ Ok (FirstHit.Clear m) → Search test n l p q (start p q) 0 (visits (crossings p q)) →
+      by_clear : (m : ℕ) → ◌≡◌ {A = Result FirstHit Refusal} (Ok (found_in test n l p q 0 (visits (crossings p q)))) (Ok (FirstHit.Clear m)) → Search test n l p q (start p q) 0 (visits (crossings p q)) →
           (m ≡ length (touching_line p q)) ×
           ((k d : ℕ) (c : Cell) → Share k d → InClosed p q k d c → (c ≡ p → from ≡ Tested) → solid (byte_of n l c) ≡ false)
-      by_clear m e (found i lt met before is) = absurd (let z : ◌≡◌ {A = ℕ} 1 0 = ap kind (sym e ∙ is) in omega arith)
+      by_clear m e (found i lt met before is) = absurd (let z : ◌≡◌ {A = ℕ} 1 0 = ap kind (sym e ∙ ap Ok is) in omega arith)
       by_clear m e (none all is) =
-          let many : m ≡ 0 + length (visits (crossings p q)) = ap (reads_or m) (sym e ∙ is) in (
+          let many : m ≡ 0 + length (visits (crossings p q)) = ap (reads_or m) (sym e ∙ ap Ok is) in (
             omega (arith, touching_length p q),
             λ k d c s there tested.
                 let (i, lt, at_i) = touched_in p q k d c s there in
@@ -281,7 +281,7 @@ module _ (n : Counts) (l : List ℕ) (p q : Cell) where
   starts_alike : solid (byte_of n l p) ≡ false → (one other : Start) → first_touching one n l p q ≡ first_touching other n l p q
   unfolding first_touching
   starts_alike clear one other =
-      ap (λ test. by_verdict Err (found_in test n l p q 0 (visits (crossings p q))) (walk_check n (length l) p q))
+      ap (λ test. by_verdict Err (Ok (found_in test n l p q 0 (visits (crossings p q)))) (walk_check n (length l) p q))
       (fun_ext (starts_test n l p (walking one) (walking other) clear))
 
   -- equal ends have one cell
@@ -293,8 +293,8 @@ module _ (n : Counts) (l : List ℕ) (p q : Cell) where
       some = omega (arith, ap length (touching_parts p p))
 
   equal_found : Search (hit_at (walking Untested) n l p) n l p p (start p p) 0 (visits (crossings p p)) →
-      found_in (hit_at (walking Untested) n l p) n l p p 0 (visits (crossings p p)) ≡ Ok (FirstHit.Clear 1)
-  equal_found (none all is) = is ∙ ap Ok (FirstHit.Clear (omega (arith, one_cell)))
+      found_in (hit_at (walking Untested) n l p) n l p p 0 (visits (crossings p p)) ≡ FirstHit.Clear 1
+  equal_found (none all is) = is ∙ ap FirstHit.Clear (omega (arith, one_cell))
   equal_found (found i lt met before is) =
       absurd (let z : ◌≡◌ {A = ℕ} 0 1 = ap (λ b. cond b 1 0) (sym (exempt_test (walking Untested) n l p refl) ∙ sym at_p ∙ met) in omega arith)
     where
@@ -311,7 +311,7 @@ module _ (n : Counts) (l : List ℕ) (p q : Cell) where
             let z : ◌≡◌ {A = ℕ} 0 1 = ap startcode (((touching_hits Untested n l p q).hit h f).p_tested at_p) in
             omega arith;
         equal_ends = λ r f. one_read r (walk_check n (length l) p p)
-            (says Untested n l p p f ∙ ap (λ a. by_verdict Err a (walk_check n (length l) p p)) (equal_found (search Untested n l p p)));
+            (says Untested n l p p f ∙ ap (λ a. by_verdict Err (Ok a) (walk_check n (length l) p p)) (equal_found (search Untested n l p p)));
       }
 
 -- ---- beside the plain walk
@@ -360,7 +360,7 @@ module _ (how : Manner) (n : Counts) (l : List ℕ) (p q : Cell) where
   plain_accepts e fine f = by _ _ (hits_at (conduct how p q) n l p q (end_of (conduct how p q) n l p q Plain))
       (f.says ∙ first_hit_is how n l p q Plain ∙ ap (by_verdict Err _) fine)
     where
-      by : (h : Hit) (m : ℕ) (b : Bool) → Err e ≡ cond b (Ok (FirstHit.Hit h)) (Ok (FirstHit.Clear m)) → ⊥
+      by : (h : Hit) (m : ℕ) (b : Bool) → Err e ≡ Ok (cond b (FirstHit.Hit h) (FirstHit.Clear m)) → ⊥
       by h m true is = let z : ◌≡◌ {A = ℕ} 2 0 = ap kind is in omega arith
       by h m false is = let z : ◌≡◌ {A = ℕ} 2 1 = ap kind is in omega arith
 
@@ -368,10 +368,10 @@ module _ (how : Manner) (n : Counts) (l : List ℕ) (p q : Cell) where
   unfolding kind
   touching_accepts e fine t = by (says how.start n l p q t ∙ ap (by_verdict Err _) fine) (search how.start n l p q)
     where
-      by : Err e ≡ found_in (hit_at (walking how.start) n l p) n l p q 0 (visits (crossings p q)) →
+      by : Err e ≡ Ok (found_in (hit_at (walking how.start) n l p) n l p q 0 (visits (crossings p q))) →
           Search (hit_at (walking how.start) n l p) n l p q (start p q) 0 (visits (crossings p q)) → ⊥
-      by is (found i lt met before e) = let z : ◌≡◌ {A = ℕ} 2 0 = ap kind (is ∙ e) in omega arith
-      by is (none all e) = let z : ◌≡◌ {A = ℕ} 2 1 = ap kind (is ∙ e) in omega arith
+      by is (found i lt met before e) = let z : ◌≡◌ {A = ℕ} 2 0 = ap kind (is ∙ ap Ok e) in omega arith
+      by is (none all e) = let z : ◌≡◌ {A = ℕ} 2 1 = ap kind (is ∙ ap Ok e) in omega arith
 
   -- so a touching walk that is clear leaves no plain hit
   no_plain_hit : (m : ℕ) (h : Hit) → FindsTouching how.start n l p q (Ok (FirstHit.Clear m)) → Finds Plain how n l p q (Ok (FirstHit.Hit h)) → ⊥

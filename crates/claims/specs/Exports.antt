@@ -1,5 +1,5 @@
 -- What is claimed of the calls for C, by the contracts of those exports that answer a struct (ExportTies: they are the sources' own). Assumes nothing.
-use Rattle.std.specs.Prelude.{Result, ℕ, ◌≤◌, ◌≡◌, List, [], ◌∷◌, ℤ, pos}
+use Rattle.std.specs.Prelude.{Bool, Result, ℕ, ◌≤◌, ◌≡◌, List, [], ◌∷◌, ℤ, pos}
 use Rattle.cells.specs.declared.Refusal.{Refusal}
 use Rattle.records.specs.declared.venues.Venue.{Venue}
 use Rattle.records.specs.declared.pairs.Pair.{Pair}

@@ -1,6 +1,6 @@
 -- What is claimed of the structs that the calls for C answer by: what C reads of an answer is what SCOPE says of it, as numbers; and of those that
 -- the calls take: what they mean. Assumes nothing.
-use Rattle.std.specs.Prelude.{Ok, Err, ℕ, ◌≤◌, ◌≡◌, ◌⊎◌, ◌↔◌, ℤ, pos, negsuc, Float}
+use Rattle.std.specs.Prelude.{true, false, Ok, Err, ℕ, ◌≤◌, ◌≡◌, ◌⊎◌, ◌↔◌, ℤ, pos, negsuc, Float}
 use Rattle.std.proofs.Common.{inr}
 use Rattle.cells.specs.declared.Axis.{Axis}
 use Rattle.cells.specs.declared.Axis.TheVariants.{X, Y, Z}

@@ -1,6 +1,6 @@
 -- What is claimed of the grid: its layers, near marks and their completeness (SCOPE, G and N). Marks and completeness are claimed over
 -- the number k of touching: 2 is by face or edge, 3 by face, edge or corner. Assumes nothing.
-use Rattle.std.specs.Prelude.{Ok, Err, Result, ℕ, ◌+◌, ◌*◌, ◌≤◌, ◌<◌, ◌≡◌, ◌⊎◌, ◌↔◌, true, false, List, [], ◌∷◌, ℤ, pos, nat_abs, length, get_or}
+use Rattle.std.specs.Prelude.{Bool, Ok, Err, Result, ℕ, ◌+◌, ◌*◌, ◌≤◌, ◌<◌, ◌≡◌, ◌⊎◌, ◌↔◌, true, false, List, [], ◌∷◌, ℤ, pos, nat_abs, length, get_or}
 use Rattle.std.specs.Borrow.{Bor}
 use Rattle.cells.specs.declared.Counts.{Counts}
 use Rattle.cells.specs.declared.Refusal.{Refusal}

@@ -1,6 +1,6 @@
 -- The users' three demands, the kept counts and the touching line, a record each, in the words of the calls' contracts. A tester may read this page alone; each name leads to its file.
 -- Assumes nothing.
-use Rattle.std.specs.Prelude.{Ok, Result, ℕ, ◌≤◌, ◌≡◌, List, ◌++◌, ℤ, take}
+use Rattle.std.specs.Prelude.{true, Ok, Result, ℕ, ◌≤◌, ◌≡◌, List, ◌++◌, ℤ, take}
 use Rattle.records.specs.declared.venues.Venue.{Venue}
 use Rattle.std.specs.Borrow.{Bor}
 use Rattle.cells.specs.declared.Cell.{Cell}

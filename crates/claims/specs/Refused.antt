@@ -1,6 +1,6 @@
 -- SCOPE, R and O: for each public call its tests in order, each in plain inequalities on the call's inputs and with the
 -- number and details that it gives; and the claim that every answer that meets the call's contract is given by them. Assumes nothing.
-use Rattle.std.specs.Prelude.{Result, ℕ, ◌+◌, ◌*◌, ◌/◌, ◌<◌, ◌≡◌, true, false, List, [], ◌↔◌, ◌⊎◌, ℤ, pos, neg_ℤ, ◌<ℤ◌, ◌≤ℤ◌, length, get_or, Float}
+use Rattle.std.specs.Prelude.{Bool, Result, ℕ, ◌+◌, ◌*◌, ◌/◌, ◌<◌, ◌≡◌, true, false, List, [], ◌↔◌, ◌⊎◌, ℤ, pos, neg_ℤ, ◌<ℤ◌, ◌≤ℤ◌, length, get_or, Float}
 use Rattle.cells.specs.declared.Refusal.{Refusal}
 use Rattle.records.specs.declared.venues.Venue.{Venue}
 use Rattle.records.specs.declared.pairs.Pair.{Pair}

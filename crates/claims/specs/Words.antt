@@ -1,6 +1,6 @@
 -- What is claimed of the words: what SCOPE says of a refusal, its number and details, tells which refusal it is; and what it says of an
 -- answer, a refusal or the values, tells which answer it is. Assumes nothing.
-use Rattle.std.specs.Prelude.{Result, ℕ, ◌≡◌}
+use Rattle.std.specs.Prelude.{Bool, Result, ℕ, ◌≡◌}
 use Rattle.records.specs.declared.venues.Venue.{Venue}
 use Rattle.records.specs.declared.pairs.Pair.{Pair}
 use Rattle.cells.specs.declared.Cell.{Cell}
