@@ -28,7 +28,7 @@ pub struct Cell {
     pub z: i32,
 }
 
-// One of something for each axis.
+// One of something for each axis. `Cell` and `Counts` stay types of their own: each is a word of the README, and no function is the same over two of them.
 #[derive(Clone, Copy)]
 pub struct Each<T> {
     pub x: T,
@@ -36,7 +36,8 @@ pub struct Each<T> {
     pub z: T,
 }
 
-// The face by which a line came into a cell: none where it starts there, else the axis with the sign of the move.
+// The face by which a line came into a cell: none where it starts there, else the axis with the sign of the move. The case for none is no `Option`'s, since
+// SCOPE's F13 gives each case a word.
 #[derive(Clone, Copy)]
 pub enum Face {
     None,
@@ -143,7 +144,7 @@ pub enum Refusal {
     Corners,
 }
 
-// The number of a refusal.
+// The number of a refusal, for C and for the program's lines: the kinds are cases everywhere else.
 pub fn number(r: Refusal) -> u32
     ensures { NumberOf r result }
 {
@@ -165,7 +166,7 @@ pub fn number(r: Refusal) -> u32
     }
 }
 
-// Refusal 12 unless the number names a rule.
+// Refusal 12 unless the number names a rule. It and `rule_of`, which cannot fail, stand beside `Rule::try_from`: claims speak of both (`Ties`).
 #[tactic(auto, unfolding(crate::specs::Manners::rule_check))]
 pub fn check_rule(number: u32) -> Result<(), Refusal>
     ensures { result ≡ rule_check number }

@@ -10,7 +10,7 @@ ghost use Rattle.grids.specs.Inside.{off_axis, grid_check, walk_check, Good, Cou
 
 use cells::{Axis, Cell, Counts, End, Refusal};
 
-// The part of the slice that is a layer: where it starts and how long it is.
+// The part of the slice that is a layer: where it starts and how long it is, as C is told it. `layer` gives the part itself.
 #[derive(Clone, Copy)]
 pub struct LayerPart {
     pub start: usize,

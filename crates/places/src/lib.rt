@@ -39,7 +39,7 @@ fn is_behind(i: u32, a: u32, j: u32, b: u32, shift: u32) -> bool
     0 < i && later
 }
 
-// Which axis was crossed last: x; or else z where it comes after y; or else y.
+// Which axis was crossed last: x; or else z where it comes after y; or else y. Two flags and no `Axis`: by each a number is chosen with no branch.
 #[derive(Clone, Copy)]
 pub struct Last {
     pub x: bool,

@@ -22,7 +22,8 @@ pub const PAIR_MOST: usize = 255;
 // Room for what a step writes: a line for each walk, of at most 160 bytes.
 pub const TEXT_ROOM: usize = 320;
 
-// What a step gives: how many bytes of text stand in the lent bytes, and what comes next: the pair of a number, or nothing any more.
+// What a step gives: how many bytes of text stand in the lent bytes, and what comes next: the pair of a number, or nothing any more. The
+// text is no part that is handed back: claims speak of its length in the bytes that were lent.
 #[derive(Clone, Copy)]
 pub struct Step {
     pub long: usize,

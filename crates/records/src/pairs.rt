@@ -22,6 +22,7 @@ fn signed(v: u32) -> i32
     (v as u16).cast_signed() as i32
 }
 
+// Versions are the records' own bytes, over which the definitions are (`pair_length`, `venue_head`), and no enum.
 #[tactic(auto, unfolding(crate::specs::Pairs::pair_version))]
 fn pair_version(version: u8) -> bool
     ensures { result ≡ pair_version version }

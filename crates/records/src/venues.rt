@@ -6,7 +6,7 @@ ghost use Rattle.records.specs.Venues.{venue_version, venue_head, counts_at, ven
 use crate::heads::{announced, head_check, version_of};
 use cells::{Counts, Refusal};
 
-// A venue that was read: its counts, and the part of the bytes that holds its cells.
+// A venue that was read: its counts, and the part of the bytes that holds its cells, as C is told it. `venue_cells` gives the part itself.
 #[derive(Clone, Copy)]
 pub struct Venue {
     pub counts: Counts,

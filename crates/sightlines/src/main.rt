@@ -17,6 +17,7 @@ fn read_full(rt: &HostRuntime, buf: &mut [u8]) -> (usize, io::Result<()>)
     ensures { Count result.0 buf.new }
 {
     let mut done = 0;
+    // each turn goes on by what came
     while done < buf.len() {
         match rt.stdin().read(&mut buf[done..]) {
             Ok(0) => return (done, Ok(())),

@@ -55,7 +55,7 @@ pub struct OatManner {
     pub rule: u32,
 }
 
-// A start by C's number.
+// A start by C's number. It cannot fail, and is no `From` of `Start`, which belongs to `cells`.
 pub fn start_of(number: u32) -> Start
     ensures { result ≡ as_start number }
 {
@@ -66,7 +66,7 @@ pub fn start_of(number: u32) -> Start
     }
 }
 
-// A manner of C's as such, once its rule is tested.
+// A manner of C's as such, once its rule is tested. It cannot fail, and so stays beside `Manner::try_from`.
 pub fn manner(how: OatManner) -> Manner
     ensures { result ≡ as_manner how }
 {

@@ -65,6 +65,7 @@ impl From<Result<Venue, Refusal>> for OatVenue {
     }
 }
 
+// C's number of a rule.
 fn rule_code(r: Rule) -> u32
     ensures { result ≡ rule_number r }
 {

@@ -21,6 +21,7 @@ pub(crate) const ACCEPTED: OatSaid = OatSaid {
     axis: 0,
 };
 
+// The numbers of ends, axes and parts are C's, and so no `From` of the types, which belong to `cells`.
 fn end_code(e: End) -> u32
     ensures { result ≡ end_number e }
 {

@@ -112,6 +112,7 @@ fn cell_number(count: u32, q: f64) -> u32
     ensures { result ≡ cell_number count q }
 {
     let mut s = Span { lo: 0, hi: count };
+    // a span is halved, no index counted
     while s.lo + 1 < s.hi {
         s = halved(q, s);
     }

@@ -14,7 +14,7 @@ ghost use Rattle.tripod.specs.Tripod.{steps, Short, SmallTripod, SmallDoubled, N
 use cells::{Axis, Cell, Each, Rule};
 use lines::{Doubled, Order, Tie, Tripod};
 
-// The differences of a line's ends.
+// The differences of a line's ends. That they are short is asked where sums need it, and is no invariant: `along`, `longest` and `longest_axis` take any.
 #[derive(Clone, Copy)]
 pub struct Diffs {
     pub a: u32,
@@ -123,7 +123,7 @@ pub fn lowered(e: Tripod, o: Order) -> Tripod
     }
 }
 
-// The values of figure 6 again.
+// The values of figure 6 again. Apart from `lowered`: one function over a sign would be a third name for two words.
 pub fn raised(e: Tripod, o: Order) -> Tripod
     requires { SmallTripod e }
     ensures { result ≡ raised o e }
