@@ -63,19 +63,19 @@ fn few_bits(cells: &[u8], from: usize, long: usize) -> u64
     bits
 }
 
-// The bits of four cells from x on, those beyond the grid 0.
-fn row_bits(g: Grid, x: usize, y: usize, z: usize) -> u64
-    requires { x < g.counts.nx }
-    ensures { result ≡ number_of (λ d. solid_at g.entry.counts g.entry.cells.now (x + d) y z) 4 }
+// The bits of four cells in a row along x, the first of them c; those beyond the grid 0.
+fn row_bits(g: Grid, c: Slot) -> u64
+    requires { c.x < g.counts.nx }
+    ensures { result ≡ number_of (λ d. solid_at g.entry.counts g.entry.cells.now (c.x + d) c.y c.z) 4 }
 {
-    let nx = g.counts.nx as usize;
-    let ny = g.counts.ny as usize;
-    if ny <= y || g.counts.nz as usize <= z {
+    let n = g.counts;
+    if n.ny as usize <= c.y || n.nz as usize <= c.z {
         return 0;
     }
-    let from = x + nx * (y + ny * z);
-    if nx - x < 4 {
-        return few_bits(g.cells, from, nx - x);
+    let from = index_in(n, c);
+    let long = n.nx as usize - c.x;
+    if long < 4 {
+        return few_bits(g.cells, from, long);
     }
     four_bits(g.cells, from)
 }
@@ -91,7 +91,12 @@ fn part_mask(g: Grid, b: Slot) -> u64
 {
     let mut mask = 0u64;
     for r in 0..16 {
-        mask += row_bits(g, 4 * b.x, 4 * b.y + r % 4, 4 * b.z + r / 4) << (4 * r);
+        let first = Slot {
+            x: 4 * b.x,
+            y: 4 * b.y + r % 4,
+            z: 4 * b.z + r / 4,
+        };
+        mask += row_bits(g, first) << (4 * r);
     }
     mask
 }
