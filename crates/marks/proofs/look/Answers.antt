@@ -21,14 +21,16 @@ layers c =
 
 -- so its start and its rows do
 a_layer : (c : After-starts-layers) → let a = c.args in
-    (from : ℕ) → from + a.g.counts.nx * a.g.counts.ny ≤ length a.g.cells.now → (a.r % a.g.counts.ny < a.g.counts.ny) × (from + a.g.counts.nx * a.g.counts.ny < 2 ^ 64)
+    (from : ℕ) → from + a.g.counts.nx * a.g.counts.ny ≤ length a.g.cells.now →
+    (a.r % a.g.counts.ny < a.g.counts.ny) × (from + a.g.counts.nx * a.g.counts.ny < 2 ^ 64)
 a_layer c from h =
     let a = c.args in
     let long : length a.g.cells.now < 2 ^ 64 = search rules in
     (row_y a.g.counts a.g.cells.now (shaped _ _ c.args.g.shaped) a.r c.requires.0, lt_of_le_of_lt h long)
 
 its_rows : (c : After-starts-layers) → let a = c.args in
-    (rows : Three) (from : ℕ) → rows ≡ starts from a.g.counts.nx (a.r % a.g.counts.ny) a.g.counts.ny → from + a.g.counts.nx * a.g.counts.ny ≤ length a.g.cells.now →
+    (rows : Three) (from : ℕ) → rows ≡ starts from a.g.counts.nx (a.r % a.g.counts.ny) a.g.counts.ny →
+    from + a.g.counts.nx * a.g.counts.ny ≤ length a.g.cells.now →
     Within rows a.g.counts.nx (length a.g.cells.now)
 its_rows c rows from is h =
     let a = c.args in
