@@ -1,7 +1,6 @@
 -- SCOPE K4, O9: the build: refusals 2, 3, then 6; the masks at the front of the lent memory, and the total. Assumes nothing.
 use Rattle.std.specs.Prelude.{Ok, Err, Result, ℕ, ◌≡◌, cond, List, ◌⊎◌, ltb, length, get_or}
 use Rattle.cells.specs.declared.Refusal.{Refusal}
-use Rattle.std.proofs.Common.{inl, inr}
 use Rattle.cells.specs.declared.Counts.{Counts}
 use Rattle.cells.specs.declared.Refusal.TheVariants.{Room}
 use Rattle.cells.specs.Checks.{Verdict, refuse_when, ◌then◌, by_verdict}

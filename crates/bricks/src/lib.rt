@@ -1,10 +1,10 @@
 // Solid counts that are kept: masks of bricks, a bit for each cell, and how many ones they have together. The build.
 #![tactic(auto)]
 
-ghost use Rattle.std.specs.Prelude.{◌+◌, ◌*◌, ◌≤◌, ◌<◌, ◌≡◌, Ok, true, length, get_or};
+ghost use Rattle.std.specs.Prelude.{◌+◌, ◌*◌, ◌≤◌, ◌<◌, ◌≡◌, true, length, get_or};
 ghost use Rattle.std.specs.Int.Count.{ones};
 ghost use Rattle.cells.specs.Fills.{Filled};
-ghost use Rattle.grids.specs.Grid.{shape, solid, size, index};
+ghost use Rattle.grids.specs.Grid.{solid, size, index};
 ghost use Rattle.grids.specs.Inside.{Counted};
 ghost use Rattle.bricks.specs.Sums.{sum, digit, number_of};
 ghost use Rattle.bricks.specs.Bricks.{bricks, solid_at, mask_of, mask_at};
@@ -12,6 +12,7 @@ ghost use Rattle.bricks.specs.Rows.{solid_from, brick_number, RowOfBricks};
 ghost use Rattle.bricks.specs.Builds.{bricks_check, Builds};
 
 use cells::{Counts, Refusal};
+use grids::Grid;
 
 // A cell of the grid, or a brick, by natural numbers.
 #[derive(Clone, Copy)]
@@ -62,22 +63,21 @@ fn few_bits(cells: &[u8], from: usize, long: usize) -> u64
     bits
 }
 
-// The bits of four cells from x on, those beyond the grid 0.
-fn row_bits(n: Counts, cells: &[u8], x: usize, y: usize, z: usize) -> u64
-    requires shaped { shape n (length cells.now) ≡ Ok tt }
-    requires inside { x < n.nx }
-    ensures { result ≡ number_of (λ d. solid_at n cells.now (x + d) y z) 4 }
+// The bits of four cells in a row along x, the first of them c; those beyond the grid 0.
+fn row_bits(g: Grid, c: Slot) -> u64
+    requires { c.x < g.counts.nx }
+    ensures { result ≡ number_of (λ d. solid_at g.entry.counts g.entry.cells.now (c.x + d) c.y c.z) 4 }
 {
-    let nx = n.nx as usize;
-    let ny = n.ny as usize;
-    if ny <= y || n.nz as usize <= z {
+    let n = g.counts;
+    if n.ny as usize <= c.y || n.nz as usize <= c.z {
         return 0;
     }
-    let from = x + nx * (y + ny * z);
-    if nx - x < 4 {
-        return few_bits(cells, from, nx - x);
+    let from = index_in(n, c);
+    let long = n.nx as usize - c.x;
+    if long < 4 {
+        return few_bits(g.cells, from, long);
     }
-    four_bits(cells, from)
+    four_bits(g.cells, from)
 }
 
 // ---- bricks
@@ -85,14 +85,18 @@ fn row_bits(n: Counts, cells: &[u8], x: usize, y: usize, z: usize) -> u64
 // The mask of a brick that may reach beyond the grid, row by row. Beside `whole_mask`: the build took 1.5 times as long as plain C with a test
 // of each row, and 0.85 times where whole bricks have none.
 #[tactic(auto, using(crate::proofs::Sums::sum_none))]
-fn part_mask(n: Counts, cells: &[u8], bx: usize, by: usize, bz: usize) -> u64
-    requires shaped { shape n (length cells.now) ≡ Ok tt }
-    requires starts_inside { (4 * bx < n.nx) × (4 * by < n.ny) × (4 * bz < n.nz) }
-    ensures { result ≡ mask_of n cells.now bx by bz }
+fn part_mask(g: Grid, b: Slot) -> u64
+    requires { (4 * b.x < g.counts.nx) × (4 * b.y < g.counts.ny) × (4 * b.z < g.counts.nz) }
+    ensures { result ≡ mask_of g.entry.counts g.entry.cells.now b.x b.y b.z }
 {
     let mut mask = 0u64;
     for r in 0..16 {
-        mask += row_bits(n, cells, 4 * bx, 4 * by + r % 4, 4 * bz + r / 4) << (4 * r);
+        let first = Slot {
+            x: 4 * b.x,
+            y: 4 * b.y + r % 4,
+            z: 4 * b.z + r / 4,
+        };
+        mask += row_bits(g, first) << (4 * r);
     }
     mask
 }
@@ -110,31 +114,31 @@ fn whole_mask(cells: &[u8], from: usize, row: usize, layer: usize) -> u64
     mask
 }
 
-// Yes only where the brick (bx, by, bz) lies in the grid whole; where the answer is no, its rows are tested.
-fn is_whole(n: Counts, bx: usize, by: usize, bz: usize) -> bool
-    requires starts_inside { (4 * bx < n.nx) × (4 * by < n.ny) × (4 * bz < n.nz) }
+// Yes only where the brick lies in the grid whole; where the answer is no, its rows are tested.
+fn is_whole(n: Counts, b: Slot) -> bool
+    requires starts_inside { (4 * b.x < n.nx) × (4 * b.y < n.ny) × (4 * b.z < n.nz) }
     requires counted { Counted n }
-    ensures { result ≡ true → (4 * bx + 4 ≤ n.nx) × (4 * by + 4 ≤ n.ny) × (4 * bz + 4 ≤ n.nz) }
+    ensures { result ≡ true → (4 * b.x + 4 ≤ n.nx) × (4 * b.y + 4 ≤ n.ny) × (4 * b.z + 4 ≤ n.nz) }
 {
-    4 * bx + 4 <= n.nx as usize && 4 * by + 4 <= n.ny as usize && 4 * bz + 4 <= n.nz as usize
+    4 * b.x + 4 <= n.nx as usize && 4 * b.y + 4 <= n.ny as usize && 4 * b.z + 4 <= n.nz as usize
 }
 
-// The mask of the brick (bx, by, bz).
-pub fn mask_of(n: Counts, cells: &[u8], bx: usize, by: usize, bz: usize) -> u64
-    requires shaped { shape n (length cells.now) ≡ Ok tt }
-    requires starts_inside { (4 * bx < n.nx) × (4 * by < n.ny) × (4 * bz < n.nz) }
-    ensures { result ≡ mask_of n cells.now bx by bz }
+// The mask of a brick.
+pub fn mask_of(g: Grid, b: Slot) -> u64
+    requires { (4 * b.x < g.counts.nx) × (4 * b.y < g.counts.ny) × (4 * b.z < g.counts.nz) }
+    ensures { result ≡ mask_of g.entry.counts g.entry.cells.now b.x b.y b.z }
 {
-    if is_whole(n, bx, by, bz) {
+    let n = g.counts;
+    if is_whole(n, b) {
         let first = Slot {
-            x: 4 * bx,
-            y: 4 * by,
-            z: 4 * bz,
+            x: 4 * b.x,
+            y: 4 * b.y,
+            z: 4 * b.z,
         };
         let row = n.nx as usize;
-        return whole_mask(cells, index_in(n, first), row, row * n.ny as usize);
+        return whole_mask(g.cells, index_in(n, first), row, row * n.ny as usize);
     }
-    part_mask(n, cells, bx, by, bz)
+    part_mask(g, b)
 }
 
 // How many bricks stand along each axis.
@@ -168,16 +172,17 @@ pub fn index_in(n: Counts, c: Slot) -> usize
 }
 
 // Puts the masks of `long` bricks in a row along x, the first of them `at`, into the lent memory; answers their ones.
-pub fn fill_masks(n: Counts, cells: &[u8], masks: &mut [u64], at: Slot, long: usize) -> u64
-    requires shaped { shape n (length cells.now) ≡ Ok tt }
-    requires row_of_bricks { RowOfBricks n at long × (size (bricks n) ≤ length masks.old) }
-    ensures value { (result ≡ sum (λ i. ones (mask_at n cells.now (brick_number n at + i))) long) × (result ≤ 64 * long) }
-    ensures filled { Filled (mask_at n cells.now) (brick_number n at) (brick_number n at + long) masks.old masks.new }
+pub fn fill_masks(g: Grid, masks: &mut [u64], at: Slot, long: usize) -> u64
+    requires { RowOfBricks g.counts at long × (size (bricks g.counts) ≤ length masks.old) }
+    ensures value { (result ≡ sum (λ i. ones (mask_at g.entry.counts g.entry.cells.now (brick_number g.entry.counts at + i))) long)
+        × (result ≤ 64 * long) }
+    ensures filled { Filled (mask_at g.entry.counts g.entry.cells.now) (brick_number g.entry.counts at) (brick_number g.entry.counts at + long)
+        masks.old masks.new }
 {
-    let from = index_in(bricks_of(n), at);
+    let from = index_in(bricks_of(g.counts), at);
     let mut found = 0u64;
     for d in 0..long {
-        let mask = mask_of(n, cells, at.x + d, at.y, at.z);
+        let mask = mask_of(g, Slot { x: at.x + d, ..at });
         masks[from + d] = mask;
         found += ones(mask);
     }
@@ -185,13 +190,12 @@ pub fn fill_masks(n: Counts, cells: &[u8], masks: &mut [u64], at: Slot, long: us
 }
 
 // Puts the masks of all bricks into the front of the lent memory, row by row; answers their ones.
-fn fill_all(n: Counts, cells: &[u8], masks: &mut [u64]) -> u64
-    requires shaped { shape n (length cells.now) ≡ Ok tt }
-    requires room { size (bricks n) ≤ length masks.old }
-    ensures value { result ≡ sum (λ k. ones (mask_at n cells.now k)) (size (bricks n)) }
-    ensures filled { Filled (mask_at n cells.now) 0 (size (bricks n)) masks.old masks.new }
+fn fill_all(g: Grid, masks: &mut [u64]) -> u64
+    requires { size (bricks g.counts) ≤ length masks.old }
+    ensures value { result ≡ sum (λ k. ones (mask_at g.entry.counts g.entry.cells.now k)) (size (bricks g.entry.counts)) }
+    ensures filled { Filled (mask_at g.entry.counts g.entry.cells.now) 0 (size (bricks g.entry.counts)) masks.old masks.new }
 {
-    let b = bricks_of(n);
+    let b = bricks_of(g.counts);
     let wide = b.nx as usize;
     let tall = b.ny as usize;
     let mut found = 0u64;
@@ -201,7 +205,7 @@ fn fill_all(n: Counts, cells: &[u8], masks: &mut [u64]) -> u64
             y: r % tall,
             z: r / tall,
         };
-        found += fill_masks(n, cells, masks, at, wide);
+        found += fill_masks(g, masks, at, wide);
     }
     found
 }
@@ -223,5 +227,5 @@ pub fn build(n: Counts, cells: &[u8], masks: &mut [u64]) -> Result<u64, Refusal>
     ensures { Builds n cells.now masks.old result masks.new }
 {
     check_bricks(n, cells.len(), masks.len())?;
-    Ok(fill_all(n, cells, masks))
+    Ok(fill_all(Grid { counts: n, cells }, masks))
 }

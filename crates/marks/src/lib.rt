@@ -9,6 +9,7 @@ ghost use Rattle.cells.specs.Fills.{Filled};
 ghost use Rattle.marks.specs.Rows.{starts, in_rows, Within, in_column, Shows, Framed, beside, mark_for, put_byte, gap_by, gap};
 
 use cells::{Counts, Refusal};
+use grids::Grid;
 
 // Where three rows of a layer start, or three layers of a grid.
 #[derive(Clone, Copy)]
@@ -64,21 +65,20 @@ fn raise_rows(window: &mut [u8], cells: &[u8], nx: usize, rows: Three)
 }
 
 // Puts the up to nine rows beside row r into the window.
-fn look(n: Counts, cells: &[u8], r: usize, window: &mut [u8])
-    requires shaped { shape n (length cells.now) ≡ Ok tt }
-    requires row_inside { (r < n.ny * n.nz) × (n.nx < length window.old) }
-    ensures { Shows (in_column n cells.now r) n.nx window.old window.new }
+fn look(g: Grid, r: usize, window: &mut [u8])
+    requires { (r < g.counts.ny * g.counts.nz) × (g.counts.nx < length window.old) }
+    ensures { Shows (in_column g.entry.counts g.entry.cells.now r) g.entry.counts.nx window.old window.new }
 {
-    let nx = n.nx as usize;
-    let ny = n.ny as usize;
+    let nx = g.counts.nx as usize;
+    let ny = g.counts.ny as usize;
     let y = r % ny;
-    let layers = starts(0, nx * ny, r / ny, n.nz as usize);
+    let layers = starts(0, nx * ny, r / ny, g.counts.nz as usize);
     let below = starts(layers.low, nx, y, ny);
     let here = starts(layers.mid, nx, y, ny);
     let above = starts(layers.high, nx, y, ny);
-    set_rows(window, cells, nx, below);
-    raise_rows(window, cells, nx, here);
-    raise_rows(window, cells, nx, above);
+    set_rows(window, g.cells, nx, below);
+    raise_rows(window, g.cells, nx, here);
+    raise_rows(window, g.cells, nx, above);
 }
 
 // The largest byte of the window at x or next to it.
@@ -116,7 +116,7 @@ fn mark_row(n: Counts, cells: &mut [u8], r: usize, window: &mut [u8])
     ensures filled { Filled (marked_byte 3 n cells.old) (n.nx * r) (n.nx * r + n.nx) cells.old cells.new }
     ensures framed { Framed n.nx window.new }
 {
-    look(n, cells, r, window);
+    look(Grid { counts: n, cells }, r, window);
     let nx = n.nx as usize;
     put(window, cells, nx, nx * r);
 }
@@ -154,25 +154,24 @@ fn gap_by(window: &[u8], cells: &[u8], nx: usize, from: usize) -> bool
 }
 
 // Whether a clear cell of row r touches a solid one.
-fn gap_in_row(n: Counts, cells: &[u8], r: usize, window: &mut [u8]) -> bool
-    requires shaped { shape n (length cells.now) ≡ Ok tt }
-    requires row_inside { (r < n.ny * n.nz) × Framed n.nx window.old }
-    ensures value { result ≡ any (λ x. gap n cells.now (n.nx * r + x)) n.nx }
-    ensures framed { Framed n.nx window.new }
+fn gap_in_row(g: Grid, r: usize, window: &mut [u8]) -> bool
+    requires { (r < g.counts.ny * g.counts.nz) × Framed g.counts.nx window.old }
+    ensures value { result ≡ any (λ x. gap g.entry.counts g.entry.cells.now (g.entry.counts.nx * r + x)) g.entry.counts.nx }
+    ensures framed { Framed g.entry.counts.nx window.new }
 {
-    look(n, cells, r, window);
-    let nx = n.nx as usize;
-    gap_by(window, cells, nx, nx * r)
+    look(g, r, window);
+    let nx = g.counts.nx as usize;
+    gap_by(window, g.cells, nx, nx * r)
 }
 
 // Whether a clear cell touches a solid one. A loop, and not `any`: of a closure that changes the window a proof learns nothing.
-fn has_gap(n: Counts, cells: &[u8], window: &mut [u8]) -> bool
-    requires { (shape n (length cells.now) ≡ Ok tt) × Framed n.nx window.old }
-    ensures { result ≡ any (gap n cells.now) (length cells.now) }
+fn has_gap(g: Grid, window: &mut [u8]) -> bool
+    requires { Framed g.counts.nx window.old }
+    ensures { result ≡ any (gap g.entry.counts g.entry.cells.now) (length g.entry.cells.now) }
 {
-    let rows = (n.ny as usize) * (n.nz as usize);
+    let rows = (g.counts.ny as usize) * (g.counts.nz as usize);
     for r in 0..rows {
-        if gap_in_row(n, cells, r, window) {
+        if gap_in_row(g, r, window) {
             return true;
         }
     }
@@ -196,5 +195,5 @@ pub fn complete(n: Counts, cells: &[u8]) -> Result<bool, Refusal>
 {
     grids::shape(n, cells.len())?;
     let mut window = [0u8; 1026];
-    Ok(!has_gap(n, cells, &mut window))
+    Ok(!has_gap(Grid { counts: n, cells }, &mut window))
 }

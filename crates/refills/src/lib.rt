@@ -14,6 +14,7 @@ ghost use Rattle.refills.specs.Refills.{crossed, box_check, bad_total, Refills, 
 
 use bricks::Slot;
 use cells::{Cell, Counts, Refusal};
+use grids::Grid;
 
 // ---- what is tested before memory is read
 
@@ -116,30 +117,28 @@ fn fill_box(n: Counts, cells: &mut [u8], lo: Slot, hi: Slot, byte: u8)
 // ---- a box of masks
 
 // Puts the masks of a box of bricks anew, row by row; answers their ones.
-fn fill_brick_box(n: Counts, cells: &[u8], masks: &mut [u64], lo: Slot, hi: Slot) -> u64
-    requires shaped { shape n (length cells.now) ≡ Ok tt }
-    requires boxed { Boxed (bricks n) lo hi × (size (bricks n) ≤ length masks.old) }
-    ensures value { result ≡ box_sum (bricks n) lo hi (λ k. ones (mask_at n cells.now k)) (rows lo hi) }
-    ensures box_filled { BoxFilled (bricks n) lo hi (mask_at n cells.now) (rows lo hi) masks.old masks.new }
+fn fill_brick_box(g: Grid, masks: &mut [u64], lo: Slot, hi: Slot) -> u64
+    requires { Boxed (bricks g.counts) lo hi × (size (bricks g.counts) ≤ length masks.old) }
+    ensures value { result ≡ box_sum (bricks g.entry.counts) lo hi (λ k. ones (mask_at g.entry.counts g.entry.cells.now k)) (rows lo hi) }
+    ensures box_filled { BoxFilled (bricks g.entry.counts) lo hi (mask_at g.entry.counts g.entry.cells.now) (rows lo hi) masks.old masks.new }
 {
     let wide = row_width(lo, hi);
     let mut found = 0u64;
     for r in 0..row_count(lo, hi) {
-        found += bricks::fill_masks(n, cells, masks, row_slot(lo, hi, r), wide);
+        found += bricks::fill_masks(g, masks, row_slot(lo, hi, r), wide);
     }
     found
 }
 
 // The ones of the masks of `long` bricks in a row along x, the first of them `at`, if they are those of the bytes.
-fn same_masks(n: Counts, cells: &[u8], masks: &[u64], at: Slot, long: usize) -> Option<u64>
-    requires shaped { shape n (length cells.now) ≡ Ok tt }
-    requires row_of_bricks { RowOfBricks n at long × (size (bricks n) ≤ length masks.now) }
-    ensures { result ≡ row_agreed n (brick_number n at) long cells.now masks.now }
+fn same_masks(g: Grid, masks: &[u64], at: Slot, long: usize) -> Option<u64>
+    requires { RowOfBricks g.counts at long × (size (bricks g.counts) ≤ length masks.now) }
+    ensures { result ≡ row_agreed g.entry.counts (brick_number g.entry.counts at) long g.entry.cells.now masks.now }
 {
-    let from = bricks::index_in(bricks::bricks_of(n), at);
+    let from = bricks::index_in(bricks::bricks_of(g.counts), at);
     let mut found = 0u64;
     for d in 0..long {
-        let mask = bricks::mask_of(n, cells, at.x + d, at.y, at.z);
+        let mask = bricks::mask_of(g, Slot { x: at.x + d, ..at });
         if masks[from + d] != mask {
             return None;
         }
@@ -149,15 +148,14 @@ fn same_masks(n: Counts, cells: &[u8], masks: &[u64], at: Slot, long: usize) -> 
 }
 
 // The ones of the masks of a box of bricks, if they are those of the bytes.
-fn same_box(n: Counts, cells: &[u8], masks: &[u64], lo: Slot, hi: Slot) -> Option<u64>
-    requires shaped { shape n (length cells.now) ≡ Ok tt }
-    requires boxed { Boxed (bricks n) lo hi × (size (bricks n) ≤ length masks.now) }
-    ensures { result ≡ box_agreed n lo hi cells.now masks.now }
+fn same_box(g: Grid, masks: &[u64], lo: Slot, hi: Slot) -> Option<u64>
+    requires { Boxed (bricks g.counts) lo hi × (size (bricks g.counts) ≤ length masks.now) }
+    ensures { result ≡ box_agreed g.entry.counts lo hi g.entry.cells.now masks.now }
 {
     let wide = row_width(lo, hi);
     let mut found = 0u64;
     for r in 0..row_count(lo, hi) {
-        found += same_masks(n, cells, masks, row_slot(lo, hi, r), wide)?;
+        found += same_masks(g, masks, row_slot(lo, hi, r), wide)?;
     }
     Some(found)
 }
@@ -187,12 +185,12 @@ fn refill_box(
 {
     let first = brick_of(lo);
     let last = brick_of(hi);
-    let old = same_box(n, cells, masks, first, last).ok_or(Refusal::Stale)?;
+    let old = same_box(Grid { counts: n, cells }, masks, first, last).ok_or(Refusal::Stale)?;
     if bad_total(total, old, cells.len()) {
         return Err(Refusal::Stale);
     }
     fill_box(n, cells, lo, hi, byte);
-    let new = fill_brick_box(n, cells, masks, first, last);
+    let new = fill_brick_box(Grid { counts: n, cells }, masks, first, last);
     Ok(total - old + new)
 }
 
@@ -229,7 +227,7 @@ fn set_cell(
 {
     let b = brick_of(at);
     let k = bricks::index_in(bricks::bricks_of(n), b);
-    let mask = bricks::mask_of(n, cells, b.x, b.y, b.z);
+    let mask = bricks::mask_of(Grid { counts: n, cells }, b);
     if masks[k] != mask {
         return Err(Refusal::Stale);
     }

@@ -6,9 +6,11 @@ use Rattle.bricks.proofs.Totals.{ones_are_solids}
 use Rattle.bricks.proofs.Building.{shape_fine, masks_lent, filled_built}
 use Rattle.bricks.proofs.build.Goals as goal
 
+pub invariant_of-fill_all : goal.invariant_of-fill_all
+invariant_of-fill_all c = record { shaped = shape_fine _ _ _ (sym c.check_bricks.ensures ∙ c.in_ok-check_bricks.was) }
+
 pub fill_all-requires : goal.fill_all-requires
-fill_all-requires c =
-    let e = sym c.check_bricks.ensures ∙ c.in_ok-check_bricks.was in record { shaped = shape_fine _ _ _ e; room = masks_lent _ _ _ e }
+fill_all-requires c = masks_lent _ _ _ (sym c.check_bricks.ensures ∙ c.in_ok-check_bricks.was)
 
 pub returns : goal.returns
 returns c =

@@ -14,15 +14,15 @@ use Rattle.bricks.proofs.fill_masks.Goals as goal
 use Rattle.bricks.proofs.fill_masks.Goals.{After-index_in-from}
 
 -- the number of the first brick
-first : (c : After-index_in-from) → let a = c.args in c.index_in-from.result ≡ brick_number a.n a.at
+first : (c : After-index_in-from) → let a = c.args in c.index_in-from.result ≡ brick_number a.g.counts a.at
 first c = c.index_in-from.ensures ∙ rw c.bricks_of.ensures
 
 pub bricks_of-requires : goal.bricks_of-requires
-bricks_of-requires c = let s = shaped _ _ c.requires.shaped in record { x = s.x; y = s.y; z = s.z }
+bricks_of-requires c = let s = shaped _ _ c.args.g.shaped in record { x = s.x; y = s.y; z = s.z }
 
 pub index_in-from-requires-clause-small : goal.index_in-from-requires-clause-small
 index_in-from-requires-clause-small c =
-    let s = bricks_shaped c.args.n _ (shaped _ _ c.requires.shaped) in rw c.bricks_of.ensures (omega (arith, s.x.most, s.y.most, s.z.most))
+    let s = bricks_shaped c.args.g.counts _ (shaped _ _ c.args.g.shaped) in rw c.bricks_of.ensures (omega (arith, s.x.most, s.y.most, s.z.most))
 
 pub loop-d-init : goal.loop-d-init
 loop-d-init c = record { filled = filled_none _ _ _ _ (omega arith); value = sym (sum_none _); most = omega arith }
@@ -32,10 +32,10 @@ loop-d-preserved c =
     let a = c.args in
     let from = c.index_in-from.result in
     let e = first ((goal.at.loop-d-preserved c).After-index_in-from) in
-    let there = row_number_below a.n a.at a.long c.requires.row_of_bricks.0 from e c.loop-d.d (omega arith) in
-    let is = row_mask a.n a.at a.long c.requires.row_of_bricks.0 from e c.loop-d.d (omega arith) a.cells.now _ c.mask_of-mask.ensures in
+    let there = row_number_below a.g.counts a.at a.long c.requires.0 from e c.loop-d.d (omega arith) in
+    let is = row_mask a.g.counts a.at a.long c.requires.0 from e c.loop-d.d (omega arith) a.g.cells.now _ c.mask_of-mask.ensures in
     let done = c.loop-d.invariant in record {
       filled = filled_more _ from (from + c.loop-d.d) _ _ _ _ (omega arith) (omega arith) (omega arith) is done.filled;
-      value = sum_grows (λ i. ones (mask_at a.n a.cells.now (from + i))) c.loop-d.d _ _ done.value (c.ones-found.ensures.0 ∙ ap ones is);
+      value = sum_grows (λ i. ones (mask_at a.g.counts a.g.cells.now (from + i))) c.loop-d.d _ _ done.value (c.ones-found.ensures.0 ∙ ap ones is);
       most = omega arith;
     }

@@ -8,7 +8,7 @@ use Rattle.bricks.proofs.fill_masks.Given as goal
 
 abbrev pub invariant-loop-d : goal.invariant-loop-d
 invariant-loop-d l = record {
-  filled : Filled (mask_at l.n l.cells) l.from (l.from + l.d) l.initial.masks l.masks;
-  value : l.found ≡ sum (λ i. ones (mask_at l.n l.cells (l.from + i))) l.d;
+  filled : Filled (mask_at l.g.counts l.g.cells.now) l.from (l.from + l.d) l.initial.masks l.masks;
+  value : l.found ≡ sum (λ i. ones (mask_at l.g.counts l.g.cells.now (l.from + i))) l.d;
   most : l.found ≤ 64 * l.d;
 }

@@ -10,16 +10,16 @@ use Rattle.bricks.proofs.Rows.{whole_is, whole_fits}
 use Rattle.bricks.proofs.mask_of.Goals as goal
 
 pub is_whole-requires-clause-counted : goal.is_whole-requires-clause-counted
-is_whole-requires-clause-counted c = let s = shaped _ _ c.requires.shaped in record { x = s.x; y = s.y; z = s.z }
+is_whole-requires-clause-counted c = let s = shaped _ _ c.args.g.shaped in record { x = s.x; y = s.y; z = s.z }
 
 pub index_in-requires-clause-small : goal.index_in-requires-clause-small
-index_in-requires-clause-small c = let s = shaped _ _ c.requires.shaped in omega (arith, s.x.most, s.y.most, s.z.most)
+index_in-requires-clause-small c = let s = shaped _ _ c.args.g.shaped in omega (arith, s.x.most, s.y.most, s.z.most)
 
 pub whole_mask-requires : goal.whole_mask-requires
 whole_mask-requires c =
     let a = c.args in
     let h = c.is_whole.ensures c.if-is_whole.true in
-    let fits = whole_fits a.n _ a.bx a.by a.bz (shaped _ _ c.requires.shaped) h.0 h.1 h.2 in
+    let fits = whole_fits a.g.counts _ a.b.x a.b.y a.b.z (shaped _ _ c.args.g.shaped) h.0 h.1 h.2 in
     omega (arith, c.index_in.ensures)
 
 pub returns-then-is_whole : goal.returns-then-is_whole
@@ -28,5 +28,5 @@ returns-then-is_whole c =
     let a = c.args in
     let h = c.is_whole.ensures c.if-is_whole.true in
     c.whole_mask.ensures
-    ∙ ap (λ (from : ℕ). number_of (solid_from a.cells.now from a.n.nx (a.n.nx * a.n.ny)) 64) c.index_in.ensures
-    ∙ whole_is a.n a.cells.now a.bx a.by a.bz h.0 h.1 h.2
+    ∙ ap (λ (from : ℕ). number_of (solid_from a.g.cells.now from a.g.counts.nx (a.g.counts.nx * a.g.counts.ny)) 64) c.index_in.ensures
+    ∙ whole_is a.g.counts a.g.cells.now a.b.x a.b.y a.b.z h.0 h.1 h.2

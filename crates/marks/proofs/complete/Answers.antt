@@ -9,8 +9,7 @@ use Rattle.marks.proofs.complete.Goals as goal
 
 pub has_gap-requires : goal.has_gap-requires
 has_gap-requires c =
-    let fine = sym c.shape.ensures.says ∙ c.in_ok-shape.was in
-    (fine, framed_blank _ 1026 (omega (arith, (shaped _ _ fine).x.most)))
+    let fine = sym c.shape.ensures.says ∙ c.in_ok-shape.was in framed_blank _ 1026 (omega (arith, (shaped _ _ fine).x.most))
 
 pub returns : goal.returns
 unfolding completeness

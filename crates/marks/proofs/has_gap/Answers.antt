@@ -9,8 +9,8 @@ use Rattle.marks.proofs.has_gap.Goals as goal
 
 pub returns-then-gap_in_row : goal.returns-then-gap_in_row
 returns-then-gap_in_row c =
-    let fits = row_within _ _ _ (shaped _ _ c.requires.0) c.loop-r-test.true in
-    sym (some_gap c.args.n c.args.cells.now c.loop-r.r fits (sym c.gap_in_row.ensures.value ∙ c.if-gap_in_row.true))
+    let fits = row_within _ _ _ (shaped _ _ c.args.g.shaped) c.loop-r-test.true in
+    sym (some_gap c.args.g.counts c.args.g.cells.now c.loop-r.r fits (sym c.gap_in_row.ensures.value ∙ c.if-gap_in_row.true))
 
 pub loop-r-preserved : goal.loop-r-preserved
 loop-r-preserved c =
@@ -20,6 +20,6 @@ loop-r-preserved c =
 pub returns : goal.returns
 returns c =
     let a = c.args in
-    let e : c.loop-r.r ≡ a.n.ny * a.n.nz = omega arith in
-    let all = (shaped _ _ c.requires.0).by_rows in
+    let e : c.loop-r.r ≡ a.g.counts.ny * a.g.counts.nz = omega arith in
+    let all = (shaped _ _ c.args.g.shaped).by_rows in
     sym (any_none _ _ (rw (e, sym all) at c.loop-r.invariant.none))

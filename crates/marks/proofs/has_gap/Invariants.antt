@@ -6,6 +6,6 @@ use Rattle.marks.proofs.has_gap.Given as goal
 
 abbrev pub invariant-loop-r : goal.invariant-loop-r
 invariant-loop-r l = record {
-  none : (k : ℕ) → k < l.n.nx * l.r → gap l.n l.cells k ≡ false;
-  framed : Framed l.n.nx l.window;
+  none : (k : ℕ) → k < l.g.counts.nx * l.r → gap l.g.counts l.g.cells.now k ≡ false;
+  framed : Framed l.g.counts.nx l.window;
 }

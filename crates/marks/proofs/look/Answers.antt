@@ -14,31 +14,33 @@ use Rattle.marks.proofs.look.Goals as goal
 use Rattle.marks.proofs.look.Goals.{After-starts-layers}
 
 -- each of the three layers lies within the cells
-layers : (c : After-starts-layers) → let a = c.args in Within c.starts-layers.result (a.n.nx * a.n.ny) (length a.cells.now)
+layers : (c : After-starts-layers) → let a = c.args in Within c.starts-layers.result (a.g.counts.nx * a.g.counts.ny) (length a.g.cells.now)
 layers c =
     let a = c.args in
-    rw c.starts-layers.ensures (layers_within a.n a.cells.now (shaped _ _ c.requires.shaped) a.r c.requires.row_inside.0)
+    rw c.starts-layers.ensures (layers_within a.g.counts a.g.cells.now (shaped _ _ c.args.g.shaped) a.r c.requires.0)
 
 -- so its start and its rows do
 a_layer : (c : After-starts-layers) → let a = c.args in
-    (from : ℕ) → from + a.n.nx * a.n.ny ≤ length a.cells.now → (a.r % a.n.ny < a.n.ny) × (from + a.n.nx * a.n.ny < 2 ^ 64)
+    (from : ℕ) → from + a.g.counts.nx * a.g.counts.ny ≤ length a.g.cells.now →
+    (a.r % a.g.counts.ny < a.g.counts.ny) × (from + a.g.counts.nx * a.g.counts.ny < 2 ^ 64)
 a_layer c from h =
     let a = c.args in
-    let long : length a.cells.now < 2 ^ 64 = search rules in
-    (row_y a.n a.cells.now (shaped _ _ c.requires.shaped) a.r c.requires.row_inside.0, lt_of_le_of_lt h long)
+    let long : length a.g.cells.now < 2 ^ 64 = search rules in
+    (row_y a.g.counts a.g.cells.now (shaped _ _ c.args.g.shaped) a.r c.requires.0, lt_of_le_of_lt h long)
 
 its_rows : (c : After-starts-layers) → let a = c.args in
-    (rows : Three) (from : ℕ) → rows ≡ starts from a.n.nx (a.r % a.n.ny) a.n.ny → from + a.n.nx * a.n.ny ≤ length a.cells.now →
-    Within rows a.n.nx (length a.cells.now)
+    (rows : Three) (from : ℕ) → rows ≡ starts from a.g.counts.nx (a.r % a.g.counts.ny) a.g.counts.ny →
+    from + a.g.counts.nx * a.g.counts.ny ≤ length a.g.cells.now →
+    Within rows a.g.counts.nx (length a.g.cells.now)
 its_rows c rows from is h =
     let a = c.args in
-    rw is (rows_within a.n a.cells.now (shaped _ _ c.requires.shaped) a.r c.requires.row_inside.0 from h)
+    rw is (rows_within a.g.counts a.g.cells.now (shaped _ _ c.args.g.shaped) a.r c.requires.0 from h)
 
 pub starts-layers-requires : goal.starts-layers-requires
 starts-layers-requires c =
     let a = c.args in
-    let s = shaped _ _ c.requires.shaped in
-    (row_z a.n a.cells.now s a.r c.requires.row_inside.0, omega (arith, s.size_most))
+    let s = shaped _ _ c.args.g.shaped in
+    (row_z a.g.counts a.g.cells.now s a.r c.requires.0, omega (arith, s.size_most))
 
 pub starts-below-requires : goal.starts-below-requires
 starts-below-requires c = a_layer c _ (layers c).low_fits
@@ -67,7 +69,7 @@ pub returns : goal.returns
 returns c =
     let a = c.args in
     let told = c.starts-layers.ensures in
-    shows_as (column_is a.n a.cells.now (shaped _ _ c.requires.shaped) a.r c.requires.row_inside.0)
+    shows_as (column_is a.g.counts a.g.cells.now (shaped _ _ c.args.g.shaped) a.r c.requires.0)
     (shows_then _
     (shows_then _ (rw (c.starts-below.ensures, told) at c.set_rows.ensures)
     (rw (c.starts-here.ensures, told) at c.raise_rows.ensures))

@@ -10,6 +10,6 @@ use Rattle.refills.proofs.same_masks.Given as goal
 
 abbrev pub invariant-loop-d : goal.invariant-loop-d
 invariant-loop-d l = record {
-  right : any (λ i. differs l.n l.cells l.masks (l.from + i)) l.d ≡ false;
-  value : l.found ≡ sum (λ i. ones (mask_at l.n l.cells (l.from + i))) l.d;
+  right : any (λ i. differs l.g.counts l.g.cells.now l.masks (l.from + i)) l.d ≡ false;
+  value : l.found ≡ sum (λ i. ones (mask_at l.g.counts l.g.cells.now (l.from + i))) l.d;
 }
