@@ -15,13 +15,6 @@ use Rattle.runs.specs.Run.{by_sign, SmallTriple}
 
 -- ---- the long step
 
-pub by_sign_small : (e go stay : ℤ) → Small go → Small stay → Small (by_sign e go stay)
-by_sign_small e go stay g s = choose (le_z (pos 0) e)
-  where
-    choose : (t : Bool) → Small (cond t go stay)
-    choose true = g
-    choose false = s
-
 -- a number moved by a sign, as the machine holds it
 module _ (z go stay : ℤ) (hz : Small z) (hg : Small go) (hs : Small stay) where
   chosen_small : (t : Bool) (r : ℤ) → r ≡ cond t (held go) (held stay) → Small r
