@@ -15,26 +15,20 @@ use Rattle.runs.specs.Run.{by_sign, SmallTriple}
 
 -- ---- the long step
 
-pub by_sign_small : (e go stay : ℤ) → Small go → Small stay → Small (by_sign e go stay)
-by_sign_small e go stay g s = choose (le_z (pos 0) e)
-  where
-    choose : (t : Bool) → Small (cond t go stay)
-    choose true = g
-    choose false = s
+-- a number moved by a sign, as the machine holds it
+module _ (z go stay : ℤ) (hz : Small z) (hg : Small go) (hs : Small stay) where
+  chosen_small : (t : Bool) (r : ℤ) → r ≡ cond t (held go) (held stay) → Small r
+  chosen_small true r is = subst Small (sym (is ∙ small_held go hg)) hg
+  chosen_small false r is = subst Small (sym (is ∙ small_held stay hs)) hs
 
--- a number moved by the sign of e, as the machine holds it
-module _ (z e go stay : ℤ) (hz : Small z) (he : Small e) (hg : Small go) (hs : Small stay) (r : ℤ) (is : r ≡ by_sign (held e) (held go) (held stay)) where
-  chosen : r ≡ by_sign e go stay
-  chosen = is ∙ (λ i. by_sign (small_held e he i) (small_held go hg i) (small_held stay hs i))
+  -- whichever the sign is
+  pub move_fits : (t : Bool) (r : ℤ) → r ≡ cond t (held go) (held stay) → SFits w32 (held z +ℤ held r)
+  move_fits t r is = sum_fits z r hz (chosen_small t r is)
 
-  chosen_small : Small r
-  chosen_small = subst Small (sym chosen) (by_sign_small e go stay hg hs)
-
-  pub move_fits : SFits w32 (held z +ℤ held r)
-  move_fits = sum_fits z r hz chosen_small
-
-  pub move_held : held (held z +ℤ held r) ≡ z +ℤ by_sign e go stay
-  move_held = sum_held z r hz chosen_small ∙ ap (λ v. z +ℤ v) chosen
+  pub move_held : (e : ℤ) → Small e → (r : ℤ) → r ≡ by_sign (held e) (held go) (held stay) → held (held z +ℤ held r) ≡ z +ℤ by_sign e go stay
+  move_held e he r is =
+      sum_held z r hz (chosen_small (le_z (pos 0) (held e)) r is)
+      ∙ ap (λ v. z +ℤ v) (is ∙ (λ i. by_sign (small_held e he i) (small_held go hg i) (small_held stay hs i)))
 
 -- three numbers as the machine holds them
 abbrev pub held_triple : Triple → Triple

@@ -43,7 +43,7 @@ over_faces-requires c =
 pub overflow_sub-result : goal.overflow_sub-result
 overflow_sub-result c =
     let earlier = goal.at.overflow_sub-result c in
-    few earlier.After-to_cross-faces (ahead earlier.After-faces_ahead-ahead)
+    omega (arith, few earlier.After-to_cross-faces (ahead earlier.After-faces_ahead-ahead))
 
 pub returns : goal.returns
 returns c =
