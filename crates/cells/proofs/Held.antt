@@ -5,7 +5,7 @@ use native.Mathlib.Omega.{arith}
 use lib.Dec.{T}
 use lib.IntN.{ℤ, pos, nat_abs}
 use lib.Signed.{non_neg}
-use mir.Syntax.{w32, w64}
+use mir.Syntax.{w32}
 use mir.Val.{Fits}
 use Rattle.cells.proofs.Machine.{held, held_is, nat_fits}
 
@@ -18,6 +18,3 @@ abs_nat z i e h = ap nat_abs (held_nat z i e h ∙ sym e)
 
 pub cast_32 : (z : ℤ) (i : ℕ) → z ≡ pos i → i < 2 ^ 31 → T (non_neg (held z)) × Fits w32 (nat_abs (held z))
 cast_32 z i e h = subst (λ v. T (non_neg v) × Fits w32 (nat_abs v)) (sym (held_nat z i e h)) (tt, record { fits = omega arith })
-
-pub cast_64 : (z : ℤ) (i : ℕ) → z ≡ pos i → i < 2 ^ 31 → T (non_neg (held z)) × Fits w64 (nat_abs (held z))
-cast_64 z i e h = subst (λ v. T (non_neg v) × Fits w64 (nat_abs v)) (sym (held_nat z i e h)) (tt, record { fits = omega arith })

@@ -2,16 +2,15 @@
 -- fits and what is read back. Assumes nothing.
 use mathlib.Core.Path.{◌≡◌, sym, ap₂, ◌∙◌}
 use mathlib.Core.Bool.{Bool}
-use Prim.Native.Nat.{ℕ, ◌+◌, ◌^◌, ◌≤◌, ◌<◌}
+use Prim.Native.Nat.{ℕ, ◌^◌, ◌≤◌, ◌<◌}
 use native.Mathlib.Omega.{arith}
-use lib.Dec.{T}
-use lib.IntN.{ℤ, pos, negsuc, nat_abs, ◌+ℤ◌, ◌-ℤ◌}
-use lib.Signed.{lt_z, le_z, non_neg}
+use lib.IntN.{ℤ, pos, negsuc, ◌+ℤ◌, ◌-ℤ◌}
+use lib.Signed.{lt_z}
 use mir.Syntax.{w32}
-use mir.Val.{SFits, Fits, to_z, of_z}
+use mir.Val.{SFits, to_z, of_z}
 use mir.ValLaws.{to_z-of_z, to_z_pos}
 use Rattle.cells.specs.Small.{Small}
-use Rattle.cells.proofs.Signed.{up, dn, one_sided, sum_is, diff_is, abs_is}
+use Rattle.cells.proofs.Signed.{up, dn, one_sided, sum_is, diff_is}
 
 -- a number as it is read back
 abbrev pub held : ℤ → ℤ
@@ -76,22 +75,7 @@ module _ (a b : ℤ) (ha : Small a) (hb : Small b) where
   pub diff_held : held (held a -ℤ held b) ≡ a -ℤ b
   diff_held = ap₂ (λ u v. held (u -ℤ v)) (small_held a ha) (small_held b hb) ∙ held_is (a -ℤ b) small_diff
 
-  -- where b is at most a, the difference is cast to a natural number
-  pub diff_cast : up b + dn a ≤ up a + dn b → T (non_neg (held (held a -ℤ held b))) × Fits w32 (nat_abs (held (held a -ℤ held b)))
-  diff_cast h =
-      let s = diff_is a b in
-      let o = one_sided (a -ℤ b) in
-      let k = small_diff in
-      rw diff_held (non_negative (a -ℤ b) (omega arith), record { fits = omega (arith, abs_is (a -ℤ b), small_parts a ha, small_parts b hb) })
-    where
-      non_negative : (z : ℤ) → dn z ≡ 0 → T (non_neg z)
-      non_negative (pos m) h = tt
-      non_negative (negsuc m) h = absurd (omega arith)
-
 -- ---- tests on numbers as they are read back
 
 pub lt_held : (a b : ℤ) {t : Bool} → SFits w32 a → SFits w32 b → lt_z (held a) (held b) ≡ t → lt_z a b ≡ t
 lt_held a b f g h = sym (ap₂ lt_z (held_is a f) (held_is b g)) ∙ h
-
-pub le_held : (a b : ℤ) {t : Bool} → SFits w32 a → SFits w32 b → le_z (held a) (held b) ≡ t → le_z a b ≡ t
-le_held a b f g h = sym (ap₂ le_z (held_is a f) (held_is b g)) ∙ h

@@ -79,12 +79,18 @@ told_one = tells_apart told untold told_back
 
 -- and two answers, where what is answered is told from what is said of it
 module _ {A B : Type 0} (say : A → B) (unsay : B → A) (back : (a : A) → unsay (say a) ≡ a) where
-  told_of_back : (r : Result A Refusal) → untold_by Err (λ v. Ok (unsay v)) (told_of say r) ≡ some r
+  pub told_of_back : (r : Result A Refusal) → untold_by Err (λ v. Ok (unsay v)) (told_of say r) ≡ some r
   told_of_back (Err r) = ap (map Err) (told_back r)
   told_of_back (Ok a) = ap (λ a. some (Ok a)) (back a)
 
   pub told_of_one : (r s : Result A Refusal) → told_of say r ≡ told_of say s → r ≡ s
   told_of_one = tells_apart (told_of say) (untold_by Err (λ v. Ok (unsay v))) told_of_back
+
+abbrev untold_verdict : Told ⊎ Unit {0} → Option Verdict
+untold_verdict = untold_by Err (λ u. Ok u)
+
+pub told_verdict_back : (v : Verdict) → untold_verdict (told_verdict v) ≡ some v
+told_verdict_back = told_of_back (λ u. u) (λ u. u) (λ u. refl)
 
 pub told_verdict_one : (a b : Verdict) → told_verdict a ≡ told_verdict b → a ≡ b
 told_verdict_one = told_of_one (λ u. u) (λ u. u) (λ u. refl)

@@ -1,14 +1,14 @@
 -- What lies inside a grid: its coordinates and bytes, and that just the ends inside pass refusal 5. Assumes nothing.
 use Rattle.std.specs.Prelude.{Ok}
-use mathlib.Core.Path.{◌≡◌, refl, sym, ◌∙◌, subst}
-use mathlib.Core.Bool.{Bool, true, false}
+use mathlib.Core.Path.{◌≡◌, sym, ◌∙◌, subst}
+use mathlib.Core.Bool.{false}
 use Prim.Native.Nat.{ℕ, ◌^◌, ◌≤◌, ◌<◌}
 use native.Mathlib.Omega.{arith}
 use lib.Dec.{T}
-use lib.IntN.{ℤ, pos, negsuc, nat_abs, ◌-ℤ◌}
+use lib.IntN.{ℤ, pos, nat_abs}
 use lib.Signed.{lt_z, le_z, non_neg}
 use mir.Syntax.{w32}
-use mir.Val.{Fits, SFits}
+use mir.Val.{Fits}
 use Rattle.cells.specs.declared.Axis.{Axis}
 use Rattle.cells.specs.declared.Axis.TheVariants.{X, Y, Z}
 use Rattle.cells.specs.declared.End.{End}
@@ -19,29 +19,15 @@ use Rattle.cells.specs.declared.Refusal.TheVariants.{OffGrid}
 use Rattle.cells.specs.Checks.{refuse_when}
 use Rattle.cells.specs.Touching.{on}
 use Rattle.cells.proofs.Checks.{fine_first, fine_rest, passed}
-use Rattle.cells.proofs.Signed.{up, dn, same_number, one_sided, diff_is, abs_is, lt_z_false, le_z_true, le_z_false, le_lt_z, le_le_z, lt_le_z}
-use Rattle.cells.proofs.Machine.{held, fits32}
+use Rattle.cells.proofs.Signed.{up, dn, same_number, one_sided, abs_is, lt_z_false, le_z_false, le_lt_z, lt_le_z}
+use Rattle.cells.proofs.Machine.{held}
 use Rattle.cells.proofs.Held.{held_nat, cast_32}
 use Rattle.grids.specs.Grid.{shape, index, cell_at, byte_index}
-use Rattle.grids.specs.Inside.{count_on, off_axis, InGrid, grid_check, walk_check, Good, Shaped}
+use Rattle.grids.specs.Inside.{count_on, off_axis, InGrid, grid_check, walk_check, Shaped}
 use Rattle.grids.proofs.Any.{or_neither}
 use Rattle.grids.proofs.Places.{cell_at_index, index_below}
 
 -- ---- the test of a coordinate that is not below 0 by what is left of it without the count
-
-pub rest_fits : (v : ℤ) (count : ℕ) → SFits w32 v → T (non_neg v) → Good count → SFits w32 (v -ℤ pos count)
-rest_fits (pos k) count f h g =
-    let d = diff_is (pos k) (pos count) in
-    let o = one_sided (pos k -ℤ pos count) in
-    fits32 (pos k -ℤ pos count) (omega (arith, f.sfits)) (omega (arith, g.most))
-rest_fits (negsuc k) count f h g = absurd h
-
-pub rest_test : (v : ℤ) (count : ℕ) → le_z (pos 0) (v -ℤ pos count) ≡ le_z (pos count) v
-rest_test v count = go (le_z (pos count) v) refl
-  where
-    go : (t : Bool) → le_z (pos count) v ≡ t → le_z (pos 0) (v -ℤ pos count) ≡ t
-    go true e = let d = diff_is v (pos count) in le_le_z (pos 0) (v -ℤ pos count) (omega (arith, le_z_true (pos count) v e))
-    go false e = let d = diff_is v (pos count) in lt_le_z (pos 0) (v -ℤ pos count) (omega (arith, le_z_false (pos count) v e))
 
 -- ---- inside
 

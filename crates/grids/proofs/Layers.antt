@@ -7,11 +7,11 @@ use mathlib.Core.Path.{◌≡◌, refl, ap}
 use mathlib.Core.Bool.{false, true≢false}
 use mathlib.Core.Logic.{◌↔◌}
 use mathlib.Core.List.{List, []}
-use lib.Dec.{T, leb}
+use lib.Dec.{T}
 use lib.IntN.{ℤ, pos, negsuc, nat_abs}
 use lib.ListN.{length, get_or, drop, length-take, length-drop}
 use lib.Seq.{get_or-take, get_or-drop}
-use lib.Signed.{lt_z, le_z, non_neg}
+use lib.Signed.{lt_z, non_neg}
 use borrow.Author.Tests.{le-ltb, leb-false}
 use Rattle.cells.specs.declared.Counts.{Counts}
 use Rattle.cells.specs.declared.Refusal.{Refusal}
@@ -27,11 +27,6 @@ use Rattle.cells.proofs.Checks.{fine_first, fine_rest, passed, by_fine}
 pub not_below : (z : ℤ) → lt_z z (pos 0) ≡ false → T (non_neg z)
 not_below (pos k) h = tt
 not_below (negsuc k) h = absurd (true≢false h)
-
--- a z that is not below 0, against a count
-pub past_count : (m : ℕ) (z : ℤ) → T (non_neg z) → leb m (nat_abs z) ≡ le_z (pos m) z
-past_count m (pos k) h = refl
-past_count m (negsuc k) h = absurd h
 
 -- ---- a fine check
 

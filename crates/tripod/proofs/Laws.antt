@@ -5,13 +5,12 @@ use mathlib.Core.Logic.{◌↔◌, ◌≢◌}
 use mathlib.Core.Bool.{Bool, true, false}
 use Prim.Native.Nat.{ℕ, ◌+◌, ◌*◌, ◌≤◌, ◌<◌}
 use native.Mathlib.Omega.{arith}
-use lib.IntN.{ℤ, pos, negsuc, nat_abs, ◌+ℤ◌, ◌-ℤ◌}
+use lib.IntN.{ℤ, pos, negsuc, ◌+ℤ◌, ◌-ℤ◌}
 use lib.Signed.{le_z, lt_z, ◌≤ℤ◌}
 use Rattle.cells.specs.declared.Cell.{Cell}
-use Rattle.cells.specs.Touching.{apart}
 use Rattle.cells.specs.Small.{Small}
 use Rattle.cells.proofs.Touching.{and_both}
-use Rattle.cells.proofs.Signed.{up, dn, one_sided, diff_is, abs_is, le_z_true, le_le_z, lt_lt_z, le_lt_z, ≤ℤ_is}
+use Rattle.cells.proofs.Signed.{up, dn, one_sided, diff_is, le_z_true, le_le_z, lt_lt_z, le_lt_z, ≤ℤ_is}
 use mir.Syntax.{w32}
 use mir.Val.{SFits, to_z, of_z}
 use Rattle.cells.proofs.Machine.{parts_small, nat_small, nat_held, held, held_is, small_held, small_sum, small_diff}
@@ -40,9 +39,6 @@ limit_small z h =
     let l = limit_parts z h in
     let o = one_sided z in
     parts_small z (omega arith) (omega arith)
-
-pub apart_turned : (p q : ℤ) → nat_abs (p -ℤ q) ≡ apart p q
-apart_turned p q = omega (arith, abs_is (p -ℤ q), abs_is (q -ℤ p), diff_is p q, diff_is q p, one_sided (p -ℤ q), one_sided (q -ℤ p))
 
 pub short_at : (d : Diffs) → Short d → (n : Axis) → steps d n ≤ 16383
 short_at d h X = h.a
