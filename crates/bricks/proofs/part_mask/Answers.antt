@@ -11,16 +11,16 @@ use Rattle.bricks.proofs.part_mask.Goals as goal
 pub overflow_add-mask : goal.overflow_add-mask
 overflow_add-mask c =
     let a = c.args in
-    grown_fits (solid_in a.g.counts a.g.cells.now a.b.x a.b.y a.b.z) (4 * c.loop-r.r) 4 _ _ (omega arith) c.loop-r.invariant
-    (row_in_brick a.g.counts a.g.cells.now a.b.x a.b.y a.b.z c.loop-r.r c.row_bits.ensures)
+    grown_fits (solid_in a.g.counts a.g.cells.now a.bx a.by a.bz) (4 * c.loop-r.r) 4 _ _ (omega arith) c.loop-r.invariant
+    (row_in_brick a.g.counts a.g.cells.now a.bx a.by a.bz c.loop-r.r c.row_bits.ensures)
 
 pub loop-r-preserved : goal.loop-r-preserved
 loop-r-preserved c =
     let a = c.args in
-    let bits = solid_in a.g.counts a.g.cells.now a.b.x a.b.y a.b.z in
+    let bits = solid_in a.g.counts a.g.cells.now a.bx a.by a.bz in
     let next : 4 * c.loop-r.r + 4 ≡ 4 * (c.loop-r.r + 1) = omega arith in
     grown bits (4 * c.loop-r.r) 4 _ _ (omega arith) c.loop-r.invariant
-    (row_in_brick a.g.counts a.g.cells.now a.b.x a.b.y a.b.z c.loop-r.r c.row_bits.ensures)
+    (row_in_brick a.g.counts a.g.cells.now a.bx a.by a.bz c.loop-r.r c.row_bits.ensures)
     ∙ ap (number_of bits) next
 
 pub returns : goal.returns
@@ -28,4 +28,4 @@ unfolding mask_of
 returns c =
     let a = c.args in
     let all : 4 * c.loop-r.r ≡ 64 = omega arith in
-    c.loop-r.invariant ∙ ap (number_of (solid_in a.g.counts a.g.cells.now a.b.x a.b.y a.b.z)) all
+    c.loop-r.invariant ∙ ap (number_of (solid_in a.g.counts a.g.cells.now a.bx a.by a.bz)) all
