@@ -1,9 +1,10 @@
 // The program's lines as bytes, from a place of a lent slice on.
 #![tactic(auto)]
 
-ghost use Rattle.std.specs.Prelude.{◌≡◌, [], ◌∷◌, ◌++◌, ◌+◌, ◌≤◌, ◌<◌, length};
+ghost use Rattle.std.specs.Prelude.{◌≡◌, [], ◌∷◌, ◌++◌, ◌+◌, ◌≤◌, length};
 ghost use Rattle.texts.specs.Text.{decimal, signed_decimal, axis_letter, face_word, parted, ended, cell_fields};
 ghost use Rattle.texts.specs.Text.{line_room, hit_line, clear_line, pair_refused_line, venue_refused_line, Puts};
+ghost use Rattle.texts.specs.Writing.{HasRoom, Writes};
 
 use cells::{Axis, Cell, Face};
 
@@ -12,54 +13,6 @@ const SPACE: u8 = b' ';
 const LINE_FEED: u8 = b'\n';
 
 // ---- fields
-
-// A word and the byte that parts it from the next.
-fn put_word(out: &mut [u8], at: usize, word: &[u8], after: u8) -> usize
-    requires { at + length word.now < length out.old }
-    ensures { Puts (word.now ++ (after ∷ [])) at out.old result out.new }
-{
-    let next = at + word.len();
-    buffers::put(out, at, word);
-    buffers::put_byte(out, next, after);
-    next + 1
-}
-
-// A number and the byte that parts it from the next.
-fn put_number(out: &mut [u8], at: usize, n: u64, after: u8) -> usize
-    requires { at + 20 < length out.old }
-    ensures puts { Puts (decimal n ++ (after ∷ [])) at out.old result out.new }
-    ensures upper_bound { result ≤ at + 21 }
-{
-    let mut text = [0u8; 20];
-    let k = io::decimal(n, &mut text);
-    put_word(out, at, &text[..k], after)
-}
-
-// A number that may be below 0, and the byte that parts it from the next.
-fn put_signed(out: &mut [u8], at: usize, v: i32, after: u8) -> usize
-    requires { at + 21 < length out.old }
-    ensures puts { Puts (signed_decimal v ++ (after ∷ [])) at out.old result out.new }
-    ensures upper_bound { result ≤ at + 22 }
-{
-    let size = v.unsigned_abs() as u64;
-    if v < 0 {
-        buffers::put_byte(out, at, b'-');
-        put_number(out, at + 1, size, after)
-    } else {
-        put_number(out, at, size, after)
-    }
-}
-
-// The three numbers of a cell.
-fn put_cell(out: &mut [u8], at: usize, c: Cell) -> usize
-    requires { at + 65 < length out.old }
-    ensures puts { Puts (cell_fields c) at out.old result out.new }
-    ensures upper_bound { result ≤ at + 66 }
-{
-    let after_x = put_signed(out, at, c.x, SPACE);
-    let after_y = put_signed(out, after_x, c.y, SPACE);
-    put_signed(out, after_y, c.z, SPACE)
-}
 
 // The letter of an axis.
 fn axis_letter(n: Axis) -> u8
@@ -72,45 +25,93 @@ fn axis_letter(n: Axis) -> u8
     }
 }
 
-// The sign of a move and the letter of its axis, which end a line.
-fn put_move(out: &mut [u8], at: usize, sign: u8, n: Axis) -> usize
-    requires { at + 2 < length out.old }
-    ensures { Puts (ended (sign ∷ axis_letter n ∷ [])) at out.old result out.new }
-{
-    put_word(out, at, &[sign, axis_letter(n)], LINE_FEED)
+// Bytes that are lent, and the place up to which they are written.
+#[derive(Drop)]
+struct Pen<'a> {
+    out: &'a mut [u8],
+    at: usize,
 }
 
-// The entry face, which ends a line.
-fn put_face(out: &mut [u8], at: usize, f: Face) -> usize
-    requires { at + 2 < length out.old }
-    ensures puts { Puts (ended (face_word f)) at out.old result out.new }
-    ensures upper_bound { result ≤ at + 3 }
-{
-    match f {
-        Face::None => put_word(out, at, b"0", LINE_FEED),
-        Face::Plus(n) => put_move(out, at, b'+', n),
-        Face::Minus(n) => put_move(out, at, b'-', n),
+impl Pen<'_> {
+    // One byte.
+    fn byte(&mut self, b: u8)
+        requires { HasRoom 1 self.old }
+        ensures { Writes (b ∷ []) 1 self.old self.new }
+    {
+        buffers::put_byte(self.out, self.at, b);
+        self.at += 1;
     }
-}
 
-// What the line of a walk begins with: `K LETTER `.
-fn put_walk(out: &mut [u8], at: usize, k: u64, letter: u8) -> usize
-    requires { at + 22 < length out.old }
-    ensures puts { Puts (parted (decimal k) ++ parted (letter ∷ [])) at out.old result out.new }
-    ensures upper_bound { result ≤ at + 23 }
-{
-    let next = put_number(out, at, k, SPACE);
-    put_word(out, next, &[letter], SPACE)
-}
+    // A word and the byte that parts it from the next.
+    fn word(&mut self, word: &[u8], after: u8)
+        requires { HasRoom (length word.now + 1) self.old }
+        ensures { Writes (word.now ++ (after ∷ [])) (length word.now + 1) self.old self.new }
+    {
+        buffers::put(self.out, self.at, word);
+        self.at += word.len();
+        self.byte(after);
+    }
 
-// The last two fields of a line: a word, and the number that ends the line.
-fn put_last(out: &mut [u8], at: usize, word: &[u8], n: u32) -> usize
-    requires { at + length word.now + 21 < length out.old }
-    ensures puts { Puts (parted word.now ++ ended (decimal n)) at out.old result out.new }
-    ensures upper_bound { result ≤ at + length word.now + 22 }
-{
-    let next = put_word(out, at, word, SPACE);
-    put_number(out, next, n as u64, LINE_FEED)
+    // A number and the byte that parts it from the next.
+    fn number(&mut self, n: u64, after: u8)
+        requires { HasRoom 21 self.old }
+        ensures { Writes (decimal n ++ (after ∷ [])) 21 self.old self.new }
+    {
+        let mut text = [0u8; 20];
+        let k = io::decimal(n, &mut text);
+        self.word(&text[..k], after);
+    }
+
+    // A number that may be below 0, and the byte that parts it from the next.
+    fn signed(&mut self, v: i32, after: u8)
+        requires { HasRoom 22 self.old }
+        ensures { Writes (signed_decimal v ++ (after ∷ [])) 22 self.old self.new }
+    {
+        if v < 0 {
+            self.byte(b'-');
+        }
+        self.number(v.unsigned_abs() as u64, after);
+    }
+
+    // The three numbers of a cell.
+    fn cell(&mut self, c: Cell)
+        requires { HasRoom 66 self.old }
+        ensures { Writes (cell_fields c) 66 self.old self.new }
+    {
+        self.signed(c.x, SPACE);
+        self.signed(c.y, SPACE);
+        self.signed(c.z, SPACE);
+    }
+
+    // The entry face, which ends a line: `0`, or the sign of a move and the letter of its axis.
+    fn face(&mut self, f: Face)
+        requires { HasRoom 3 self.old }
+        ensures { Writes (ended (face_word f)) 3 self.old self.new }
+    {
+        match f {
+            Face::None => self.word(b"0", LINE_FEED),
+            Face::Plus(n) => self.word(&[b'+', axis_letter(n)], LINE_FEED),
+            Face::Minus(n) => self.word(&[b'-', axis_letter(n)], LINE_FEED),
+        }
+    }
+
+    // What the line of a walk begins with: `K LETTER `.
+    fn walk(&mut self, k: u64, letter: u8)
+        requires { HasRoom 23 self.old }
+        ensures { Writes (parted (decimal k) ++ parted (letter ∷ [])) 23 self.old self.new }
+    {
+        self.number(k, SPACE);
+        self.word(&[letter], SPACE);
+    }
+
+    // The last two fields of a line: a word, and the number that ends the line.
+    fn last(&mut self, word: &[u8], n: u32)
+        requires { HasRoom (length word.now + 22) self.old }
+        ensures { Writes (parted word.now ++ ended (decimal n)) (length word.now + 22) self.old self.new }
+    {
+        self.word(word, SPACE);
+        self.number(n as u64, LINE_FEED);
+    }
 }
 
 // ---- lines
@@ -130,12 +131,14 @@ pub fn put_hit(
     ensures puts { Puts (hit_line k letter c code reads face) at out.old result out.new }
     ensures upper_bound { result ≤ at + 138 }
 {
-    let said = put_walk(out, at, k, letter);
-    let hit = put_word(out, said, b"hit", SPACE);
-    let cell = put_cell(out, hit, c);
-    let coded = put_number(out, cell, code as u64, SPACE);
-    let counted = put_number(out, coded, reads as u64, SPACE);
-    put_face(out, counted, face)
+    let mut pen = Pen { out, at };
+    pen.walk(k, letter);
+    pen.word(b"hit", SPACE);
+    pen.cell(c);
+    pen.number(code as u64, SPACE);
+    pen.number(reads as u64, SPACE);
+    pen.face(face);
+    pen.at
 }
 
 // `K LETTER clear reads`.
@@ -144,8 +147,10 @@ pub fn put_clear(out: &mut [u8], at: usize, k: u64, letter: u8, reads: u32) -> u
     ensures puts { Puts (clear_line k letter reads) at out.old result out.new }
     ensures upper_bound { result ≤ at + 50 }
 {
-    let said = put_walk(out, at, k, letter);
-    put_last(out, said, b"clear", reads)
+    let mut pen = Pen { out, at };
+    pen.walk(k, letter);
+    pen.last(b"clear", reads);
+    pen.at
 }
 
 // `K refused N`.
@@ -153,8 +158,10 @@ pub fn put_pair_refused(out: &mut [u8], at: usize, k: u64, number: u32) -> usize
     requires { at + line_room ≤ length out.old }
     ensures { Puts (pair_refused_line k number) at out.old result out.new }
 {
-    let counted = put_number(out, at, k, SPACE);
-    put_last(out, counted, b"refused", number)
+    let mut pen = Pen { out, at };
+    pen.number(k, SPACE);
+    pen.last(b"refused", number);
+    pen.at
 }
 
 // `G refused N`.
@@ -162,6 +169,8 @@ pub fn put_venue_refused(out: &mut [u8], at: usize, number: u32) -> usize
     requires { at + line_room ≤ length out.old }
     ensures { Puts (venue_refused_line number) at out.old result out.new }
 {
-    let said = put_word(out, at, b"G", SPACE);
-    put_last(out, said, b"refused", number)
+    let mut pen = Pen { out, at };
+    pen.word(b"G", SPACE);
+    pen.last(b"refused", number);
+    pen.at
 }
