@@ -7,7 +7,7 @@ ghost use Rattle.lines.specs.Steps.{at};
 ghost use Rattle.lines.specs.Lines.{differences};
 ghost use Rattle.tripod.specs.Tripod.{steps, Short, SmallTripod};
 ghost use Rattle.grids.specs.Inside.{Enclosed};
-ghost use Rattle.routes.specs.Route.{stride, strides, RouteOf, SpotAt, HasByte, byte_there, byte_of_spot, crossed_spot, raised_spot, lowered_spot, CanCross};
+ghost use Rattle.routes.specs.Route.{Planned, stride, strides, RouteOf, SpotAt, HasByte, byte_there, byte_of_spot, crossed_spot, raised_spot, lowered_spot, CanCross};
 
 use cells::{Axis, Cell, Counts, Each, Rule};
 use lines::{Doubled, Order, Tripod};
@@ -24,6 +24,14 @@ pub struct Route {
     // how far the place of a byte moves with a cell towards Q
     pub strides: Each<i32>,
     pub twice: Doubled,
+}
+
+// A route with the bytes of the grid that it leads through.
+#[derive(Clone, Copy)]
+pub struct Lane<'a> {
+    pub cells: &'a [u8],
+    pub route: Route,
+    ghost planned: { Planned (length cells.now) route },
 }
 
 // A place of a walk: where its byte is, and its decision values.

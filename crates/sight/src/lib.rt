@@ -11,6 +11,7 @@ ghost use Rattle.survey.specs.Survey.{PlacedGrid, placement_check};
 ghost use Rattle.sight.specs.Sight.{share_of, sight_of, looked, Sees};
 
 use cells::{Cell, Counts, End, Face, Manner, Refusal};
+use routes::Lane;
 use survey::{Placement, Point};
 use walks::FirstHit;
 
@@ -61,9 +62,12 @@ fn walked(n: Counts, cells: &[u8], p: Cell, q: Cell, how: Manner) -> FirstHit
     requires { walk_check n (length cells.now) p q ≡ Ok tt }
     ensures { Finds Adaptive how n cells.now p q (Ok result) }
 {
-    let k = routes::route_of(n, p, q, how.rule);
-    let stop = hits::walk_adaptive(cells, k, routes::first_spot(k), how);
-    hits::answer_of(cells, k, stop, how)
+    let lane = Lane {
+        cells,
+        route: routes::route_of(n, p, q, how.rule),
+    };
+    let stop = hits::walk_adaptive(lane, routes::first_spot(lane.route), how);
+    hits::answer_of(lane, stop, how)
 }
 
 // Where shape and placement passed their tests: the camera's refusal first, then the ball's.

@@ -5,7 +5,7 @@ ghost use Rattle.lines.specs.Steps.{at};
 ghost use Rattle.lines.specs.declared.Order.TheVariants.{Yzx};
 ghost use Rattle.cells.specs.Manners.{is_tested};
 ghost use Rattle.grids.specs.Grid.{solid};
-ghost use Rattle.routes.specs.Route.{Planned, SpotAt, HasByte, byte_of_spot, crossed_spot};
+ghost use Rattle.routes.specs.Route.{SpotAt, HasByte, byte_of_spot, crossed_spot};
 ghost use Rattle.touching.specs.Touching.{FindsTouching};
 ghost use Rattle.touching.specs.Passing.{of_tie};
 ghost use Rattle.touching.specs.Looking.{looked, CanLook, CanLookTie, CanTurn, Turned, told_from, found_along, WalksTies, StopsTouching};
@@ -13,7 +13,7 @@ ghost use Rattle.touching.specs.Looking.{looked, CanLook, CanLookTie, CanTurn, T
 use cells::{Axis, Cell, Counts, Manner, Refusal, Rule, Start};
 use hits::{Stop, Turn};
 use lines::{Order, Tie, Tripod};
-use routes::{Route, Spot};
+use routes::{Lane, Route, Spot};
 use walks::FirstHit;
 
 // A turn of the walk, over the cells of a tie, with how many faces the tie has.
@@ -52,54 +52,56 @@ fn look_three(cells: &[u8], a: Spot, b: Spot, c: Spot, reads: u32) -> Turn
 }
 
 // The cells of a tie of two axes: by the first step, by the second, by both.
-fn look_two(cells: &[u8], k: Route, s: Spot, a: Axis, b: Axis, reads: u32) -> Turn
-    requires { CanLookTie (length cells.now) k s reads (Two a b) }
-    ensures { result ≡ looked cells.now reads s (of_tie (crossed_spot k) (Two a b) s) }
+fn look_two(lane: Lane, s: Spot, a: Axis, b: Axis, reads: u32) -> Turn
+    requires { CanLookTie (length lane.cells.now) lane.route s reads (Two a b) }
+    ensures { result ≡ looked lane.entry.cells.now reads s (of_tie (crossed_spot lane.entry.route) (Two a b) s) }
 {
+    let k = lane.route;
     let first = routes::crossed(s, k, a);
     let second = routes::crossed(s, k, b);
     let both = routes::crossed(first, k, b);
-    look_three(cells, first, second, both, reads)
+    look_three(lane.cells, first, second, both, reads)
 }
 
 // The cells of a tie of three: by one step, y, z, x; by two, yz, yx, zx; by all.
-fn look_all(cells: &[u8], k: Route, s: Spot, reads: u32) -> Turn
-    requires { CanLookTie (length cells.now) k s reads Three }
-    ensures { result ≡ looked cells.now reads s (of_tie (crossed_spot k) Three s) }
+fn look_all(lane: Lane, s: Spot, reads: u32) -> Turn
+    requires { CanLookTie (length lane.cells.now) lane.route s reads Three }
+    ensures { result ≡ looked lane.entry.cells.now reads s (of_tie (crossed_spot lane.entry.route) Three s) }
 {
+    let k = lane.route;
     let y = routes::crossed(s, k, Axis::Y);
     let z = routes::crossed(s, k, Axis::Z);
     let x = routes::crossed(s, k, Axis::X);
-    let ones = look_three(cells, y, z, x, reads);
+    let ones = look_three(lane.cells, y, z, x, reads);
     if ones.hit {
         return ones;
     }
     let yz = routes::crossed(y, k, Axis::Z);
     let yx = routes::crossed(y, k, Axis::X);
     let zx = routes::crossed(z, k, Axis::X);
-    let twos = look_three(cells, yz, yx, zx, reads + 3);
+    let twos = look_three(lane.cells, yz, yx, zx, reads + 3);
     if twos.hit {
         return twos;
     }
-    look(cells, routes::crossed(yz, k, Axis::X), reads + 6)
+    look(lane.cells, routes::crossed(yz, k, Axis::X), reads + 6)
 }
 
 // The cells of the next tie.
-fn tie_turn(cells: &[u8], k: Route, s: Spot, reads: u32) -> TieTurn
-    requires { CanTurn (length cells.now) k s reads }
-    ensures { Turned cells.now k s reads result }
+fn tie_turn(lane: Lane, s: Spot, reads: u32) -> TieTurn
+    requires { CanTurn (length lane.cells.now) lane.route s reads }
+    ensures { Turned lane.entry.cells.now lane.entry.route s reads result }
 {
     match tripod::next_tie(s.e) {
         Tie::One(n) => TieTurn {
-            turn: look(cells, routes::crossed(s, k, n), reads),
+            turn: look(lane.cells, routes::crossed(s, lane.route, n), reads),
             faces: 1,
         },
         Tie::Two(a, b) => TieTurn {
-            turn: look_two(cells, k, s, a, b, reads),
+            turn: look_two(lane, s, a, b, reads),
             faces: 2,
         },
         Tie::Three => TieTurn {
-            turn: look_all(cells, k, s, reads),
+            turn: look_all(lane, s, reads),
             faces: 3,
         },
     }
@@ -107,20 +109,20 @@ fn tie_turn(cells: &[u8], k: Route, s: Spot, reads: u32) -> TieTurn
 
 // From P, which is passed, from tie to tie: to the first solid cell, or to Q. A tie of one axis, the most frequent, is passed here: then the cells read grow
 // with the faces, and one number counts both; `more` is how many more they are. A turn passes one, two or three faces.
-fn walk_ties(cells: &[u8], k: Route, start: Spot) -> Turn
-    requires { Planned (length cells.now) k × (k.order ≡ Yzx) × SpotAt k (at 0 0 0) start }
-    ensures { WalksTies cells.now k result }
+fn walk_ties(lane: Lane, start: Spot) -> Turn
+    requires { (lane.route.order ≡ Yzx) × SpotAt lane.route (at 0 0 0) start }
+    ensures { WalksTies lane.entry.cells.now lane.entry.route result }
 {
-    let faces = k.d.total();
+    let faces = lane.route.d.total();
     let mut s = start;
     let mut more = 1;
     let mut m = 0;
     while m < faces {
         match tripod::next_tie(s.e) {
             Tie::One(n) => {
-                s = routes::crossed(s, k, n);
+                s = routes::crossed(s, lane.route, n);
                 m += 1;
-                if hits::is_solid(routes::byte_at(cells, s)) {
+                if hits::is_solid(routes::byte_at(lane.cells, s)) {
                     return Turn {
                         spot: s,
                         reads: m + more,
@@ -129,7 +131,7 @@ fn walk_ties(cells: &[u8], k: Route, start: Spot) -> Turn
                 }
             }
             _ => {
-                let t = tie_turn(cells, k, s, m + more);
+                let t = tie_turn(lane, s, m + more);
                 s = t.turn.spot;
                 m += t.faces;
                 if t.turn.hit {
@@ -155,18 +157,18 @@ fn starts_solid(cells: &[u8], s: Spot, how: Manner) -> bool
 }
 
 // The walk: P, where it is tested, then the ties.
-fn walk_touching(cells: &[u8], k: Route, start: Spot, how: Manner) -> Turn
-    requires { Planned (length cells.now) k × (k.order ≡ Yzx) × SpotAt k (at 0 0 0) start }
-    ensures { StopsTouching how.start cells.now k result }
+fn walk_touching(lane: Lane, start: Spot, how: Manner) -> Turn
+    requires { (lane.route.order ≡ Yzx) × SpotAt lane.route (at 0 0 0) start }
+    ensures { StopsTouching how.start lane.entry.cells.now lane.entry.route result }
 {
-    if starts_solid(cells, start, how) {
+    if starts_solid(lane.cells, start, how) {
         return Turn {
             spot: start,
             reads: 1,
             hit: true,
         };
     }
-    walk_ties(cells, k, start)
+    walk_ties(lane, start)
 }
 
 // The route by which a hit's place is told: of crossings at one fraction the last in the order x, z, y is the first in the order y, z, x.
@@ -181,12 +183,15 @@ fn told_from(k: Route) -> Route
 
 // What the walk finds along a route. The other route is made first: what it holds then need not be at hand while the walk goes on. The answer does not
 // ask for the decision values where the walk stopped: without them none are worked out for a cell of a tie that is left there.
-fn touching_answer(cells: &[u8], k: Route, how: Manner) -> FirstHit
-    requires { Planned (length cells.now) k × (k.order ≡ Yzx) }
-    ensures { result ≡ found_along how.start cells.now k }
+fn touching_answer(lane: Lane, how: Manner) -> FirstHit
+    requires { lane.route.order ≡ Yzx }
+    ensures { result ≡ found_along how.start lane.entry.cells.now lane.entry.route }
 {
-    let told = told_from(k);
-    let t = walk_touching(cells, k, routes::first_spot(k), how);
+    let told = Lane {
+        cells: lane.cells,
+        route: told_from(lane.route),
+    };
+    let t = walk_touching(lane, routes::first_spot(lane.route), how);
     if t.hit {
         let none = Tripod {
             xy: 0,
@@ -201,7 +206,7 @@ fn touching_answer(cells: &[u8], k: Route, how: Manner) -> FirstHit
             spot: there,
             reads: t.reads,
         };
-        return hits::answer_of(cells, told, stop, how);
+        return hits::answer_of(told, stop, how);
     }
     FirstHit::Clear(t.reads)
 }
@@ -222,5 +227,9 @@ pub fn first_touching(
         rule: Rule::One,
     };
     grids::check_walk(n, cells.len(), p, q)?;
-    Ok(touching_answer(cells, routes::route_of(n, p, q, Rule::One), how))
+    let lane = Lane {
+        cells,
+        route: routes::route_of(n, p, q, Rule::One),
+    };
+    Ok(touching_answer(lane, how))
 }

@@ -5,10 +5,8 @@ use Prim.Native.Nat.{ℕ, zero, suc, ◌+◌, ◌≤◌, ◌<◌}
 use native.Mathlib.Omega.{arith}
 use native.Mathlib.Numerals.{add-one}
 use lib.ListN.{length}
-use Rattle.cells.specs.declared.Cell.{Cell}
 use Rattle.cells.specs.declared.Start.{Start}
 use Rattle.walks.specs.declared.Walker.TheVariants.{Adaptive}
-use Rattle.walks.specs.Walks.{walk_of}
 use Rattle.walks.specs.Numbers.{visits, stands, Rises, last_number, reads_of}
 use Rattle.walks.proofs.Numbers.{go_rises, walk_cells, walk_length}
 use Rattle.walks.proofs.Progress.{stands_next, stands_below}
@@ -16,7 +14,7 @@ use Rattle.walks.proofs.Story.{reads_most}
 use Rattle.routes.specs.declared.Route.{Route}
 use Rattle.routes.specs.Route.{preference}
 use Rattle.hits.specs.Found.{conduct_of, hits, going}
-use Rattle.trails.specs.Standing.{stand, stand_cells, CanList}
+use Rattle.trails.specs.Standing.{stand, stand_cells, walked, CanList}
 
 module _ (l : List ℕ) (k : Route) where
   abbrev N : ℕ
@@ -45,9 +43,6 @@ module _ (l : List ℕ) (k : Route) where
     abbrev reads : ℕ
     reads = reads_of (conduct_of from k) k.n l k.p k.q Adaptive
 
-    abbrev walked : List Cell
-    walked = walk_of Adaptive (conduct_of from k) k.n l k.p k.q
-
     pub can_list : CanList l k reads
     can_list =
         record {
@@ -57,8 +52,8 @@ module _ (l : List ℕ) (k : Route) where
         }
 
     -- the walk's cells, as many as its reads
-    pub walked_is : walked ≡ stand_cells l k reads
+    pub walked_is : walked l k from ≡ stand_cells l k reads
     walked_is = walk_cells (conduct_of from k) k.n l k.p k.q Adaptive
 
-    pub walked_long : length walked ≡ reads
+    pub walked_long : length (walked l k from) ≡ reads
     walked_long = walk_length (conduct_of from k) k.n l k.p k.q Adaptive

@@ -3,17 +3,19 @@
 use Rattle.std.specs.Prelude.{ℕ, ◌+◌, ◌≤◌, ◌<◌, ◌≡◌, cond, ◌&&◌, List, eqb}
 use Rattle.cells.specs.declared.Axis.{Axis}
 use Rattle.cells.specs.declared.Cell.{Cell}
+use Rattle.cells.specs.declared.Start.{Start}
 use Rattle.cells.specs.Tabulate.{tabulate}
 use Rattle.lines.specs.Crossings.{place}
 use Rattle.lines.specs.Lines.{differences, longest, six_cell, number_26}
 use Rattle.tripod.specs.Tripod.{steps}
 use Rattle.grids.specs.Grid.{clear}
 use Rattle.walks.specs.declared.Walker.TheVariants.{Adaptive}
+use Rattle.walks.specs.Walks.{walk_of}
 use Rattle.walks.specs.Numbers.{stands, last_number}
 use Rattle.routes.specs.declared.Route.{Route}
 use Rattle.routes.specs.declared.Spot.{Spot}
 use Rattle.routes.specs.Route.{preference, course, SpotAt, Planned, byte_of_spot}
-use Rattle.hits.specs.Found.{going}
+use Rattle.hits.specs.Found.{conduct_of, going}
 use Rattle.trails.specs.declared.Stand.{Stand}
 
 -- ---- the numbers on which it stands
@@ -26,6 +28,10 @@ module _ (l : List ℕ) (k : Route) where
   -- the first of its cells
   abbrev pub stand_cells : ℕ → List Cell
   stand_cells count = tabulate (λ m. six_cell (preference k) k.p k.q (stand m)) count
+
+  -- the cells of the walk, from such a start
+  abbrev pub walked : Start → List Cell
+  walked from = walk_of Adaptive (conduct_of from k) k.n l k.p k.q
 
   -- so many cells may be listed: before the last of them the walk is not at Q
   pub record CanList (count : ℕ) : Type 0 where

@@ -3,16 +3,13 @@
 #![tactic(auto)]
 
 ghost use Rattle.std.specs.Prelude.{◌≡◌, ◌*◌, ◌≤◌, length};
-ghost use Rattle.walks.specs.declared.Walker.TheVariants.{Adaptive};
-ghost use Rattle.walks.specs.Walks.{walk_of};
-ghost use Rattle.routes.specs.Route.{Planned, HasByte};
-ghost use Rattle.hits.specs.Found.{conduct_of};
+ghost use Rattle.routes.specs.Route.{HasByte};
 ghost use Rattle.lists.specs.Lists.{filled, Lists};
 ghost use Rattle.trails.specs.Trails.{AdaptiveCells};
-ghost use Rattle.trails.specs.Standing.{stand_cells, CanList, CanPass, Passed, CellOf, CanStep, StepsSomewhere, FacesAhead, to_cross, Stepped};
+ghost use Rattle.trails.specs.Standing.{stand_cells, walked, CanList, CanPass, Passed, CellOf, CanStep, StepsSomewhere, FacesAhead, to_cross, Stepped};
 
 use cells::{Axis, Cell, Counts, Manner, Refusal};
-use routes::{Route, Spot};
+use routes::{Lane, Route, Spot};
 
 // Where the walk stands, and how many faces lead to the next cell of the 26-line; none where it stands on one.
 #[derive(Clone, Copy)]
@@ -58,14 +55,14 @@ fn to_cross(cells: &[u8], t: Stand, ahead: u32) -> u32
 }
 
 // Where the walk stands next.
-fn next_stand(cells: &[u8], k: Route, long: Axis, t: Stand) -> Stand
-    requires { CanStep (length cells.now) k long t }
-    ensures { Stepped cells.now k t result }
+fn next_stand(lane: Lane, long: Axis, t: Stand) -> Stand
+    requires { CanStep (length lane.cells.now) lane.route long t }
+    ensures { Stepped lane.entry.cells.now lane.entry.route t result }
 {
-    let ahead = faces_ahead(k, long, t);
-    let faces = to_cross(cells, t, ahead);
+    let ahead = faces_ahead(lane.route, long, t);
+    let faces = to_cross(lane.cells, t, ahead);
     Stand {
-        spot: over_faces(k, t.spot, faces),
+        spot: over_faces(lane.route, t.spot, faces),
         left: ahead - faces,
     }
 }
@@ -79,33 +76,32 @@ fn spot_cell(k: Route, s: Spot) -> Cell
 }
 
 // So many cells of the trail, at the front of the slice.
-fn fill(cells: &[u8], k: Route, count: u32, out: &mut [i32])
-    requires { Planned (length cells.now) k × CanList cells.now k count × (3 * count ≤ length out.old) }
-    ensures { out.new ≡ filled (stand_cells cells.now k count) out.old }
+fn fill(lane: Lane, count: u32, out: &mut [i32])
+    requires { CanList lane.cells.now lane.route count × (3 * count ≤ length out.old) }
+    ensures { out.new ≡ filled (stand_cells lane.entry.cells.now lane.entry.route count) out.old }
 {
-    let long = k.d.longest_axis();
+    let long = lane.route.d.longest_axis();
     let last = count - 1;
     let mut t = Stand {
-        spot: routes::first_spot(k),
+        spot: routes::first_spot(lane.route),
         left: 0,
     };
     for m in 0..last {
-        lists::put(out, 3 * (m as usize), spot_cell(k, t.spot));
-        t = next_stand(cells, k, long, t);
+        lists::put(out, 3 * (m as usize), spot_cell(lane.route, t.spot));
+        t = next_stand(lane, long, t);
     }
-    lists::put(out, 3 * (last as usize), spot_cell(k, t.spot));
+    lists::put(out, 3 * (last as usize), spot_cell(lane.route, t.spot));
 }
 
 // The trail along a route: counted first, then listed.
-fn list_along(cells: &[u8], k: Route, how: Manner, out: &mut [i32]) -> Result<u32, Refusal>
-    requires { Planned (length cells.now) k }
-    ensures { Lists (walk_of Adaptive (conduct_of how.start k) k.n cells.now k.p k.q) (Ok tt) out.old result out.new }
+fn list_along(lane: Lane, how: Manner, out: &mut [i32]) -> Result<u32, Refusal>
+    ensures { Lists (walked lane.entry.cells.now lane.entry.route how.start) (Ok tt) out.old result out.new }
 {
-    let count = hits::walk_adaptive(cells, k, routes::first_spot(k), how).reads;
+    let count = hits::walk_adaptive(lane, routes::first_spot(lane.route), how).reads;
     if out.len() < 3 * (count as usize) {
         return Err(Refusal::Room);
     }
-    fill(cells, k, count, out);
+    fill(lane, count, out);
     Ok(count)
 }
 
@@ -121,5 +117,9 @@ pub fn adaptive_cells(
     ensures { AdaptiveCells how n cells.now p q out.old result out.new }
 {
     grids::check_walk(n, cells.len(), p, q)?;
-    list_along(cells, routes::route_of(n, p, q, how.rule), how, out)
+    let lane = Lane {
+        cells,
+        route: routes::route_of(n, p, q, how.rule),
+    };
+    list_along(lane, how, out)
 }

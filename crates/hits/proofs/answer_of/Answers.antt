@@ -27,21 +27,21 @@ use Rattle.hits.proofs.answer_of.Goals.{After-cell_at-cell, After-is_passed, Aft
 at_is : (l : ℕ) (at : ℤ) → HasByte l at → nat_abs (held at) ≡ nat_abs at
 at_is l at h = abs_nat _ h.index h.is (omega arith)
 
-has_byte : (c : Start) → nat_abs c.args.r.spot.at < length c.args.cells.now
-has_byte c = let h = c.requires.1 in rw h.is h.below
+has_byte : (c : Start) → nat_abs c.args.r.spot.at < length c.args.lane.cells.now
+has_byte c = let h = c.requires in rw h.is h.below
 
 below : (c : Start) → nat_abs (held c.args.r.spot.at) < 1073741824
-below c = rw (at_is _ _ c.requires.1) (lt_of_lt_of_le (has_byte c) c.requires.1.few)
+below c = rw (at_is _ _ c.requires) (lt_of_lt_of_le (has_byte c) c.requires.few)
 
 -- what the test of the byte answered
 solid_is : (c : After-is_solid) → solid
-    (byte_of_spot c.args.cells.now c.args.r.spot) ≡ c.is_solid.result
+    (byte_of_spot c.args.lane.cells.now c.args.r.spot) ≡ c.is_solid.result
 solid_is c = sym (c.is_solid.ensures ∙ ap solid c.byte_at-code.ensures)
 
 -- the cell
 cell_is : (c : After-cell_at-cell) → c.cell_at-cell.result ≡ cell_at
-    c.args.k.n (nat_abs c.args.r.spot.at)
-cell_is c = c.cell_at-cell.ensures ∙ ap (cell_at c.args.k.n) (at_is _ _ c.requires.1)
+    c.args.lane.route.n (nat_abs c.args.r.spot.at)
+cell_is c = c.cell_at-cell.ensures ∙ ap (cell_at c.args.lane.route.n) (at_is _ _ c.requires)
 
 pub returns-then-not-is_solid : goal.returns-then-not-is_solid
 unfolding answer_from
@@ -50,17 +50,24 @@ returns-then-not-is_solid c = rw (solid_is ((goal.at.returns-then-not-is_solid c
 pub measured-made-requires : goal.measured-made-requires
 measured-made-requires c =
     let earlier = goal.at.measured-made-requires c in
-    (p_limit _ _ c.requires.0, rw (cell_is earlier.After-cell_at-cell) (byte_limit c.args.k.n _ c.requires.0.shaped (nat_abs c.args.r.spot.at) (has_byte earlier.Start)))
+    let lane = c.args.lane in (
+      p_limit _ _ lane.planned,
+      rw (cell_is earlier.After-cell_at-cell)
+          (byte_limit lane.route.n _ lane.planned.shaped (nat_abs c.args.r.spot.at) (has_byte earlier.Start)),
+    )
 
 -- the steps from P to it
-made_is : (c : After-measured-made) → c.cell_at-cell.result ≡ cell_at c.args.k.n (nat_abs c.args.r.spot.at) →
-    steps c.measured-made.result ≡ differences c.args.k.p (cell_at c.args.k.n (nat_abs c.args.r.spot.at))
-made_is c cell = c.measured-made.ensures.0 ∙ ap (differences c.args.k.p) cell
+made_is : (c : After-measured-made) →
+    let k = c.args.lane.route in
+    c.cell_at-cell.result ≡ cell_at k.n (nat_abs c.args.r.spot.at) →
+    steps c.measured-made.result ≡ differences k.p (cell_at k.n (nat_abs c.args.r.spot.at))
+made_is c cell = c.measured-made.ensures.0 ∙ ap (differences c.args.lane.route.p) cell
 
 -- what the test of P answered
 passed_is : (c : After-is_passed) →
-    steps c.measured-made.result ≡ differences c.args.k.p (cell_at c.args.k.n (nat_abs c.args.r.spot.at)) →
-    (is_tested c.args.how.start || not (eqb (total (differences c.args.k.p (cell_at c.args.k.n (nat_abs c.args.r.spot.at)))) 0))
+    let k = c.args.lane.route in
+    steps c.measured-made.result ≡ differences k.p (cell_at k.n (nat_abs c.args.r.spot.at)) →
+    (is_tested c.args.how.start || not (eqb (total (differences k.p (cell_at k.n (nat_abs c.args.r.spot.at)))) 0))
     ≡ not c.is_passed.result
 passed_is c made =
     turned (is_tested c.args.how.start) _
@@ -85,7 +92,8 @@ unfolding answer_from
 returns c =
     let earlier = goal.at.returns c in
     let made = made_is earlier.After-measured-made (cell_is earlier.After-cell_at-cell) in
-    let place = c.place_after.ensures ∙ ap (entered c.args.k.p c.args.k.q c.args.k.order (steps c.args.k.d)) made in
+    let k = c.args.lane.route in
+    let place = c.place_after.ensures ∙ ap (entered k.p k.q k.order (steps k.d)) made in
     rw (
       solid_is earlier.After-is_solid ∙ c.if-not-is_solid.false,
       passed_is earlier.After-is_passed made,

@@ -21,15 +21,15 @@ run_spot_of-start-requires c =
 -- where the run starts
 begins : (c : After-run_spot_of-start) →
     let a = c.args in
-    c.run_spot_of-start.result ≡ run_spot a.long (steps a.k.d) (raised_spot a.k.order a.s)
+    c.run_spot_of-start.result ≡ run_spot a.long (steps a.lane.route.d) (raised_spot a.lane.route.order a.s)
 begins c =
     let a = c.args in
-    c.run_spot_of-start.ensures ∙ ap (run_spot a.long (steps a.k.d)) c.raised.ensures
+    c.run_spot_of-start.ensures ∙ ap (run_spot a.long (steps a.lane.route.d)) c.raised.ensures
 
 pub clear_run-r-requires : goal.clear_run-r-requires
 clear_run-r-requires c =
     let (g, is, clear) = c.requires in
-    can_run _ _ _ _ _ _ _ g _ is _ (begins c) clear
+    can_run _ _ _ _ _ _ _ g _ is _ (begins ((goal.at.clear_run-r-requires c).After-run_spot_of-start)) clear
 
 pub spot_of-requires : goal.spot_of-requires
 spot_of-requires c =
@@ -43,14 +43,14 @@ lowered-requires c =
 
 -- where the run led
 led : (c : After-lowered) →
-    c.run_spot_of-start.result ≡ run_spot c.args.long (steps c.args.k.d) (raised_spot c.args.k.order c.args.s) →
+    c.run_spot_of-start.result ≡ run_spot c.args.long (steps c.args.lane.route.d) (raised_spot c.args.lane.route.order c.args.s) →
     let r = c.clear_run-r.result in
-    Reached c.args.cells.now c.args.k true c.args.s c.args.reads c.args.left
+    Reached c.args.lane.cells.now c.args.lane.route true c.args.s c.args.reads c.args.left
     (record { spot = c.lowered.result; reads = c.args.reads + (c.args.left - r.left); hit = false; left = r.left })
 led c begun =
     let (g, is, clear) = c.requires in
     run_leads _ _ _ _ _ _ _ g _ is _ begun _ c.clear_run-r.ensures _
-    (c.lowered.ensures ∙ ap (lowered_spot c.args.k.order) c.spot_of.ensures)
+    (c.lowered.ensures ∙ ap (lowered_spot c.args.lane.route.order) c.spot_of.ensures)
 
 pub returns : goal.returns
 returns c = let at = goal.at.returns c in led at.After-lowered (begins at.After-run_spot_of-start)

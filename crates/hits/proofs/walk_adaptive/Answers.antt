@@ -19,15 +19,15 @@ use Rattle.hits.proofs.walk_adaptive.Goals as goal
 use Rattle.hits.proofs.walk_adaptive.Goals.{At-loop-t, In-loop-t}
 
 pub run_route_of-h-requires : goal.run_route_of-h-requires
-run_route_of-h-requires c = route_small _ c.args.k c.requires.0
+run_route_of-h-requires c = route_small _ c.args.lane.route c.args.lane.planned
 
 pub returns-then-t : goal.returns-then-t
-returns-then-t c = turn_stopped c.args.how.start c.args.cells.now c.args.k c.set_out-t.result c.set_out-t.ensures.outcome c.if-t.true
+returns-then-t c = turn_stopped c.args.how.start c.args.lane.cells.now c.args.lane.route c.set_out-t.result c.set_out-t.ensures.outcome c.if-t.true
 
 -- where the call's own walk is
 came : (c : At-loop-t) →
     let a = c.args in
-    Came a.how.start a.cells.now a.k c.loop-t.t
+    Came a.how.start a.lane.cells.now a.lane.route c.loop-t.t
 came c =
     let a = c.args in
     c.loop-t.invariant.1 a.how.start c.set_out-t.ensures
@@ -35,17 +35,17 @@ came c =
 -- at a cell of the 26-line that is not the last, whichever walk came there
 here : (c : In-loop-t) →
     let g = c.args in
-    (from : Start) → Came from g.cells.now g.k c.loop-t.t →
-    At26 from g.cells.now g.k true c.loop-t.t.spot c.loop-t.t.reads c.loop-t.t.left
+    (from : Start) → Came from g.lane.cells.now g.lane.route c.loop-t.t →
+    At26 from g.lane.cells.now g.lane.route true c.loop-t.t.spot c.loop-t.t.reads c.loop-t.t.left
 here c from came =
     let g = c.args in
-    turn_begins from g.cells.now g.k c.loop-t.t came c.loop-t.invariant.0 (omega (arith, c.loop-t-test.true))
+    turn_begins from g.lane.cells.now g.lane.route c.loop-t.t came c.loop-t.invariant.0 (omega (arith, c.loop-t-test.true))
 
 pub next_26-t-requires : goal.next_26-t-requires
 next_26-t-requires c =
     let earlier = goal.at.next_26-t-requires c in (
       record {
-        plan = c.requires.0;
+        plan = c.args.lane.planned;
         long = c.longest_axis-long.ensures;
         from = c.args.how.start;
         at = here earlier.In-loop-t c.args.how.start (came earlier.At-loop-t);
@@ -57,7 +57,7 @@ pub returns-then-t-2 : goal.returns-then-t-2
 returns-then-t-2 c =
     let earlier = goal.at.returns-then-t-2 c in
     let g = c.args in
-    turn_stopped g.how.start g.cells.now g.k c.next_26-t.result
+    turn_stopped g.how.start g.lane.cells.now g.lane.route c.next_26-t.result
     (c.next_26-t.ensures.outcome g.how.start (here earlier.In-loop-t g.how.start (came earlier.At-loop-t)))
     c.if-t-2.true
 
@@ -65,18 +65,18 @@ pub loop-t-preserved : goal.loop-t-preserved
 loop-t-preserved c = (
   c.if-t-2.false,
   λ from set_out.
-      turn_came from c.args.cells.now c.args.k c.requires.0 true _ _ _ c.next_26-t.result c.next_26-t.ensures
+      turn_came from c.args.lane.cells.now c.args.lane.route c.args.lane.planned true _ _ _ c.next_26-t.result c.next_26-t.ensures
       (here ((goal.at.loop-t-preserved c).In-loop-t) from (c.loop-t.invariant.1 from set_out)),
 )
 
 -- it goes on to the loop's end
 walking : (c : At-loop-t) →
-    let a = c.args in
-    Walking a.how.start a.cells.now a.k (going a.cells.now a.k Adaptive) (number_26 a.k.p a.k.q (cell_left a.k c.loop-t.t.left))
-    c.loop-t.t.reads c.loop-t.t.spot
+    let l = c.args.lane.cells.now in
+    let k = c.args.lane.route in
+    Walking c.args.how.start l k (going l k Adaptive) (number_26 k.p k.q (cell_left k c.loop-t.t.left)) c.loop-t.t.reads c.loop-t.t.spot
 walking c =
     let a = c.args in
-    turn_walking a.how.start a.cells.now a.k c.loop-t.t (came c).outcome c.loop-t.invariant.0
+    turn_walking a.how.start a.lane.cells.now a.lane.route c.loop-t.t (came c).outcome c.loop-t.invariant.0
 
 pub overflow_add-result : goal.overflow_add-result
 overflow_add-result c =
@@ -86,15 +86,15 @@ overflow_add-result c =
         arith,
         w.on.few,
         w.on.most,
-        short_at _ c.args.k c.requires.0 X,
-        short_at _ c.args.k c.requires.0 Y,
-        short_at _ c.args.k c.requires.0 Z,
+        short_at _ c.args.lane.route c.args.lane.planned X,
+        short_at _ c.args.lane.route c.args.lane.planned Y,
+        short_at _ c.args.lane.route c.args.lane.planned Z,
       );
     }
 
 pub returns : goal.returns
 returns c =
-    let k = c.args.k in
+    let k = c.args.lane.route in
     let all_made : cell_left k c.loop-t.t.left ≡ longest (differences k.p k.q) = omega (arith, c.loop-t-test.false) in
-    at_end c.args.how.start _ k c.requires.0 c.args.cells.now _ _ _ _ (walking ((goal.at.returns c).At-loop-t))
+    at_end c.args.how.start _ k c.args.lane.planned c.args.lane.cells.now _ _ _ _ (walking ((goal.at.returns c).At-loop-t))
     (ap (number_26 k.p k.q) all_made ∙ last_26 k)

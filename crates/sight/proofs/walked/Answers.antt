@@ -5,28 +5,26 @@ use Rattle.routes.specs.Route.{Planned}
 use Rattle.routes.proofs.Accepting.{ends_enclosed, route_planned, p_enclosed}
 use Rattle.hits.proofs.Answering.{stop_byte, stop_found, found_finds}
 use Rattle.sight.proofs.walked.Goals as goal
-use Rattle.sight.proofs.walked.Goals.{After-route_of-k}
+use Rattle.sight.proofs.walked.Goals.{After-route_of}
 
-pub route_of-k-requires : goal.route_of-k-requires
-route_of-k-requires c = ends_enclosed _ _ _ _ c.requires
+pub route_of-requires : goal.route_of-requires
+route_of-requires c = ends_enclosed _ _ _ _ c.requires
 
-planned : (c : After-route_of-k) → Planned (length c.args.cells.now) c.route_of-k.result
-planned c = route_planned _ _ _ _ c.requires _ _ c.route_of-k.ensures
+planned : (c : After-route_of) → Planned (length c.args.cells.now) c.route_of.result
+planned c = route_planned _ _ _ _ c.requires _ _ c.route_of.ensures
 
 pub first_spot-requires : goal.first_spot-requires
-first_spot-requires c = p_enclosed (planned c)
+first_spot-requires c = p_enclosed (planned ((goal.at.first_spot-requires c).After-route_of))
 
-pub walk_adaptive-stop-requires : goal.walk_adaptive-stop-requires
-walk_adaptive-stop-requires c = (planned ((goal.at.walk_adaptive-stop-requires c).After-route_of-k), c.first_spot.ensures)
+pub invariant_of-lane : goal.invariant_of-lane
+invariant_of-lane c = record { planned = planned ((goal.at.invariant_of-lane c).After-route_of) }
 
 pub answer_of-requires : goal.answer_of-requires
 answer_of-requires c =
-    let plan = planned ((goal.at.answer_of-requires c).After-route_of-k) in
-    let a = c.args in
-    (plan, stop_byte Adaptive a.how.start a.cells.now _ plan _ c.walk_adaptive-stop.ensures)
+    stop_byte Adaptive c.args.how.start c.args.cells.now _ (planned ((goal.at.answer_of-requires c).After-route_of)) _ c.walk_adaptive-stop.ensures
 
 pub returns : goal.returns
 returns c =
     let a = c.args in
-    found_finds Adaptive a.how a.n a.cells.now a.p a.q c.route_of-k.result c.requires c.route_of-k.ensures
-    (stop_found Adaptive a.how.start a.cells.now c.route_of-k.result (planned ((goal.at.returns c).After-route_of-k)) _ c.walk_adaptive-stop.ensures c.answer_of.ensures)
+    found_finds Adaptive a.how a.n a.cells.now a.p a.q c.route_of.result c.requires c.route_of.ensures
+    (stop_found Adaptive a.how.start a.cells.now c.route_of.result (planned ((goal.at.returns c).After-route_of)) _ c.walk_adaptive-stop.ensures c.answer_of.ensures)

@@ -21,8 +21,8 @@ fine c = sym c.check_walk.ensures ∙ c.in_ok-check_walk.was
 pub route_of-requires : goal.route_of-requires
 route_of-requires c = ends_enclosed _ _ _ _ (fine c)
 
-pub list_along-requires : goal.list_along-requires
-list_along-requires c = route_planned _ _ _ _ (fine ((goal.at.list_along-requires c).In_ok-check_walk)) _ _ c.route_of.ensures
+pub invariant_of-lane : goal.invariant_of-lane
+invariant_of-lane c = record { planned = route_planned _ _ _ _ (fine ((goal.at.invariant_of-lane c).In_ok-check_walk)) _ _ c.route_of.ensures }
 
 pub returns-in_err-check_walk : goal.returns-in_err-check_walk
 returns-in_err-check_walk c =

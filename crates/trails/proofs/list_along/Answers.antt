@@ -3,12 +3,9 @@ use Rattle.std.specs.Prelude.{Ok}
 use mathlib.Core.Path.{◌≡◌, refl, sym, ap, ◌∙◌, subst}
 use native.Mathlib.Omega.{arith}
 use lib.ListN.{length}
-use Rattle.walks.specs.declared.Walker.TheVariants.{Adaptive}
-use Rattle.walks.specs.Walks.{walk_of}
-use Rattle.hits.specs.Found.{conduct_of}
 use Rattle.lists.specs.Lists.{filled, Lists}
 use Rattle.lists.proofs.Front.{refused_room, listed_all}
-use Rattle.trails.specs.Standing.{stand_cells, CanList}
+use Rattle.trails.specs.Standing.{stand_cells, walked, CanList}
 use Rattle.trails.proofs.Along.{can_list, walked_is, walked_long}
 use Rattle.trails.proofs.list_along.Goals as goal
 use Rattle.trails.proofs.list_along.Goals.{After-walk_adaptive-count}
@@ -16,24 +13,29 @@ use Rattle.trails.proofs.list_along.Goals.{After-walk_adaptive-count}
 -- as many cells as the walk reads
 long : (c : After-walk_adaptive-count) →
     let a = c.args in
-    length (walk_of Adaptive (conduct_of a.how.start a.k) a.k.n a.cells.now a.k.p a.k.q) ≡ c.walk_adaptive-count.result.reads
-long c = let a = c.args in walked_long a.cells.now a.k a.how.start ∙ sym c.walk_adaptive-count.ensures.reads
+    length (walked a.lane.cells.now a.lane.route a.how.start) ≡ c.walk_adaptive-count.result.reads
+long c = let a = c.args in walked_long a.lane.cells.now a.lane.route a.how.start ∙ sym c.walk_adaptive-count.ensures.reads
 
 pub returns-then-out-count : goal.returns-then-out-count
-returns-then-out-count c = let a = c.args in refused_room _ (Ok tt) a.out.now refl (omega (arith, long ((goal.at.returns-then-out-count c).After-walk_adaptive-count), c.if-out-count.true))
+returns-then-out-count c =
+    refused_room _ (Ok tt) c.args.out.now refl
+    (omega (arith, long ((goal.at.returns-then-out-count c).After-walk_adaptive-count), c.if-out-count.true))
 
 pub fill-requires : goal.fill-requires
 fill-requires c =
-    let a = c.args in
-    (c.requires, subst (CanList a.cells.now a.k) (sym c.walk_adaptive-count.ensures.reads) (can_list a.cells.now a.k a.how.start), c.if-out-count.false)
+    let l = c.args.lane.cells.now in
+    let k = c.args.lane.route in
+    (subst (CanList l k) (sym c.walk_adaptive-count.ensures.reads) (can_list l k c.args.how.start), c.if-out-count.false)
 
 pub returns : goal.returns
 returns c =
     let earlier = goal.at.returns c in
     let a = c.args in
-    let line = walk_of Adaptive (conduct_of a.how.start a.k) a.k.n a.cells.now a.k.p a.k.q in
+    let l = a.lane.cells.now in
+    let k = a.lane.route in
+    let line = walked l k a.how.start in
     let reads = c.walk_adaptive-count.ensures.reads in
     subst (λ n. Lists line (Ok tt) a.out.now (Ok n) c.fill.new.out) (long earlier.After-walk_adaptive-count)
     (listed_all line (Ok tt) a.out.now _ refl (omega (arith, long earlier.After-walk_adaptive-count, c.if-out-count.false))
-    (c.fill.ensures ∙ ap (λ n. filled (stand_cells a.cells.now a.k n) a.out.now) reads
-    ∙ ap (λ x. filled x a.out.now) (sym (walked_is a.cells.now a.k a.how.start))))
+    (c.fill.ensures ∙ ap (λ n. filled (stand_cells l k n) a.out.now) reads
+    ∙ ap (λ x. filled x a.out.now) (sym (walked_is l k a.how.start))))

@@ -12,21 +12,21 @@ use Rattle.trails.proofs.next_stand.Goals.{After-faces_ahead-ahead, After-to_cro
 
 pub to_cross-faces-requires : goal.to_cross-faces-requires
 to_cross-faces-requires c =
-    let k = c.args.k in
+    let k = c.args.lane.route in
     let h = c.requires in
     spot_byte _ k h.plan _ _ (place_within _ k h.plan h.number (omega (arith, h.below))) h.at.spot
 
 -- what lies ahead of the number that is asked for
-ahead : (c : After-faces_ahead-ahead) → Ahead26 c.args.k c.requires.number c.args.t.left c.faces_ahead-ahead.result
+ahead : (c : After-faces_ahead-ahead) → Ahead26 c.args.lane.route c.requires.number c.args.t.left c.faces_ahead-ahead.result
 ahead c = let h = c.requires in c.faces_ahead-ahead.ensures.leads h.number h.below h.at
 
 -- the faces to cross are some of it
-few : (c : After-to_cross-faces) → Ahead26 c.args.k c.requires.number c.args.t.left c.faces_ahead-ahead.result →
+few : (c : After-to_cross-faces) → Ahead26 c.args.lane.route c.requires.number c.args.t.left c.faces_ahead-ahead.result →
     c.to_cross-faces.result ≤ c.faces_ahead-ahead.result
 few c ahead =
     let h = c.requires in
     subst (λ n. n ≤ c.faces_ahead-ahead.result) (sym c.to_cross-faces.ensures)
-    (crosses_some c.args.cells.now c.args.k h.plan h.number h.below c.args.t _ h.at.spot ahead).1
+    (crosses_some c.args.lane.cells.now c.args.lane.route h.plan h.number h.below c.args.t _ h.at.spot ahead).1
 
 pub over_faces-requires : goal.over_faces-requires
 over_faces-requires c =
@@ -37,7 +37,7 @@ over_faces-requires c =
       plan = h.plan;
       number = h.number;
       at = h.at.spot;
-      fits = omega (arith, few earlier.After-to_cross-faces (ahead earlier.After-faces_ahead-ahead), ahead_within c.args.k h.number _ _ (ahead earlier.After-faces_ahead-ahead));
+      fits = omega (arith, few earlier.After-to_cross-faces (ahead earlier.After-faces_ahead-ahead), ahead_within c.args.lane.route h.number _ _ (ahead earlier.After-faces_ahead-ahead));
     }
 
 pub overflow_sub-result : goal.overflow_sub-result
@@ -47,8 +47,8 @@ overflow_sub-result c =
 
 pub returns : goal.returns
 returns c =
-    let k = c.args.k in
-    let l = c.args.cells.now in
+    let k = c.args.lane.route in
+    let l = c.args.lane.cells.now in
     let t = c.args.t in
     let many : c.to_cross-faces.result ≡ to_cross l t c.faces_ahead-ahead.result = c.to_cross-faces.ensures in
     record {

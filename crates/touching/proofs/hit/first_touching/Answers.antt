@@ -19,9 +19,12 @@ fine c = sym c.check_walk.ensures ∙ c.in_ok-check_walk.was
 pub route_of-requires : goal.route_of-requires
 route_of-requires c = ends_enclosed _ _ _ _ (fine c)
 
+pub invariant_of-lane : goal.invariant_of-lane
+invariant_of-lane c = record { planned = route_planned _ _ _ _ (fine ((goal.at.invariant_of-lane c).In_ok-check_walk)) _ _ c.route_of.ensures }
+
 pub touching_answer-requires : goal.touching_answer-requires
 unfolding order_of
-touching_answer-requires c = (route_planned _ _ _ _ (fine ((goal.at.touching_answer-requires c).In_ok-check_walk)) _ _ c.route_of.ensures, c.route_of.ensures.order)
+touching_answer-requires c = c.route_of.ensures.order
 
 pub returns : goal.returns
 unfolding first_touching

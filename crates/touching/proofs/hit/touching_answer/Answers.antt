@@ -29,11 +29,11 @@ by_place start l k at e f reads = refl
 -- what the walk says, by whether it hit
 says : (c : After-walk_touching-t) (hit : Bool) → c.walk_touching-t.result.hit ≡ hit →
     let r = c.walk_touching-t.result in
-    cond hit (answer_from c.args.how.start c.args.cells.now (told_from c.args.k) (record { spot = r.spot; reads = r.reads })) (FirstHit.Clear r.reads) ≡
-    found_along c.args.how.start c.args.cells.now c.args.k
+    cond hit (answer_from c.args.how.start c.args.lane.cells.now (told_from c.args.lane.route) (record { spot = r.spot; reads = r.reads })) (FirstHit.Clear r.reads) ≡
+    found_along c.args.how.start c.args.lane.cells.now c.args.lane.route
 says c hit is =
     let r = c.walk_touching-t.result in
-    ap (λ b. cond b (answer_from c.args.how.start c.args.cells.now (told_from c.args.k) (record { spot = r.spot; reads = r.reads })) (FirstHit.Clear r.reads))
+    ap (λ b. cond b (answer_from c.args.how.start c.args.lane.cells.now (told_from c.args.lane.route) (record { spot = r.spot; reads = r.reads })) (FirstHit.Clear r.reads))
     (sym is) ∙ c.walk_touching-t.ensures.answers
 
 -- the place of the byte is read back as it is
@@ -42,21 +42,27 @@ at_same c =
     let b = c.walk_touching-t.ensures.byte in
     held_is _ (subst (SFits w32) (sym b.is) (nat_fits b.index (omega (arith, b.below, b.few))))
 
+pub invariant_of-told : goal.invariant_of-told
+invariant_of-told c =
+    record {
+      planned =
+          subst (Planned (length c.args.lane.cells.now)) (sym c.told_from.ensures)
+          (told_planned c.args.lane.cells.now c.args.lane.route c.args.lane.planned);
+    }
+
 pub answer_of-requires : goal.answer_of-requires
-answer_of-requires c = (
-  subst (Planned (length c.args.cells.now)) (sym c.told_from-told.ensures) (told_planned c.args.cells.now c.args.k c.requires.0),
-  subst (HasByte (length c.args.cells.now)) (sym (at_same ((goal.at.answer_of-requires c).After-walk_touching-t))) c.walk_touching-t.ensures.byte,
-)
+answer_of-requires c =
+    subst (HasByte (length c.args.lane.cells.now)) (sym (at_same ((goal.at.answer_of-requires c).After-walk_touching-t))) c.walk_touching-t.ensures.byte
 
 pub returns-then-t : goal.returns-then-t
 returns-then-t c =
     let earlier = goal.at.returns-then-t c in
     let r = c.walk_touching-t.result in
     c.answer_of.ensures
-    ∙ by_place c.args.how.start c.args.cells.now c.told_from-told.result (held r.spot.at) _ r.spot.e r.reads
-    ∙ ap (λ at. answer_from c.args.how.start c.args.cells.now c.told_from-told.result
+    ∙ by_place c.args.how.start c.args.lane.cells.now c.told_from.result (held r.spot.at) _ r.spot.e r.reads
+    ∙ ap (λ at. answer_from c.args.how.start c.args.lane.cells.now c.told_from.result
     (record { spot = record { at = at; e = r.spot.e }; reads = r.reads })) (at_same earlier.After-walk_touching-t)
-    ∙ ap (λ k. answer_from c.args.how.start c.args.cells.now k (record { spot = r.spot; reads = r.reads })) c.told_from-told.ensures
+    ∙ ap (λ k. answer_from c.args.how.start c.args.lane.cells.now k (record { spot = r.spot; reads = r.reads })) c.told_from.ensures
     ∙ says earlier.After-walk_touching-t true c.if-t.true
 
 pub returns : goal.returns
