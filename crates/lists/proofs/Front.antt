@@ -23,6 +23,7 @@ use Rattle.cells.proofs.Checks.{fine_first, fine_rest, passed}
 use Rattle.lines.specs.Lines.{in_limit, InLimit}
 use Rattle.cells.specs.Tabulate.{tabulate}
 use Rattle.cells.proofs.Tabulate.{tabulate_length}
+use Rattle.lists.specs.declared.segment.Segment.{Segment}
 use Rattle.lists.specs.Lists.{end_check, ends_check, numbers, filled, Lists}
 use Rattle.lists.specs.Kept.{put3}
 
@@ -101,3 +102,6 @@ limit_fine e c h = rw (h.limit X, h.limit Y, h.limit Z)
 
 pub limits_pass : (p q : Cell) → InLimit p → InLimit q → ends_check p q ≡ Ok tt
 limits_pass p q hp hq = rw (limit_fine P p hp, limit_fine Q q hq)
+
+pub segment_fine : (s : Segment) → ends_check s.p s.q ≡ Ok tt
+segment_fine s = limits_pass s.p s.q s.measured.p_in s.measured.q_in

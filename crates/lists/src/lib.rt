@@ -5,11 +5,13 @@ ghost use Rattle.std.specs.Prelude.{◌≡◌, ◌+◌, ◌≤◌, length};
 ghost use Rattle.lists.specs.Kept.{put3};
 
 mod ends; // the tests of the ends, and the way from one to the other
+mod segment;
 mod six;
 mod twenty_six;
 
 use cells::Cell;
 pub use ends::check_ends;
+pub use segment::Segment;
 pub use six::{SixSpot, SixWay, crossed, first_spot, line6, six_way_of};
 pub use twenty_six::line26;
 

@@ -1,17 +1,17 @@
 // The 6-line's list: from cell to cell across the next face.
 ghost use Rattle.std.specs.Prelude.{◌≡◌, ◌+◌, ◌*◌, ◌≤◌, length};
-ghost use Rattle.lines.specs.Lines.{differences, six_line, InLimit};
+ghost use Rattle.lines.specs.Lines.{six_line};
 ghost use Rattle.lines.specs.Preference.{order_of, by_rule};
 ghost use Rattle.lines.specs.Steps.{at, total};
-ghost use Rattle.tripod.specs.Tripod.{steps, Short};
+ghost use Rattle.tripod.specs.Tripod.{steps};
 ghost use Rattle.lists.specs.Lists.{filled, Line6};
-ghost use Rattle.lists.specs.Kept.{stepped_cell, crossed_six, CanStep, CanCrossSix, SixWayOf, SixSpotAt, Measured};
+ghost use Rattle.lists.specs.Kept.{stepped_cell, crossed_six, CanStep, CanCrossSix, SixWayOf, SixSpotAt};
 
-use crate::ends::{check_ends, unit_to};
+use crate::ends::unit_to;
 use crate::put;
+use crate::segment::Segment;
 use cells::{Axis, Cell, Each, Refusal, Rule};
 use lines::{Doubled, Tripod};
-use tripod::Diffs;
 
 // What stays the same along a line: one cell towards Q, on each axis, and twice the differences.
 #[derive(Clone, Copy)]
@@ -27,11 +27,11 @@ pub struct SixSpot {
     pub e: Tripod,
 }
 
-// The way from p to q.
-pub fn six_way_of(p: Cell, q: Cell, d: Diffs) -> SixWay
-    requires { InLimit p × InLimit q × (steps d ≡ differences p q) × Short d }
-    ensures { SixWayOf p q result }
+// The way along a segment.
+pub fn six_way_of(segment: Segment) -> SixWay
+    ensures { SixWayOf segment.p segment.q result }
 {
+    let Segment { p, q, d } = segment;
     SixWay {
         towards: Each {
             x: unit_to(p.x, q.x),
@@ -43,10 +43,10 @@ pub fn six_way_of(p: Cell, q: Cell, d: Diffs) -> SixWay
 }
 
 // The spot of P, ties by a rule.
-pub fn first_spot(p: Cell, q: Cell, d: Diffs, rule: Rule) -> SixSpot
-    requires { Measured p q d }
-    ensures { SixSpotAt (order_of rule p q) p q (at 0 0 0) result }
+pub fn first_spot(segment: Segment, rule: Rule) -> SixSpot
+    ensures { SixSpotAt (order_of rule segment.p segment.q) segment.p segment.q (at 0 0 0) result }
 {
+    let Segment { p, q, d } = segment;
     SixSpot {
         at: p,
         e: tripod::lowered(tripod::first_values(d), tripod::order_of(rule, p, q)),
@@ -77,30 +77,29 @@ pub fn crossed(s: SixSpot, w: SixWay, n: Axis) -> SixSpot
 }
 
 // The cells of the 6-line, at the front of the slice.
-fn fill6(out: &mut [i32], p: Cell, q: Cell, d: Diffs, rule: Rule)
-    requires { Measured p q d × (3 * (total (steps d) + 1) ≤ length out.old) }
-    ensures { out.new ≡ filled (six_line (by_rule rule p q) p q) out.old }
+fn fill6(out: &mut [i32], segment: Segment, rule: Rule)
+    requires { 3 * (total (steps segment.d) + 1) ≤ length out.old }
+    ensures { out.new ≡ filled (six_line (by_rule rule segment.p segment.q) segment.p segment.q) out.old }
 {
-    let w = six_way_of(p, q, d);
-    let mut s = first_spot(p, q, d, rule);
-    let crossings = d.total();
+    let w = six_way_of(segment);
+    let mut s = first_spot(segment, rule);
+    let crossings = segment.d.total();
     for m in 0..crossings {
         put(out, 3 * (m as usize), s.at);
         s = crossed(s, w, tripod::next_face(s.e));
     }
-    put(out, 3 * (crossings as usize), q);
+    put(out, 3 * (crossings as usize), segment.q);
 }
 
 // The 6-line from p to q, ties by a rule.
 pub fn line6(p: Cell, q: Cell, rule: Rule, out: &mut [i32]) -> Result<u32, Refusal>
     ensures { Line6 rule p q out.old result out.new }
 {
-    check_ends(p, q)?;
-    let d = tripod::measured(p, q);
-    let cells = d.total() + 1;
+    let segment = Segment::between(p, q)?;
+    let cells = segment.d.total() + 1;
     if out.len() < 3 * (cells as usize) {
         return Err(Refusal::Room);
     }
-    fill6(out, p, q, d, rule);
+    fill6(out, segment, rule);
     Ok(cells)
 }

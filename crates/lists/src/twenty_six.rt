@@ -1,14 +1,14 @@
 // The 26-line's list: each coordinate goes on its own.
 ghost use Rattle.std.specs.Prelude.{◌≡◌, ◌+◌, ◌*◌, ◌≤◌, length};
 ghost use Rattle.lines.specs.Lines.{longest, line_26};
-ghost use Rattle.tripod.specs.Tripod.{steps, Short};
+ghost use Rattle.tripod.specs.Tripod.{steps};
 ghost use Rattle.lists.specs.Lists.{filled, Line26};
-ghost use Rattle.lists.specs.Kept.{pace, first_of, next_of, paces, firsts, nexts, cell_at, CanMove, CanMoves, Measured};
+ghost use Rattle.lists.specs.Kept.{pace, first_of, next_of, paces, firsts, nexts, cell_at, CanMove, CanMoves};
 
-use crate::ends::{check_ends, unit_to};
+use crate::ends::unit_to;
 use crate::put;
+use crate::segment::Segment;
 use cells::{Cell, Each, Refusal};
-use tripod::Diffs;
 
 // What moves a coordinate along a 26-line: one cell towards Q, and what is added to what is due where it stays and where it goes.
 #[derive(Clone, Copy)]
@@ -68,10 +68,11 @@ fn next_coordinate(c: Coordinate, k: Pace) -> Coordinate
 }
 
 // The paces of the three coordinates.
-fn paces_of(p: Cell, q: Cell, d: Diffs, last: u32) -> Each<Pace>
-    requires { Short d × (last ≡ longest (steps d)) }
-    ensures { result ≡ paces p q (steps d) }
+fn paces_of(segment: Segment, last: u32) -> Each<Pace>
+    requires { last ≡ longest (steps segment.d) }
+    ensures { result ≡ paces segment.p segment.q (steps segment.d) }
 {
+    let Segment { p, q, d } = segment;
     Each {
         x: pace_of(p.x, q.x, d.a, last),
         y: pace_of(p.y, q.y, d.b, last),
@@ -80,10 +81,11 @@ fn paces_of(p: Cell, q: Cell, d: Diffs, last: u32) -> Each<Pace>
 }
 
 // The three at P.
-fn first_coordinates(p: Cell, d: Diffs, last: u32) -> Each<Coordinate>
-    requires { Short d × (last ≡ longest (steps d)) }
-    ensures { result ≡ firsts p (steps d) }
+fn first_coordinates(segment: Segment, last: u32) -> Each<Coordinate>
+    requires { last ≡ longest (steps segment.d) }
+    ensures { result ≡ firsts segment.p (steps segment.d) }
 {
+    let Segment { p, d, .. } = segment;
     Each {
         x: first_coordinate(p.x, d.a, last),
         y: first_coordinate(p.y, d.b, last),
@@ -115,30 +117,29 @@ fn cell_at(c: Each<Coordinate>) -> Cell
 }
 
 // The cells of the 26-line, at the front of the slice. Each coordinate goes on its own.
-fn fill26(out: &mut [i32], p: Cell, q: Cell, d: Diffs, last: u32)
-    requires { Measured p q d × (last ≡ longest (steps d)) × (3 * (last + 1) ≤ length out.old) }
-    ensures { out.new ≡ filled (line_26 p q) out.old }
+fn fill26(out: &mut [i32], segment: Segment, last: u32)
+    requires { (last ≡ longest (steps segment.d)) × (3 * (last + 1) ≤ length out.old) }
+    ensures { out.new ≡ filled (line_26 segment.p segment.q) out.old }
 {
-    let k = paces_of(p, q, d, last);
-    let mut c = first_coordinates(p, d, last);
+    let k = paces_of(segment, last);
+    let mut c = first_coordinates(segment, last);
     for m in 0..last {
         put(out, 3 * (m as usize), cell_at(c));
         c = next_coordinates(c, k);
     }
-    put(out, 3 * (last as usize), q);
+    put(out, 3 * (last as usize), segment.q);
 }
 
 // The 26-line from p to q.
 pub fn line26(p: Cell, q: Cell, out: &mut [i32]) -> Result<u32, Refusal>
     ensures { Line26 p q out.old result out.new }
 {
-    check_ends(p, q)?;
-    let d = tripod::measured(p, q);
-    let last = d.longest();
+    let segment = Segment::between(p, q)?;
+    let last = segment.d.longest();
     let count = last + 1;
     if out.len() < 3 * (count as usize) {
         return Err(Refusal::Room);
     }
-    fill26(out, p, q, d, last);
+    fill26(out, segment, last);
     Ok(count)
 }

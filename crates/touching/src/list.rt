@@ -1,18 +1,16 @@
 // The touching line's list.
 ghost use Rattle.std.specs.Prelude.{◌≡◌, [], ◌∷◌, ◌+◌, ◌*◌, ◌≤◌, ltb, length};
 ghost use Rattle.lines.specs.declared.Tie.TheVariants.{Two, Three};
-ghost use Rattle.lines.specs.Touching.{touching_line, visits};
-ghost use Rattle.tripod.specs.Tripod.{steps, Short};
+ghost use Rattle.lines.specs.Touching.{touching_line};
 ghost use Rattle.lists.specs.Lists.{filled};
-ghost use Rattle.lists.specs.Kept.{crossed_six, Measured};
+ghost use Rattle.lists.specs.Kept.{crossed_six};
 ghost use Rattle.touching.specs.Touching.{LineTouching};
 ghost use Rattle.touching.specs.Passing.{of_tie, tie_end};
-ghost use Rattle.touching.specs.Listing.{put_cells, cells_of, CanTieSix, CanPut, Put, course_of, CanCount, Counted};
+ghost use Rattle.touching.specs.Listing.{put_cells, cells_of, CanTieSix, CanPut, Put, CanCount, Counted};
 
 use cells::{Axis, Cell, Refusal, Rule};
 use lines::{Doubled, Tie, Tripod};
-use lists::{SixSpot, SixWay};
-use tripod::Diffs;
+use lists::{Segment, SixSpot, SixWay};
 
 // Past a tie: what is behind it, the spot or, where cells are counted alone, its values; and how many cells and how many faces it has.
 #[derive(Clone, Copy)]
@@ -92,17 +90,17 @@ fn put_tie(out: &mut [i32], at: usize, s: SixSpot, w: SixWay) -> Past<SixSpot>
 
 // The cells of the line, at the front of the slice, and how many they are. A tie of one axis, the most frequent, is passed here: then the cells grow with the
 // faces, and one number counts both; `more` is how many more they are. A turn passes one, two or three faces.
-fn fill(out: &mut [i32], p: Cell, q: Cell, d: Diffs) -> u32
-    requires { Measured p q d × (3 * length (touching_line p q) ≤ length out.old) }
-    ensures { (out.new ≡ filled (touching_line p q) out.old) × (result ≡ length (touching_line p q)) }
+fn fill(out: &mut [i32], segment: Segment) -> u32
+    requires { 3 * length (touching_line segment.p segment.q) ≤ length out.old }
+    ensures { (out.new ≡ filled (touching_line segment.p segment.q) out.old) × (result ≡ length (touching_line segment.p segment.q)) }
 {
-    let w = lists::six_way_of(p, q, d);
-    let mut s = lists::first_spot(p, q, d, Rule::One);
-    let crossings = d.total();
+    let w = lists::six_way_of(segment);
+    let mut s = lists::first_spot(segment, Rule::One);
+    let crossings = segment.d.total();
     let mut m = 0;
     let mut more = 1;
     let mut at = 3;
-    lists::put(out, 0, p);
+    lists::put(out, 0, segment.p);
     while m < crossings {
         match tripod::next_tie(s.e) {
             Tie::One(n) => {
@@ -152,13 +150,12 @@ fn past_tie(e: Tripod, twice: Doubled) -> Past<Tripod>
 }
 
 // How many cells the line has, before the first is stored. A turn passes one, two or three faces.
-fn count_cells(d: Diffs) -> u32
-    requires { Short d }
-    ensures { result ≡ length (visits (course_of (steps d))) }
+fn count_cells(segment: Segment) -> u32
+    ensures { result ≡ length (touching_line segment.p segment.q) }
 {
-    let twice = tripod::twice(d);
-    let mut e = tripod::first_values(d);
-    let crossings = d.total();
+    let twice = tripod::twice(segment.d);
+    let mut e = tripod::first_values(segment.d);
+    let crossings = segment.d.total();
     let mut m = 0;
     let mut count = 1;
     while m < crossings {
@@ -171,22 +168,20 @@ fn count_cells(d: Diffs) -> u32
 }
 
 // Whether so many numbers are too few. There are at most seven cells for three crossings: where there is room for so many, nothing need be counted.
-fn lacks_room(room: usize, d: Diffs) -> bool
-    requires { Short d }
-    ensures { result ≡ ltb room (3 * length (visits (course_of (steps d)))) }
+fn lacks_room(room: usize, segment: Segment) -> bool
+    ensures { result ≡ ltb room (3 * length (touching_line segment.p segment.q)) }
 {
-    let most = 3 + 7 * d.total();
-    room < most as usize && room < 3 * (count_cells(d) as usize)
+    let most = 3 + 7 * segment.d.total();
+    room < most as usize && room < 3 * (count_cells(segment) as usize)
 }
 
 // The touching line from p to q.
 pub fn line_touching(p: Cell, q: Cell, out: &mut [i32]) -> Result<u32, Refusal>
     ensures { LineTouching p q out.old result out.new }
 {
-    lists::check_ends(p, q)?;
-    let d = tripod::measured(p, q);
-    if lacks_room(out.len(), d) {
+    let segment = Segment::between(p, q)?;
+    if lacks_room(out.len(), segment) {
         return Err(Refusal::Room);
     }
-    Ok(fill(out, p, q, d))
+    Ok(fill(out, segment))
 }

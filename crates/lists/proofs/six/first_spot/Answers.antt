@@ -11,13 +11,14 @@ use Rattle.lists.proofs.six.first_spot.Goals as goal
 
 pub lowered-requires : goal.lowered-requires
 lowered-requires c =
-    let d = c.args.d in
-    rw c.first_values.ensures (place_small (steps d) (at 0 0 0) (short_at d c.requires.short) (λ a. rw (no_steps a) (omega arith)))
+    let s = c.args.segment in
+    rw c.first_values.ensures (place_small (steps s.d) (at 0 0 0) (short_at s.d s.measured.short) (λ a. rw (no_steps a) (omega arith)))
 
 pub returns : goal.returns
 returns c =
+    let s = c.args.segment in
     record {
-      cell = sym (cell_start c.args.p c.args.q (at 0 0 0) no_steps);
+      cell = sym (cell_start s.p s.q (at 0 0 0) no_steps);
       value = c.lowered.ensures
-          ∙ ap₂ lowered c.order_of.ensures (c.first_values.ensures ∙ ap (λ D. values D (at 0 0 0)) c.requires.is);
+          ∙ ap₂ lowered c.order_of.ensures (c.first_values.ensures ∙ ap (λ D. values D (at 0 0 0)) s.measured.is);
     }

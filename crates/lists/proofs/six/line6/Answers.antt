@@ -8,39 +8,31 @@ use Rattle.lines.specs.Preference.{by_rule}
 use Rattle.lines.specs.Lines.{differences, six_line}
 use Rattle.lines.proofs.Cells.{six_length}
 use Rattle.lists.specs.Lists.{ends_check, Line6}
-use Rattle.lists.proofs.Front.{refused_room, listed_all, ends_fine}
+use Rattle.lists.proofs.Front.{refused_room, listed_all, segment_fine}
 use Rattle.lists.proofs.six.line6.Goals as goal
-use Rattle.lists.proofs.six.line6.Goals.{After-total-cells, In_ok-check_ends}
-
--- where both ends have passed
-fine : (c : In_ok-check_ends) → ends_check c.args.p c.args.q ≡ Ok tt
-fine c = sym c.check_ends.ensures ∙ c.in_ok-check_ends.was
+use Rattle.lists.proofs.six.line6.Goals.{After-total-cells}
 
 -- how many cells there are
-count : (c : After-total-cells) →
-    total (differences c.args.p c.args.q) ≡ c.total-cells.result
-count c = sym (c.total-cells.ensures ∙ ap total c.measured-d.ensures.0)
-
-pub measured-d-requires : goal.measured-d-requires
-measured-d-requires c = ends_fine _ _ (fine c)
-
-pub fill6-requires : goal.fill6-requires
-fill6-requires c =
-    let (hp, hq) = ends_fine _ _ (fine ((goal.at.fill6-requires c).In_ok-check_ends)) in
-    (record { p_in = hp; q_in = hq; is = c.measured-d.ensures.0; short = c.measured-d.ensures.1 }, omega arith)
+count : (c : After-total-cells) → let s = c.in_ok-segment.segment in total (differences s.p s.q) ≡ c.total-cells.result
+count c = sym (c.total-cells.ensures ∙ ap total c.in_ok-segment.segment.measured.is)
 
 pub returns-then-out-cells : goal.returns-then-out-cells
 returns-then-out-cells c =
-    let earlier = goal.at.returns-then-out-cells c in
-    refused_room (six_line (by_rule c.args.rule c.args.p c.args.q) c.args.p c.args.q) (ends_check c.args.p c.args.q)
-    c.args.out.now (fine earlier.In_ok-check_ends)
-    (omega (arith, six_length (by_rule c.args.rule c.args.p c.args.q) c.args.p c.args.q, count earlier.After-total-cells))
+    let earlier = (goal.at.returns-then-out-cells c).After-total-cells in
+    let s = c.in_ok-segment.segment in
+    let (p_is, q_is) = c.in_ok-segment.ensures in
+    let r = by_rule c.args.rule s.p s.q in
+    rw (← p_is, ← q_is)
+    (refused_room (six_line r s.p s.q) (ends_check s.p s.q) c.args.out.now (segment_fine s)
+    (omega (arith, six_length r s.p s.q, count earlier)))
 
 pub returns : goal.returns
 returns c =
-    let earlier = goal.at.returns c in
-    let p = c.args.p in
-    let q = c.args.q in
-    let r = by_rule c.args.rule p q in
-    subst (λ n. Line6 c.args.rule p q c.args.out.now (Ok n) c.fill6.new.out) (six_length r p q ∙ ap (λ k. k + 1) (count earlier.After-total-cells))
-    (listed_all (six_line r p q) (ends_check p q) c.args.out.now _ (fine earlier.In_ok-check_ends) (omega (arith, six_length r p q, count earlier.After-total-cells)) c.fill6.ensures)
+    let earlier = (goal.at.returns c).After-total-cells in
+    let s = c.in_ok-segment.segment in
+    let (p_is, q_is) = c.in_ok-segment.ensures in
+    let r = by_rule c.args.rule s.p s.q in
+    rw (← p_is, ← q_is)
+    (subst (λ n. Line6 c.args.rule s.p s.q c.args.out.now (Ok n) c.fill6.new.out) (six_length r s.p s.q ∙ ap (λ k. k + 1) (count earlier))
+    (listed_all (six_line r s.p s.q) (ends_check s.p s.q) c.args.out.now _ (segment_fine s)
+    (omega (arith, six_length r s.p s.q, count earlier)) c.fill6.ensures))

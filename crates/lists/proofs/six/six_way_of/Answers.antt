@@ -21,14 +21,13 @@ unit_of p q hp hq a {r} e = ap held is ∙ small_held (unit (on p a) (on q a)) (
 
 pub returns : goal.returns
 returns c =
-    let (hp, hq, is, short) = c.requires in
-    let p = c.args.p in
-    let q = c.args.q in
+    let s = c.args.segment in
+    let k = s.measured in
     record {
       towards = λ i. record {
-        x = unit_of p q hp hq X c.unit_to.ensures i;
-        y = unit_of p q hp hq Y c.unit_to-2.ensures i;
-        z = unit_of p q hp hq Z c.unit_to-3.ensures i;
+        x = unit_of s.p s.q k.p_in k.q_in X c.unit_to.ensures i;
+        y = unit_of s.p s.q k.p_in k.q_in Y c.unit_to-2.ensures i;
+        z = unit_of s.p s.q k.p_in k.q_in Z c.unit_to-3.ensures i;
       };
-      twice = c.twice.ensures ∙ ap doubled is;
+      twice = c.twice.ensures ∙ ap doubled k.is;
     }

@@ -16,10 +16,10 @@ pace_is p q D {M} {last} f g e h = h ∙ ap₂ (λ u v. pace u v D last) (held_i
 
 pub returns : goal.returns
 returns c =
-    let p = c.args.p in
-    let q = c.args.q in
-    let d = c.args.d in
-    let e = c.requires.1 in
+    let p = c.args.segment.p in
+    let q = c.args.segment.q in
+    let d = c.args.segment.d in
+    let e = c.requires in
     λ i. record {
       x = pace_is p.x q.x d.a (search rules) (search rules) e c.pace_of.ensures i;
       y = pace_is p.y q.y d.b (search rules) (search rules) e c.pace_of-2.ensures i;
