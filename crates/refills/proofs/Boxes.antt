@@ -15,8 +15,9 @@ use Rattle.grids.specs.Grid.{index}
 use Rattle.grids.proofs.Places.{x_at, y_at, z_at, index_of_cell}
 use Rattle.bricks.specs.Bricks.{bricks, brick_there}
 use Rattle.bricks.specs.declared.Slot.{Slot}
+use Rattle.refills.specs.declared.Corners.{Corners}
 use Rattle.refills.specs.Boxes.{brick_of, between, in_box, in_box_at, box_put}
-use Rattle.refills.specs.Rows.{Boxed, In, tall, deep, rows, row_number}
+use Rattle.refills.specs.Rows.{InCounts, Boxed, In, tall, deep, rows, row_number}
 
 -- ---- tests joined
 
@@ -81,6 +82,22 @@ boxed_bricks n lo hi box = record { x = part _ _ _ box.x; y = part _ _ _ box.y; 
   where
     part : (a b c : ℕ) → (a ≤ b) × (b < c) × (c ≤ 1024) → (a / 4 ≤ b / 4) × (b / 4 < (c + 3) / 4) × ((c + 3) / 4 ≤ 1024)
     part a b c h = omega arith
+
+-- ---- corners
+
+-- two corners make a box of the grid that the high one lies in
+pub box_of : (n : Counts) (c : Corners) → InCounts n c.hi → Boxed n c.lo c.hi
+box_of n c h =
+    let (x, y, z) = c.ordered in
+    record { x = (x, h.x.0, h.x.1); y = (y, h.y.0, h.y.1); z = (z, h.z.0, h.z.1) }
+
+-- and one cell a box of one
+pub box_of_one : (n : Counts) (c : Slot) → InCounts n c → Boxed n c c
+box_of_one n c h = record { x = omega (arith, h.x); y = omega (arith, h.y); z = omega (arith, h.z) }
+
+-- of a box that lies in a grid the high corner does
+pub high_within : (n : Counts) (lo hi : Slot) → Boxed n lo hi → InCounts n hi
+high_within n lo hi h = record { x = (h.x.1, h.x.2); y = (h.y.1, h.y.2); z = (h.z.1, h.z.2) }
 
 -- ---- a list changed in a box
 

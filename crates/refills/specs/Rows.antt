@@ -25,6 +25,12 @@ pub record Boxed (n : Counts) (lo hi : Slot) : Type 0 where
   pub y : (lo.y ≤ hi.y) × (hi.y < n.ny) × (n.ny ≤ 1024)
   pub z : (lo.z ≤ hi.z) × (hi.z < n.nz) × (n.nz ≤ 1024)
 
+-- c is one of the cells, or bricks, of a grid of at most 1,024 a side
+pub record InCounts (n : Counts) (c : Slot) : Type 0 where
+  pub x : (c.x < n.nx) × (n.nx ≤ 1024)
+  pub y : (c.y < n.ny) × (n.ny ≤ 1024)
+  pub z : (c.z < n.nz) × (n.nz ≤ 1024)
+
 -- (x, y, z) is in the box
 pub record In (lo hi : Slot) (x y z : ℕ) : Type 0 where
   pub across : (lo.x ≤ x) × (x ≤ hi.x)

@@ -9,7 +9,7 @@ ghost use Rattle.bricks.specs.Sums.{digit, bit};
 ghost use Rattle.bricks.specs.Bricks.{bricks, mask_at, bit_there};
 ghost use Rattle.bricks.specs.Rows.{brick_number, RowOfBricks};
 ghost use Rattle.refills.specs.Boxes.{corner, brick_of};
-ghost use Rattle.refills.specs.Rows.{Natural, Boxed, wide, rows, row_slot, BoxFilled, box_sum, row_agreed, box_agreed, Looked};
+ghost use Rattle.refills.specs.Rows.{Natural, InCounts, wide, rows, row_slot, BoxFilled, box_sum, row_agreed, box_agreed, Looked};
 ghost use Rattle.refills.specs.Refills.{crossed, box_check, bad_total, Refills, Sets};
 
 use bricks::Slot;
@@ -50,7 +50,7 @@ fn corner_of(c: Cell) -> Slot
     }
 }
 
-// ---- rows of a box
+// ---- a box and its rows
 
 // The corner's brick.
 fn brick_of(c: Slot) -> Slot
@@ -63,32 +63,51 @@ fn brick_of(c: Slot) -> Slot
     }
 }
 
-// How long a row of a box is.
-fn row_width(lo: Slot, hi: Slot) -> usize
-    requires { (lo.x ≤ hi.x) × (hi.x < 1024) }
-    ensures { result ≡ wide lo hi }
-{
-    hi.x - lo.x + 1
+// A box by its two corners, low and high, both included: of cells, or of bricks.
+#[derive(Clone, Copy)]
+struct Corners {
+    lo: Slot,
+    hi: Slot,
+    ghost ordered: { (lo.x ≤ hi.x) × (lo.y ≤ hi.y) × (lo.z ≤ hi.z) },
+    ghost small: { (hi.x < 1024) × (hi.y < 1024) × (hi.z < 1024) },
 }
 
-// How many rows a box has.
-fn row_count(lo: Slot, hi: Slot) -> usize
-    requires { (lo.y ≤ hi.y) × (hi.y < 1024) × (lo.z ≤ hi.z) × (hi.z < 1024) }
-    ensures { (result ≡ rows lo hi) × (result ≤ 1048576) }
-{
-    (hi.y - lo.y + 1) * (hi.z - lo.z + 1)
-}
+impl Corners {
+    // The bricks of its cells, which are a box too.
+    fn bricks(self) -> Corners
+        ensures { (result.lo ≡ brick_of self.lo) × (result.hi ≡ brick_of self.hi) }
+    {
+        Corners {
+            lo: brick_of(self.lo),
+            hi: brick_of(self.hi),
+        }
+    }
 
-// Where row r of a box starts: its rows lie in y first, then in z.
-fn row_slot(lo: Slot, hi: Slot, r: usize) -> Slot
-    requires { (lo.y ≤ hi.y) × (hi.y < 1024) × (lo.z ≤ hi.z) × (hi.z < 1024) × (r < rows lo hi) }
-    ensures { result ≡ row_slot lo hi r }
-{
-    let tall = hi.y - lo.y + 1;
-    Slot {
-        x: lo.x,
-        y: lo.y + r % tall,
-        z: lo.z + r / tall,
+    // How long a row is.
+    fn width(self) -> usize
+        ensures { result ≡ wide self.lo self.hi }
+    {
+        self.hi.x - self.lo.x + 1
+    }
+
+    // How many rows there are.
+    fn rows(self) -> usize
+        ensures { (result ≡ rows self.lo self.hi) × (result ≤ 1048576) }
+    {
+        (self.hi.y - self.lo.y + 1) * (self.hi.z - self.lo.z + 1)
+    }
+
+    // Where row r starts: the rows lie in y first, then in z.
+    fn row(self, r: usize) -> Slot
+        requires { r < rows self.lo self.hi }
+        ensures { result ≡ row_slot self.lo self.hi r }
+    {
+        let tall = self.hi.y - self.lo.y + 1;
+        Slot {
+            x: self.lo.x,
+            y: self.lo.y + r % tall,
+            z: self.lo.z + r / tall,
+        }
     }
 }
 
@@ -103,13 +122,13 @@ fn fill_row(cells: &mut [u8], from: usize, long: usize, byte: u8)
 }
 
 // Puts a byte into each cell of a box, row by row.
-fn fill_box(n: Counts, cells: &mut [u8], lo: Slot, hi: Slot, byte: u8)
-    requires { Boxed n lo hi × (length cells.old ≡ size n) }
-    ensures { BoxFilled n lo hi (λ _. byte) (rows lo hi) cells.old cells.new }
+fn fill_box(n: Counts, cells: &mut [u8], c: Corners, byte: u8)
+    requires { InCounts n c.hi × (length cells.old ≡ size n) }
+    ensures { BoxFilled n c.lo c.hi (λ _. byte) (rows c.lo c.hi) cells.old cells.new }
 {
-    let wide = row_width(lo, hi);
-    for r in 0..row_count(lo, hi) {
-        let from = bricks::index_in(n, row_slot(lo, hi, r));
+    let wide = c.width();
+    for r in 0..c.rows() {
+        let from = bricks::index_in(n, c.row(r));
         fill_row(cells, from, wide, byte);
     }
 }
@@ -117,15 +136,15 @@ fn fill_box(n: Counts, cells: &mut [u8], lo: Slot, hi: Slot, byte: u8)
 // ---- a box of masks
 
 // Puts the masks of a box of bricks anew, row by row; answers their ones.
-fn fill_brick_box(g: Grid, masks: &mut [u64], lo: Slot, hi: Slot) -> u64
-    requires { Boxed (bricks g.counts) lo hi × (size (bricks g.counts) ≤ length masks.old) }
-    ensures value { result ≡ box_sum (bricks g.entry.counts) lo hi (λ k. ones (mask_at g.entry.counts g.entry.cells.now k)) (rows lo hi) }
-    ensures box_filled { BoxFilled (bricks g.entry.counts) lo hi (mask_at g.entry.counts g.entry.cells.now) (rows lo hi) masks.old masks.new }
+fn fill_brick_box(g: Grid, masks: &mut [u64], c: Corners) -> u64
+    requires { InCounts (bricks g.counts) c.hi × (size (bricks g.counts) ≤ length masks.old) }
+    ensures value { result ≡ box_sum (bricks g.entry.counts) c.lo c.hi (λ k. ones (mask_at g.entry.counts g.entry.cells.now k)) (rows c.lo c.hi) }
+    ensures box_filled { BoxFilled (bricks g.entry.counts) c.lo c.hi (mask_at g.entry.counts g.entry.cells.now) (rows c.lo c.hi) masks.old masks.new }
 {
-    let wide = row_width(lo, hi);
+    let wide = c.width();
     let mut found = 0u64;
-    for r in 0..row_count(lo, hi) {
-        found += bricks::fill_masks(g, masks, row_slot(lo, hi, r), wide);
+    for r in 0..c.rows() {
+        found += bricks::fill_masks(g, masks, c.row(r), wide);
     }
     found
 }
@@ -148,14 +167,14 @@ fn same_masks(g: Grid, masks: &[u64], at: Slot, long: usize) -> Option<u64>
 }
 
 // The ones of the masks of a box of bricks, if they are those of the bytes.
-fn same_box(g: Grid, masks: &[u64], lo: Slot, hi: Slot) -> Option<u64>
-    requires { Boxed (bricks g.counts) lo hi × (size (bricks g.counts) ≤ length masks.now) }
-    ensures { result ≡ box_agreed g.entry.counts lo hi g.entry.cells.now masks.now }
+fn same_box(g: Grid, masks: &[u64], c: Corners) -> Option<u64>
+    requires { InCounts (bricks g.counts) c.hi × (size (bricks g.counts) ≤ length masks.now) }
+    ensures { result ≡ box_agreed g.entry.counts c.lo c.hi g.entry.cells.now masks.now }
 {
-    let wide = row_width(lo, hi);
+    let wide = c.width();
     let mut found = 0u64;
-    for r in 0..row_count(lo, hi) {
-        found += same_masks(g, masks, row_slot(lo, hi, r), wide)?;
+    for r in 0..c.rows() {
+        found += same_masks(g, masks, c.row(r), wide)?;
     }
     Some(found)
 }
@@ -175,22 +194,20 @@ fn refill_box(
     cells: &mut [u8],
     masks: &mut [u64],
     total: u64,
-    lo: Slot,
-    hi: Slot,
+    c: Corners,
     byte: u8,
 ) -> Result<u64, Refusal>
     requires shaped { shape n (length cells.old) ≡ Ok tt }
-    requires boxed { Boxed n lo hi × (size (bricks n) ≤ length masks.old) }
-    ensures { Looked n lo hi byte cells.old masks.old total result cells.new masks.new }
+    requires inside { InCounts n c.hi × (size (bricks n) ≤ length masks.old) }
+    ensures { Looked n c.lo c.hi byte cells.old masks.old total result cells.new masks.new }
 {
-    let first = brick_of(lo);
-    let last = brick_of(hi);
-    let old = same_box(Grid { counts: n, cells }, masks, first, last).ok_or(Refusal::Stale)?;
+    let b = c.bricks();
+    let old = same_box(Grid { counts: n, cells }, masks, b).ok_or(Refusal::Stale)?;
     if bad_total(total, old, cells.len()) {
         return Err(Refusal::Stale);
     }
-    fill_box(n, cells, lo, hi, byte);
-    let new = fill_brick_box(Grid { counts: n, cells }, masks, first, last);
+    fill_box(n, cells, c, byte);
+    let new = fill_brick_box(Grid { counts: n, cells }, masks, b);
     Ok(total - old + new)
 }
 
@@ -222,7 +239,7 @@ fn set_cell(
     byte: u8,
 ) -> Result<u64, Refusal>
     requires shaped { shape n (length cells.old) ≡ Ok tt }
-    requires boxed { Boxed n at at × (size (bricks n) ≤ length masks.old) }
+    requires inside { InCounts n at × (size (bricks n) ≤ length masks.old) }
     ensures { Looked n at at byte cells.old masks.old total result cells.new masks.new }
 {
     let b = brick_of(at);
@@ -254,15 +271,11 @@ pub fn refill(
     ensures { Refills n low high byte cells.old masks.old total result cells.new masks.new }
 {
     check_box(n, cells.len(), masks.len(), low, high)?;
-    refill_box(
-        n,
-        cells,
-        masks,
-        total,
-        corner_of(low),
-        corner_of(high),
-        byte,
-    )
+    let c = Corners {
+        lo: corner_of(low),
+        hi: corner_of(high),
+    };
+    refill_box(n, cells, masks, total, c, byte)
 }
 
 // Gives one cell one byte; answers the total that follows.

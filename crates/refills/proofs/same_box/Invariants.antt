@@ -9,6 +9,6 @@ use Rattle.refills.proofs.same_box.Given as goal
 
 abbrev pub invariant-loop-r : goal.invariant-loop-r
 invariant-loop-r l = record {
-  right : any (row_wrong l.g.counts l.g.cells.now l.masks l.lo l.hi) l.r ≡ false;
-  value : l.found ≡ box_sum (bricks l.g.counts) l.lo l.hi (λ k. ones (mask_at l.g.counts l.g.cells.now k)) l.r;
+  right : any (row_wrong l.g.counts l.g.cells.now l.masks l.c.lo l.c.hi) l.r ≡ false;
+  value : l.found ≡ box_sum (bricks l.g.counts) l.c.lo l.c.hi (λ k. ones (mask_at l.g.counts l.g.cells.now k)) l.r;
 }

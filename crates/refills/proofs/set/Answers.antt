@@ -4,6 +4,7 @@ use Rattle.std.specs.Prelude.{Ok}
 use lib.ListN.{length}
 use Rattle.bricks.proofs.Building.{shape_fine, masks_lent}
 use Rattle.refills.specs.Refills.{box_check}
+use Rattle.refills.proofs.Boxes.{high_within}
 use Rattle.refills.proofs.Checked.{natural, bricks_fine, low_in, counts_shaped, boxed, looked_at}
 use Rattle.refills.proofs.set.Goals as goal
 use Rattle.refills.proofs.set.Goals.{In_ok-check_box}
@@ -20,10 +21,10 @@ pub set_cell-requires-clause-shaped : goal.set_cell-requires-clause-shaped
 set_cell-requires-clause-shaped c =
     let e = fine ((goal.at.set_cell-requires-clause-shaped c).In_ok-check_box) in shape_fine _ _ _ (bricks_fine _ _ _ _ _ e)
 
-pub set_cell-requires-clause-boxed : goal.set_cell-requires-clause-boxed
-set_cell-requires-clause-boxed c =
-    let e = fine ((goal.at.set_cell-requires-clause-boxed c).In_ok-check_box) in
-    (rw c.corner_of.ensures (boxed _ _ _ _ _ e), masks_lent _ _ _ (bricks_fine _ _ _ _ _ e))
+pub set_cell-requires-clause-inside : goal.set_cell-requires-clause-inside
+set_cell-requires-clause-inside c =
+    let e = fine ((goal.at.set_cell-requires-clause-inside c).In_ok-check_box) in
+    (rw c.corner_of.ensures (high_within _ _ _ (boxed _ _ _ _ _ e)), masks_lent _ _ _ (bricks_fine _ _ _ _ _ e))
 
 pub returns : goal.returns
 returns c =
