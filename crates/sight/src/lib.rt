@@ -66,7 +66,7 @@ fn walked(n: Counts, cells: &[u8], p: Cell, q: Cell, how: Manner) -> FirstHit
         cells,
         route: routes::route_of(n, p, q, how.rule),
     };
-    let stop = hits::walk_adaptive(lane, routes::first_spot(lane.route), how);
+    let stop = hits::walk_adaptive(lane, how);
     hits::answer_of(lane, stop, how)
 }
 

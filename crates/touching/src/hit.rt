@@ -157,10 +157,11 @@ fn starts_solid(cells: &[u8], s: Spot, how: Manner) -> bool
 }
 
 // The walk: P, where it is tested, then the ties.
-fn walk_touching(lane: Lane, start: Spot, how: Manner) -> Turn
-    requires { (lane.route.order ≡ Yzx) × SpotAt lane.route (at 0 0 0) start }
+fn walk_touching(lane: Lane, how: Manner) -> Turn
+    requires { lane.route.order ≡ Yzx }
     ensures { StopsTouching how.start lane.entry.cells.now lane.entry.route result }
 {
+    let start = routes::first_spot(lane.route);
     if starts_solid(lane.cells, start, how) {
         return Turn {
             spot: start,
@@ -191,7 +192,7 @@ fn touching_answer(lane: Lane, how: Manner) -> FirstHit
         cells: lane.cells,
         route: told_from(lane.route),
     };
-    let t = walk_touching(lane, routes::first_spot(lane.route), how);
+    let t = walk_touching(lane, how);
     if t.hit {
         let none = Tripod {
             xy: 0,

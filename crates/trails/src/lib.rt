@@ -97,7 +97,7 @@ fn fill(lane: Lane, count: u32, out: &mut [i32])
 fn list_along(lane: Lane, how: Manner, out: &mut [i32]) -> Result<u32, Refusal>
     ensures { Lists (walked lane.entry.cells.now lane.entry.route how.start) (Ok tt) out.old result out.new }
 {
-    let count = hits::walk_adaptive(lane, routes::first_spot(lane.route), how).reads;
+    let count = hits::walk_adaptive(lane, how).reads;
     if out.len() < 3 * (count as usize) {
         return Err(Refusal::Room);
     }

@@ -18,11 +18,11 @@ faces c = c.total.ensures ∙ ap total c.args.lane.planned.is
 -- the faces are the plain walk's, the first of them from a cell that is tested or not
 crossing : (c : After-tests_start) →
     let a = c.args in
-    Crossing a.how.start a.lane.cells.now a.lane.route c.tests_start.result a.start 0 c.total.result suc 0
+    Crossing a.how.start a.lane.cells.now a.lane.route c.tests_start.result c.first_spot-start.result 0 c.total.result suc 0
 crossing c =
     let a = c.args in
-    subst (λ t. Crossing a.how.start a.lane.cells.now a.lane.route t a.start 0 c.total.result suc 0) (sym c.tests_start.ensures)
-    (all_faces a.how.start _ a.lane.route c.args.lane.planned a.lane.cells.now a.start _ c.requires (faces ((goal.at.walk_from-t-requires c).After-total)))
+    subst (λ t. Crossing a.how.start a.lane.cells.now a.lane.route t c.first_spot-start.result 0 c.total.result suc 0) (sym c.tests_start.ensures)
+    (all_faces a.how.start _ a.lane.route c.args.lane.planned a.lane.cells.now c.first_spot-start.result _ c.first_spot-start.ensures (faces ((goal.at.walk_from-t-requires c).After-total)))
 
 pub walk_from-t-requires : goal.walk_from-t-requires
 walk_from-t-requires c = record { from = c.args.how.start; next = suc; number = 0; crossing = crossing ((goal.at.walk_from-t-requires c).After-tests_start) }
@@ -30,7 +30,7 @@ walk_from-t-requires c = record { from = c.args.how.start; next = suc; number = 
 -- what the faces came to
 came : (c : After-walk_from-t) →
     let a = c.args in
-    Crossing a.how.start a.lane.cells.now a.lane.route c.tests_start.result a.start 0 c.total.result suc 0 →
+    Crossing a.how.start a.lane.cells.now a.lane.route c.tests_start.result c.first_spot-start.result 0 c.total.result suc 0 →
     let r = c.walk_from-t.result in
     Outcome a.how.start a.lane.cells.now a.lane.route suc (0 + c.total.result) r.hit r.spot r.reads
 came c faces = c.walk_from-t.ensures.leads c.args.how.start suc 0 faces
