@@ -12,7 +12,7 @@ use Rattle.cells.specs.declared.Counts.{Counts}
 use Rattle.grids.specs.Grid.{cell_at, clear, solid}
 use Rattle.grids.specs.Marks.{any, touches_solid, marked_byte, complete}
 use Rattle.cells.specs.Fills.{Filled}
-use Rattle.marks.specs.Rows.{in_column, Shows, Framed, beside, mark_for, put_byte, gap_by, gap}
+use Rattle.marks.specs.Rows.{in_column, Sees, Framed, beside, mark_for, put_byte, gap_by, gap}
 use Rattle.grids.proofs.Any.{same_test, any_same, any_some, any_which, any_false}
 use Rattle.grids.specs.Inside.{Shaped}
 use Rattle.grids.proofs.Beside.{touches_beside, beside_touches}
@@ -36,8 +36,8 @@ filled_same k n from to l m h = record { long = h.long; alike = alike }
 
 -- ---- a row's window
 
-module _ (n : Counts) (l : List ℕ) (s : Shaped n (length l)) (r : ℕ) (below : r < n.ny * n.nz) (entry w : List ℕ)
-    (seen : Shows (in_column n l r) n.nx entry w) (framed : Framed n.nx entry) where
+module _ (n : Counts) (l : List ℕ) (s : Shaped n (length l)) (r : ℕ) (below : r < n.ny * n.nz) (w : List ℕ)
+    (sees : Sees (in_column n l r) n.nx w) (framed : Framed n.nx w) where
   -- the cell of byte x of row r
   row_x : (x : ℕ) → x < n.nx → (n.nx * r + x) % n.nx ≡ x
   row_x x h = mul-add-mod_self_left n.nx r x ∙ mod-eq_of_lt h
@@ -51,8 +51,8 @@ module _ (n : Counts) (l : List ℕ) (s : Shaped n (length l)) (r : ℕ) (below 
   -- a cell of the row that is not solid touches a solid one exactly when the window says so
   pub window_tells : (x : ℕ) → x < n.nx → solid (get_or l (n.nx * r + x) 0) ≡ false → beside w x ≡ touches_solid 3 n l (cell_at n (n.nx * r + x))
   window_tells x h soft =
-      same_test _ _ (λ t. beside_touches n l s i soft (rw (row_x x h, row_of x h, row_z x h) (window_beside n l s r below entry w seen framed x h t)))
-      (λ t. beside_window n l s r below entry w seen framed x (rw (row_x x h, row_of x h, row_z x h) at (touches_beside n l s 3 i t)))
+      same_test _ _ (λ t. beside_touches n l s i soft (rw (row_x x h, row_of x h, row_z x h) (window_beside n l s r below w sees framed x h t)))
+      (λ t. beside_window n l s r below w sees framed x (rw (row_x x h, row_of x h, row_z x h) at (touches_beside n l s 3 i t)))
     where
       i : ℕ
       i = n.nx * r + x

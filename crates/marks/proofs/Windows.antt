@@ -4,15 +4,15 @@ use native.Mathlib.Nat.{le_refl, mul-le-mul_left, mod-lt, div-lt_iff_lt-mul, mul
 use native.Mathlib.Numerals.{add-one}
 use native.Mathlib.Omega.{arith}
 use native.Mathlib.Decide.{dec_lt}
-use mathlib.Core.Path.{◌≡◌, refl, sym, ap, ◌∙◌}
+use mathlib.Core.Path.{◌≡◌, sym, ap, ◌∙◌}
 use mathlib.Core.Bool.{Bool, true, false, ◌&&◌, true≢false, ◌||◌}
 use mathlib.Core.Logic.{⊎_elim}
 use mathlib.Core.List.{List}
-use lib.ListN.{length, get_or, replicate, length-replicate}
+use lib.ListN.{length, get_or}
 use Rattle.cells.specs.declared.Counts.{Counts}
 use Rattle.grids.specs.Grid.{index, clear, solid}
 use Rattle.marks.specs.declared.Three.{Three}
-use Rattle.marks.specs.Rows.{of_three, lowest, highest, nearby, starts, Within, in_rows, in_column, Shows, Framed, beside, gap_by}
+use Rattle.marks.specs.Rows.{of_three, lowest, highest, nearby, starts, Within, in_rows, in_column, Shows, Sees, Framed, beside, gap_by}
 use Rattle.grids.proofs.Any.{or_true, or_either, any_zero, any_more}
 use Rattle.grids.specs.Inside.{Shaped}
 use Rattle.grids.proofs.Beside.{Next, SolidBeside}
@@ -72,37 +72,9 @@ within_as fewer more le ge h =
 -- ---- what a window shows
 
 -- p, then q too
-pub shows_then : {p : ℕ → Bool} (q : ℕ → Bool) {nx : ℕ} {a b c : List ℕ} → Shows p nx a b → Shows (λ x. solid (get_or b (x + 1) 0) || q x) nx b c →
-    Shows (λ x. p x || q x) nx a c
-shows_then q h k =
-    record {
-      long = k.long ∙ h.long;
-      over = λ x lt. k.over x lt ∙ ap (λ (t : Bool). t || q x) (h.over x lt);
-      before = k.before ∙ h.before;
-      after = λ j lt. k.after j lt ∙ h.after j lt;
-    }
-
--- the same by another name
-pub shows_as : {p q : ℕ → Bool} {nx : ℕ} {a b : List ℕ} → ((x : ℕ) → p x ≡ q x) → Shows p nx a b → Shows q nx a b
-shows_as same h = record { long = h.long; over = λ x lt. h.over x lt ∙ same x; before = h.before; after = h.after }
-
--- a window keeps its frame
-pub shows_framed : {p : ℕ → Bool} {nx : ℕ} {a b : List ℕ} → Shows p nx a b → Framed nx a → Framed nx b
-shows_framed {p} {nx} h f =
-    record {
-      room = rw h.long f.room;
-      left = ap solid h.before ∙ f.left;
-      right = ap solid (h.after (nx + 1) (omega arith)) ∙ f.right;
-    }
-
--- a fresh list of zeros
-blank : (m k : ℕ) → ◌≡◌ {A = ℕ} (get_or (replicate m 0) k 0) 0
-blank zero k = refl
-blank (suc m) zero = refl
-blank (suc m) (suc k) = blank m k
-
-pub framed_blank : (nx m : ℕ) → nx + 1 < m → Framed nx (replicate m 0)
-framed_blank nx m h = record { room = rw (length-replicate {A = ℕ} m 0) h; left = ap solid (blank m 0); right = ap solid (blank m (nx + 1)) }
+pub sees_then : {p : ℕ → Bool} (q : ℕ → Bool) {nx : ℕ} {a b : List ℕ} → Sees p nx a → Shows (λ x. solid (get_or a (x + 1) 0) || q x) nx a b →
+    Sees (λ x. p x || q x) nx b
+sees_then q h k = λ x lt. k.over x lt ∙ ap (λ (t : Bool). t || q x) (h x lt)
 
 pub no_gap_yet : (w l : List ℕ) (from : ℕ) → gap_by w l from 0 ≡ false
 unfolding gap_by
@@ -154,18 +126,15 @@ module _ (n : Counts) (l : List ℕ) (s : Shaped n (length l)) (r : ℕ) (below 
       nearby_some (λ z. nearby (solid_at b.x' z) (r % n.ny) n.ny) (r / n.ny) n.nz b.z' b.on_z
       (nearby_some (solid_at b.x' b.z') (r % n.ny) n.ny b.y' b.on_y b.is_solid)
 
-  module _ (entry w : List ℕ) (seen : Shows (in_column n l r) n.nx entry w) (framed : Framed n.nx entry) where
-    edges : Framed n.nx w
-    edges = shows_framed seen framed
-
+  module _ (w : List ℕ) (sees : Sees (in_column n l r) n.nx w) (framed : Framed n.nx w) where
     -- where a window has a solid byte, a column of the row has one
     window_has : (k : ℕ) → k ≤ n.nx + 1 → solid (get_or w k 0) ≡ true → (x : ℕ) × (k ≡ x + 1) × (x < n.nx) × (in_column n l r x ≡ true)
-    window_has zero le e = absurd (true≢false (sym e ∙ edges.left))
+    window_has zero le e = absurd (true≢false (sym e ∙ framed.left))
     window_has (suc x) le e = elim (dec_lt x n.nx)
-        [ yes lt ↦ (x, omega arith, lt, sym (seen.over x lt) ∙ rw (add-one x) e) | no ge ↦ absurd (none (omega arith)) ]
+        [ yes lt ↦ (x, omega arith, lt, sym (sees x lt) ∙ rw (add-one x) e) | no ge ↦ absurd (none (omega arith)) ]
       where
         none : suc x ≡ n.nx + 1 → ⊥
-        none q = true≢false (sym e ∙ rw q edges.right)
+        none q = true≢false (sym e ∙ rw q framed.right)
 
     pub window_beside : (x : ℕ) → x < n.nx → beside w x ≡ true → SolidBeside n l x (r % n.ny) (r / n.ny)
     window_beside x lt =
@@ -181,4 +150,4 @@ module _ (n : Counts) (l : List ℕ) (s : Shaped n (length l)) (r : ℕ) (below 
     beside_window x b =
         let up = b.on_x.up in let down = b.on_x.down in
         three_some (λ k. solid (get_or w k 0)) x (x + 1) (x + 2) (b.x' + 1) (omega arith) (omega arith) (omega arith) (omega arith)
-        (seen.over b.x' b.on_x.inside ∙ beside_column b)
+        (sees b.x' b.on_x.inside ∙ beside_column b)

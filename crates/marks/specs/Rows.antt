@@ -47,6 +47,10 @@ pub record Shows (p : ℕ → Bool) (nx : ℕ) (entry exit : List ℕ) : Type 0 
   pub before : get_or exit 0 0 ≡ get_or entry 0 0
   pub after : (k : ℕ) → nx < k → get_or exit k 0 ≡ get_or entry k 0
 
+-- a window has a solid byte for x exactly where p x holds
+abbrev pub Sees : (ℕ → Bool) → (nx : ℕ) → (w : List ℕ) → Type 0
+Sees p nx w = (x : ℕ) → x < nx → solid (get_or w (x + 1) 0) ≡ p x
+
 -- a window has room for a row of nx bytes, and a byte that is not solid at each end of it
 pub record Framed (nx : ℕ) (w : List ℕ) : Type 0 where
   pub room : nx + 1 < length w

@@ -1,4 +1,4 @@
--- `marks::has_gap` meets its contract: after r turns no cell of the first r rows is a gap, and the window has its frame. Assumes nothing.
+-- `marks::has_gap` meets its contract: after r turns no cell of the first r rows is a gap. Assumes nothing.
 use Prim.Native.Nat.{◌*◌}
 use native.Mathlib.Omega.{arith}
 use mathlib.Core.Path.{◌≡◌, sym, ◌∙◌}
@@ -10,16 +10,14 @@ use Rattle.marks.proofs.has_gap.Goals as goal
 pub returns-then-gap_in_row : goal.returns-then-gap_in_row
 returns-then-gap_in_row c =
     let fits = row_within _ _ _ (shaped _ _ c.args.g.shaped) c.loop-r-test.true in
-    sym (some_gap c.args.g.counts c.args.g.cells.now c.loop-r.r fits (sym c.gap_in_row.ensures.value ∙ c.if-gap_in_row.true))
+    sym (some_gap c.args.g.counts c.args.g.cells.now c.loop-r.r fits (sym c.gap_in_row.ensures ∙ c.if-gap_in_row.true))
 
 pub loop-r-preserved : goal.loop-r-preserved
-loop-r-preserved c =
-    let g = c.gap_in_row.ensures in
-    record { none = no_gap_more _ _ c.loop-r.r c.loop-r.invariant.none (sym g.value ∙ c.if-gap_in_row.false); framed = g.framed }
+loop-r-preserved c = no_gap_more _ _ c.loop-r.r c.loop-r.invariant (sym c.gap_in_row.ensures ∙ c.if-gap_in_row.false)
 
 pub returns : goal.returns
 returns c =
     let a = c.args in
     let e : c.loop-r.r ≡ a.g.counts.ny * a.g.counts.nz = omega arith in
     let all = (shaped _ _ c.args.g.shaped).by_rows in
-    sym (any_none _ _ (rw (e, sym all) at c.loop-r.invariant.none))
+    sym (any_none _ _ (rw (e, sym all) at c.loop-r.invariant))

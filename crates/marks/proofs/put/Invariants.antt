@@ -1,7 +1,0 @@
-use Prim.Native.Nat.{◌+◌}
-use Rattle.cells.specs.Fills.{Filled}
-use Rattle.marks.specs.Rows.{put_byte}
-use Rattle.marks.proofs.put.Given as goal
-
-abbrev pub invariant-loop-x : goal.invariant-loop-x
-invariant-loop-x l = Filled (put_byte l.window l.initial.cells l.from) l.from (l.from + l.x) l.initial.cells l.cells

@@ -1,5 +1,0 @@
-use Rattle.marks.specs.Rows.{Shows, in_rows}
-use Rattle.marks.proofs.set_rows.Given as goal
-
-abbrev pub invariant-loop-at : goal.invariant-loop-at
-invariant-loop-at l = Shows (in_rows l.cells l.rows) l.at l.initial.window l.window
