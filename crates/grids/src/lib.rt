@@ -110,7 +110,8 @@ fn off_axis(v: i32, count: u32) -> bool
     v < 0 || 0 <= v - count as i32
 }
 
-// An end inside the grid, or refusal 5 with the first axis on which it is not.
+// An end inside the grid, or refusal 5 with the first axis on which it is not. That the counts passed their test is asked of them alone: where a box or a
+// walk is tested there is no `Grid` yet.
 fn check_end(e: End, n: Counts, c: Cell) -> Result<(), Refusal>
     requires { Counted n }
     ensures { result ≡ grid_check e n c }

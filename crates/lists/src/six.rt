@@ -20,7 +20,8 @@ pub struct SixWay {
     pub twice: Doubled,
 }
 
-// A place of a line: its cell and its decision values.
+// A place of a line: its cell and its decision values. Apart from the walks' `Spot`, whose `at` is the number of a byte: their steps are other code, and one
+// type over both would have no function of its own.
 #[derive(Clone, Copy)]
 pub struct SixSpot {
     pub at: Cell,

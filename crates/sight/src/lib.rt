@@ -11,6 +11,7 @@ ghost use Rattle.survey.specs.Survey.{PlacedGrid, placement_check};
 ghost use Rattle.sight.specs.Sight.{share_of, sight_of, looked, Sees};
 
 use cells::{Cell, Counts, End, Face, Manner, Refusal};
+use grids::Grid;
 use routes::Lane;
 use survey::{Placement, Point};
 use walks::FirstHit;
@@ -71,19 +72,19 @@ fn walked(n: Counts, cells: &[u8], p: Cell, q: Cell, how: Manner) -> FirstHit
 }
 
 // Where shape and placement passed their tests: the camera's refusal first, then the ball's.
-fn look(n: Counts, cells: &[u8], at: Placement, camera: Point, ball: Point, how: Manner) -> Sight
-    requires { (shape n (length cells.now) ≡ Ok tt) × PlacedGrid n at }
-    ensures { result ≡ looked how n cells.now at camera ball }
+fn look(g: Grid, at: Placement, camera: Point, ball: Point, how: Manner) -> Sight
+    requires { PlacedGrid g.counts at }
+    ensures { result ≡ looked how g.entry.counts g.entry.cells.now at camera ball }
 {
-    let from = survey::look_up(End::P, n, at, camera);
+    let from = survey::look_up(End::P, g.counts, at, camera);
     let Ok(p) = from else {
         return Sight::Refused(from.unwrap_err());
     };
-    let to = survey::look_up(End::Q, n, at, ball);
+    let to = survey::look_up(End::Q, g.counts, at, ball);
     let Ok(q) = to else {
         return Sight::Refused(to.unwrap_err());
     };
-    sight_of(walked(n, cells, p, q, how))
+    sight_of(walked(g.counts, g.cells, p, q, how))
 }
 
 // What is tested before any point: refusals 2, 3, then 7.
@@ -101,6 +102,6 @@ pub fn see(n: Counts, cells: &[u8], at: Placement, camera: Point, ball: Point, h
 {
     match check(n, cells.len(), at) {
         Err(r) => Sight::Refused(r),
-        Ok(()) => look(n, cells, at, camera, ball, how),
+        Ok(()) => look(Grid { counts: n, cells }, at, camera, ball, how),
     }
 }

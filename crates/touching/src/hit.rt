@@ -108,7 +108,8 @@ fn tie_turn(lane: Lane, s: Spot, reads: u32) -> TieTurn
 }
 
 // From P, which is passed, from tie to tie: to the first solid cell, or to Q. A tie of one axis, the most frequent, is passed here: then the cells read grow
-// with the faces, and one number counts both; `more` is how many more they are. A turn passes one, two or three faces.
+// with the faces, and one number counts both; `more` is how many more they are. A turn passes one, two or three faces. That ties go by
+// y, z, x is asked here and of the two callers alone: a lane of a type of its own would say no more.
 fn walk_ties(lane: Lane, start: Spot) -> Turn
     requires { (lane.route.order ≡ Yzx) × SpotAt lane.route (at 0 0 0) start }
     ensures { WalksTies lane.entry.cells.now lane.entry.route result }

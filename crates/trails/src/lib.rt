@@ -11,7 +11,8 @@ ghost use Rattle.trails.specs.Standing.{stand_cells, walked, CanList, CanPass, P
 use cells::{Axis, Cell, Counts, Manner, Refusal};
 use routes::{Lane, Route, Spot};
 
-// Where the walk stands, and how many faces lead to the next cell of the 26-line; none where it stands on one.
+// Where the walk stands, and how many faces lead to the next cell of the 26-line; none where it stands on one. Apart from `runs::Run`,
+// whose number counts long steps.
 #[derive(Clone, Copy)]
 pub struct Stand {
     pub spot: Spot,

@@ -2,7 +2,7 @@
 use lib.ListN.{length}
 use Rattle.walks.specs.declared.Walker.TheVariants.{Adaptive}
 use Rattle.routes.specs.Route.{Planned}
-use Rattle.routes.proofs.Accepting.{ends_enclosed, route_planned, p_enclosed}
+use Rattle.routes.proofs.Accepting.{ends_enclosed, route_planned}
 use Rattle.hits.proofs.Answering.{stop_byte, stop_found, found_finds}
 use Rattle.sight.proofs.walked.Goals as goal
 use Rattle.sight.proofs.walked.Goals.{After-route_of}
@@ -12,9 +12,6 @@ route_of-requires c = ends_enclosed _ _ _ _ c.requires
 
 planned : (c : After-route_of) → Planned (length c.args.cells.now) c.route_of.result
 planned c = route_planned _ _ _ _ c.requires _ _ c.route_of.ensures
-
-pub first_spot-requires : goal.first_spot-requires
-first_spot-requires c = p_enclosed (planned ((goal.at.first_spot-requires c).After-route_of))
 
 pub invariant_of-lane : goal.invariant_of-lane
 invariant_of-lane c = record { planned = planned ((goal.at.invariant_of-lane c).After-route_of) }
