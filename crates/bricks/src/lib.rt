@@ -14,7 +14,7 @@ ghost use Rattle.bricks.specs.Builds.{bricks_check, Builds};
 use cells::{Counts, Refusal};
 use grids::Grid;
 
-// A cell of the grid, or a brick, by natural numbers.
+// A cell of the grid, or a brick, by natural numbers: the README's slot, and so no `Each`.
 #[derive(Clone, Copy)]
 pub struct Slot {
     pub x: usize,

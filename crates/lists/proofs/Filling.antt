@@ -86,6 +86,21 @@ C o p q = centres (prefers o) (differences p q)
 pub six_start : (o : Order) (p q : Cell) (s : SixSpot) → SixSpotAt o p q (at 0 0 0) s → SixSpotAt o p q (place (C o p q) 0) s
 six_start o p q s = subst (λ t. SixSpotAt o p q t s) (fun_ext (λ a. no_steps a ∙ sym (place_start (C o p q) a)))
 
+-- the loop starts at P, on its way to q, with so many crossings before it
+pub record Begun (o : Order) (p q : Cell) (w : SixWay) (s : SixSpot) (crossings : ℕ) : Type 0 where
+  pub way : SixWayOf p q w
+  pub spot : SixSpotAt o p q (place (C o p q) 0) s
+  pub count : crossings ≡ total (differences p q)
+
+pub begins : (o : Order) (p q : Cell) (w : SixWay) (s : SixSpot) (crossings : ℕ) → SixWayOf p q w → SixSpotAt o p q (at 0 0 0) s →
+    crossings ≡ total (differences p q) → Begun o p q w s crossings
+begins o p q w s crossings way spot count =
+    record {
+      way = way;
+      spot = subst (λ t. SixSpotAt o p q t s) (fun_ext (λ a. no_steps a ∙ sym (place_start (C o p q) a))) spot;
+      count = count;
+    }
+
 module _ (o : Order) (p q : Cell) (w : SixWay) (way : SixWayOf p q w) where
   pub six_turn :
       (m : ℕ) (s : SixSpot) (n : Axis) → m < total (differences p q) → SixSpotAt o p q (place (C o p q) m) s → NextFace s.e n →

@@ -76,6 +76,17 @@ pub sees_then : {p : ℕ → Bool} (q : ℕ → Bool) {nx : ℕ} {a b : List ℕ
     Sees (λ x. p x || q x) nx b
 sees_then q h k = λ x lt. k.over x lt ∙ ap (λ (t : Bool). t || q x) (h x lt)
 
+-- the same of two passes from one window to the next
+pub shows_then : {p : ℕ → Bool} (q : ℕ → Bool) {nx : ℕ} {a b c : List ℕ} → Shows p nx a b → Shows (λ x. solid (get_or b (x + 1) 0) || q x) nx b c →
+    Shows (λ x. p x || q x) nx a c
+shows_then q h k =
+    record {
+      long = k.long ∙ h.long;
+      over = λ x lt. k.over x lt ∙ ap (λ (t : Bool). t || q x) (h.over x lt);
+      before = k.before ∙ h.before;
+      after = λ j lt. k.after j lt ∙ h.after j lt;
+    }
+
 pub no_gap_yet : (w l : List ℕ) (from : ℕ) → gap_by w l from 0 ≡ false
 unfolding gap_by
 no_gap_yet w l from = any_zero _

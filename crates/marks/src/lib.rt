@@ -164,7 +164,7 @@ impl Window {
     }
 }
 
-// Marks row r.
+// Marks row r. Where bytes are lent to be written, they stay apart from their counts: a `Grid` lends them to be read.
 fn mark_row(n: Counts, cells: &mut [u8], r: usize, window: &mut Window)
     requires shaped { shape n (length cells.old) ≡ Ok tt }
     requires row_inside { r < n.ny * n.nz }

@@ -14,7 +14,7 @@ pub fn oat_line6(p: OatCell, q: OatCell, rule: u32, out: &mut [i32]) -> OatListe
     line6(p, q, rule, out).into()
 }
 
-// Its list: 12 comes first.
+// The list by the rule that a number names, or 12 where it names none.
 fn line6(p: OatCell, q: OatCell, rule: u32, out: &mut [i32]) -> Result<u32, Refusal>
     ensures { ListsByRule rule (λ a. Line6 (rule_of rule) (as_cell p) (as_cell q) out.old a out.new) out.old result out.new }
 {

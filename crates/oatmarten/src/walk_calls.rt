@@ -16,7 +16,7 @@ pub fn oat_plain(n: OatCounts, cells: &[u8], p: OatCell, q: OatCell, how: OatMan
     plain(n, cells, p, q, how).into()
 }
 
-// Its answer: 12 comes first.
+// What the plain walk finds, or 12 where no rule is named.
 fn plain(
     n: OatCounts,
     cells: &[u8],
@@ -37,7 +37,7 @@ pub fn oat_adaptive(n: OatCounts, cells: &[u8], p: OatCell, q: OatCell, how: Oat
     adaptive(n, cells, p, q, how).into()
 }
 
-// Its answer: 12 comes first.
+// What the adaptive walk finds, or 12 where no rule is named. Apart from `plain`, as the two walks are (DECISIONS 47).
 fn adaptive(
     n: OatCounts,
     cells: &[u8],
@@ -65,7 +65,7 @@ pub fn oat_adaptive_cells(
     adaptive_cells(n, cells, p, q, how, out).into()
 }
 
-// Their list: 12 comes first.
+// The list of those cells, or 12 where no rule is named.
 fn adaptive_cells(
     n: OatCounts,
     cells: &[u8],

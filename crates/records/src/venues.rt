@@ -14,6 +14,7 @@ pub struct Venue {
     pub long: usize,
 }
 
+// The version is the record's own byte, as in `pairs`.
 #[tactic(auto, unfolding(crate::specs::Venues::venue_version))]
 fn venue_version(version: u8) -> bool
     ensures { result ≡ venue_version version }

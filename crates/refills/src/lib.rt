@@ -188,6 +188,7 @@ fn bad_total(total: u64, ones: u64, cells: usize) -> bool
 
 // ---- the calls
 
+// Counts and bytes stay apart here, since the bytes are written: a `Grid` lends them to be read. Counts, bytes, masks and total are the call's own parameters.
 // Puts a byte into each cell of a box and makes the masks of its bricks anew; the total moves as their ones. Refusal 13.
 fn refill_box(
     n: Counts,

@@ -101,7 +101,7 @@ pub fn raised(s: Spot, k: Route) -> Spot
     }
 }
 
-// And with those that are kept along the route again.
+// And with those that are kept along the route again. Two functions, as `lowered` and `raised` of `tripod` are.
 pub fn lowered(s: Spot, k: Route) -> Spot
     requires { SmallTripod s.e }
     ensures { result ≡ lowered_spot k.order s }

@@ -49,10 +49,8 @@ fn read_frame(rt: &HostRuntime, buf: &mut [u8], most: usize) -> (usize, io::Resu
 
 // The text of an error without its number, which std puts behind it.
 fn without_number(said: &str) -> &str {
-    match said.split_once(" (os error ") {
-        Some((text, _)) => text,
-        None => said,
-    }
+    said.split_once(" (os error ")
+        .map_or(said, |(text, _)| text)
 }
 
 // Says on standard error what failed, with the system's text of the error.

@@ -11,8 +11,7 @@ fn face_axis(f: Face) -> u32
 {
     match f {
         Face::None => 0,
-        Face::Plus(a) => axis_code(a),
-        Face::Minus(a) => axis_code(a),
+        Face::Plus(a) | Face::Minus(a) => axis_code(a),
     }
 }
 
@@ -20,11 +19,7 @@ fn face_axis(f: Face) -> u32
 fn falls(f: Face) -> bool
     ensures { result ≡ falls f }
 {
-    match f {
-        Face::None => false,
-        Face::Plus(_) => false,
-        Face::Minus(_) => true,
-    }
+    matches!(f, Face::Minus(_))
 }
 
 // The number of the axis with the sign of the move.
@@ -32,5 +27,5 @@ pub(crate) fn face_code(f: Face) -> i32
     ensures { result ≡ face_number f }
 {
     let n = face_axis(f) as i32;
-    if falls(f) { 0 - n } else { n }
+    if falls(f) { -n } else { n }
 }

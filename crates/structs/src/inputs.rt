@@ -1,4 +1,4 @@
-// C's structs that go into a call, and the values that they mean.
+// C's structs that go into a call, and the values that they mean. They have the fields of the types that they stand for, in C's layout.
 ghost use Rattle.std.specs.Prelude.{◌≡◌};
 ghost use Rattle.structs.specs.Inputs.{as_cell, as_counts, as_start, as_manner, manner_named, as_placement, as_point};
 

@@ -82,19 +82,19 @@ impl From<Refusal> for OatSaid {
         let number = cells::number(r);
         match r {
             Refusal::Limit(e, a) => at_end(number, e, a),
-            Refusal::Count(a) => at_axis(number, axis_code(a)),
-            Refusal::Bytes => at_axis(number, 0),
-            Refusal::Layer => at_axis(number, 0),
             Refusal::OffGrid(e, a) => at_end(number, e, a),
-            Refusal::Room => at_axis(number, 0),
-            Refusal::Placement(p) => at_axis(number, part_code(p)),
             Refusal::NotFinite(e, a) => at_end(number, e, a),
             Refusal::OffSurvey(e, a) => at_end(number, e, a),
-            Refusal::Record => at_axis(number, 0),
-            Refusal::Version => at_axis(number, 0),
-            Refusal::NoRule => at_axis(number, 0),
-            Refusal::Stale => at_axis(number, 0),
-            Refusal::Corners => at_axis(number, 0),
+            Refusal::Count(a) => at_axis(number, axis_code(a)),
+            Refusal::Placement(p) => at_axis(number, part_code(p)),
+            Refusal::Bytes
+            | Refusal::Layer
+            | Refusal::Room
+            | Refusal::Record
+            | Refusal::Version
+            | Refusal::NoRule
+            | Refusal::Stale
+            | Refusal::Corners => at_axis(number, 0),
         }
     }
 }

@@ -70,6 +70,7 @@ fn unblocked(said: OatSaid) -> OatSight
     }
 }
 
+// A sight with something in the way. Apart from the `From`, so that no arm of its match is long.
 fn flat_blocked(b: Block) -> OatSight
     ensures { result ≡ flat_sight (Sight.Blocked b) }
 {

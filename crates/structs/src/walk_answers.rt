@@ -41,6 +41,7 @@ fn no_hit(said: OatSaid, many: u32) -> OatHit
     }
 }
 
+// A walk that hit. Apart from the `From`, so that no arm of its match is long.
 fn flat_block(h: Hit) -> OatHit
     ensures { result ≡ flat_hit (Ok (FirstHit.Hit h)) }
 {

@@ -18,7 +18,7 @@ pub struct Placement {
     pub edge: f64,
 }
 
-// A surveyed point, in metres; or where it lies in cells from the origin.
+// A surveyed point, in metres; or where it lies in cells from the origin. SCOPE's F2 names it and the placement.
 #[derive(Clone, Copy)]
 pub struct Point {
     pub x: f64,

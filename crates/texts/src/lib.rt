@@ -114,7 +114,7 @@ impl Pen<'_> {
     }
 }
 
-// ---- lines
+// ---- lines: no `Display`, whose `fmt` answers a `Result` of which no contract says when it is `Ok`. These cannot fail, and their contracts nail the bytes.
 
 // `K LETTER hit x y z code reads face`.
 pub fn put_hit(

@@ -77,7 +77,7 @@ module _ (D : Steps) where
                 h.full.within less));
           }
 
-      pub counting_next : (r : Past Tripod) → Counted (doubled D) e r → Counting r.spot (m + r.faces) (count + r.cells)
+      pub counting_next : (r : Past Tripod) → Counted (doubled D) e r → Counting r.behind (m + r.faces) (count + r.cells)
       counting_next r c =
           let is = found c.tie c.next in
           let size : length (visits_by h.t (tie_steps (course_of D) h.t) ways) ≡ r.cells =

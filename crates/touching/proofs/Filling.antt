@@ -166,7 +166,7 @@ module _ (p q : Cell) (w : SixWay) (way : SixWayOf p q w) where
               let (more, e) = rest_is D SpotAt (crossed_six w) spot_step (Coming end out count) s m h lt in
               omega (arith, h.rest.left, ap length e, length-append here more, size tie is)
 
-      pub filling_next : (r : Past SixSpot) (exit : List ℤ) → Put out (3 * count) w s r exit → Filling end exit r.spot (m + r.faces) (count + r.cells)
+      pub filling_next : (r : Past SixSpot) (exit : List ℤ) → Put out (3 * count) w s r exit → Filling end exit r.behind (m + r.faces) (count + r.cells)
       filling_next r exit c =
           let is = found c.tie c.next in
           let many : length here ≡ r.cells = size c.tie is ∙ sym c.cells in

@@ -37,7 +37,7 @@ pub record Put (entry : List ℤ) (at : ℕ) (w : SixWay) (s : SixSpot) (r : Pas
   pub tie : Tie
   pub next : NextTie s.e tie
   pub stored : exit ≡ put_cells entry at (cells_of (of_tie (crossed_six w) tie s))
-  pub spot : r.spot ≡ tie_end (crossed_six w) tie s
+  pub spot : r.behind ≡ tie_end (crossed_six w) tie s
   pub cells : r.cells ≡ tie_size tie
   pub faces : r.faces ≡ tie_faces tie
 
@@ -54,6 +54,6 @@ pub record CanCount (twice : Doubled) (e : Tripod) : Type 0 where
 pub record Counted (twice : Doubled) (e : Tripod) (r : Past Tripod) : Type 0 where
   pub tie : Tie
   pub next : NextTie e tie
-  pub values : r.spot ≡ tie_end (moved_values twice) tie e
+  pub values : r.behind ≡ tie_end (moved_values twice) tie e
   pub cells : r.cells ≡ tie_size tie
   pub faces : r.faces ≡ tie_faces tie

@@ -231,7 +231,7 @@ pub fn first_touching(
     grids::check_walk(n, cells.len(), p, q)?;
     let lane = Lane {
         cells,
-        route: routes::route_of(n, p, q, Rule::One),
+        route: routes::route_of(n, p, q, how.rule),
     };
     Ok(touching_answer(lane, how))
 }

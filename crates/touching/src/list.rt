@@ -12,10 +12,10 @@ use cells::{Axis, Cell, Refusal, Rule};
 use lines::{Doubled, Tie, Tripod};
 use lists::{Segment, SixSpot, SixWay};
 
-// Past a tie: what is behind it, the spot or, where cells are counted alone, its values; and how many cells and how many faces it has.
+// Past a tie: what is behind it, a spot or, where cells are counted alone, its values; and how many cells and how many faces it has.
 #[derive(Clone, Copy)]
 pub struct Past<S> {
-    pub spot: S,
+    pub behind: S,
     pub cells: u32,
     pub faces: u32,
 }
@@ -70,18 +70,18 @@ fn put_tie(out: &mut [i32], at: usize, s: SixSpot, w: SixWay) -> Past<SixSpot>
             let spot = lists::crossed(s, w, n);
             lists::put(out, at, spot.at);
             Past {
-                spot,
+                behind: spot,
                 cells: 1,
                 faces: 1,
             }
         }
         Tie::Two(a, b) => Past {
-            spot: put_two(out, at, s, w, a, b),
+            behind: put_two(out, at, s, w, a, b),
             cells: 3,
             faces: 2,
         },
         Tie::Three => Past {
-            spot: put_all(out, at, s, w),
+            behind: put_all(out, at, s, w),
             cells: 7,
             faces: 3,
         },
@@ -111,7 +111,7 @@ fn fill(out: &mut [i32], segment: Segment) -> u32
             }
             _ => {
                 let past = put_tie(out, at, s, w);
-                s = past.spot;
+                s = past.behind;
                 at += 3 * (past.cells as usize);
                 m += past.faces;
                 more += past.cells - past.faces;
@@ -128,12 +128,12 @@ fn past_tie(e: Tripod, twice: Doubled) -> Past<Tripod>
 {
     match tripod::next_tie(e) {
         Tie::One(n) => Past {
-            spot: tripod::moved(e, twice, n),
+            behind: tripod::moved(e, twice, n),
             cells: 1,
             faces: 1,
         },
         Tie::Two(a, b) => Past {
-            spot: tripod::moved(tripod::moved(e, twice, a), twice, b),
+            behind: tripod::moved(tripod::moved(e, twice, a), twice, b),
             cells: 3,
             faces: 2,
         },
@@ -141,7 +141,7 @@ fn past_tie(e: Tripod, twice: Doubled) -> Past<Tripod>
             let y = tripod::moved(e, twice, Axis::Y);
             let yz = tripod::moved(y, twice, Axis::Z);
             Past {
-                spot: tripod::moved(yz, twice, Axis::X),
+                behind: tripod::moved(yz, twice, Axis::X),
                 cells: 7,
                 faces: 3,
             }
@@ -160,7 +160,7 @@ fn count_cells(segment: Segment) -> u32
     let mut count = 1;
     while m < crossings {
         let past = past_tie(e, twice);
-        e = past.spot;
+        e = past.behind;
         count += past.cells;
         m += past.faces;
     }

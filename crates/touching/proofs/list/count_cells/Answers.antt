@@ -38,7 +38,7 @@ past_tie-past-requires c =
 turned : (c : After-past_tie-past) →
     let s = c.args.segment in
     let r = c.past_tie-past.result in
-    Counting (differences s.p s.q) r.spot (c.loop-m.m + r.faces) (c.loop-m.count + r.cells)
+    Counting (differences s.p s.q) r.behind (c.loop-m.m + r.faces) (c.loop-m.count + r.cells)
 turned c =
     let s = c.args.segment in
     counting_next _ _ _ _ c.loop-m.invariant (below s _ c.total-crossings.ensures c.loop-m-test.true) _

@@ -128,7 +128,7 @@ loop-m-preserved c =
     let same : m + more + r'.cells ≡ m + r'.faces + (more + (r'.cells - r'.faces)) = omega arith in (
       omega (arith, c.loop-m.invariant.0),
       λ way.
-          subst (Filling _ _ _ way _ _ r'.spot (m + r'.faces)) same
+          subst (Filling _ _ _ way _ _ r'.behind (m + r'.faces)) same
           (filling_next _ _ _ way _ _ _ _ _ (c.loop-m.invariant.1 way) (below earlier.In-loop-m) _ _ (turned earlier.After-put_tie-past)),
     )
 
