@@ -68,7 +68,7 @@ fn walked(n: Counts, cells: &[u8], p: Cell, q: Cell, how: Manner) -> FirstHit
         route: routes::route_of(n, p, q, how.rule),
     };
     let stop = hits::walk_adaptive(lane, how);
-    hits::answer_of(lane, stop, how)
+    hits::answer_of(&lane, stop, how)
 }
 
 // Where shape and placement passed their tests: the camera's refusal first, then the ball's.

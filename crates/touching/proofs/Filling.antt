@@ -68,7 +68,7 @@ put_cells_length l at (c ∷ k) =
 
 -- the cell of a tie of one axis, by the spot behind it
 pub one_put : (out exit : List ℤ) (i : ℕ) (w : SixWay) (s t : SixSpot) (n : Axis) → NextTie s.e (One n) → t ≡ crossed_six w n s →
-    exit ≡ put3 out i t.at → Put out i w s (record { spot = t; cells = 1; faces = 1 }) exit
+    exit ≡ put3 out i t.at → Put out i w s (record { behind = t; cells = 1; faces = 1 }) exit
 unfolding put_cells
 one_put out exit i w s t n next is stored =
     record { tie = One n; next = next; stored = stored ∙ ap (λ u. put3 out i u.at) is; spot = is; cells = refl; faces = refl }

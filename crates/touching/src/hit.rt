@@ -208,7 +208,7 @@ fn touching_answer(lane: Lane, how: Manner) -> FirstHit
             spot: there,
             reads: t.reads,
         };
-        return hits::answer_of(told, stop, how);
+        return hits::answer_of(&told, stop, how);
     }
     FirstHit::Clear(t.reads)
 }

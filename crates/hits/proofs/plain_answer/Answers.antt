@@ -4,7 +4,7 @@ use Rattle.hits.proofs.Answering.{stop_byte, stop_found}
 use Rattle.hits.proofs.plain_answer.Goals as goal
 
 pub answer_of-requires : goal.answer_of-requires
-answer_of-requires c = stop_byte Plain c.args.how.start c.args.lane.cells.now c.args.lane.route c.args.lane.planned _ c.walk_plain.ensures
+answer_of-requires c = stop_byte Plain c.args.how.start c.args.lane.cells.now c.args.lane.route c.args.lane.planned _ c.walk_plain-stop.ensures
 
 pub returns : goal.returns
-returns c = stop_found Plain c.args.how.start c.args.lane.cells.now c.args.lane.route c.args.lane.planned _ c.walk_plain.ensures c.answer_of.ensures
+returns c = stop_found Plain c.args.how.start c.args.lane.cells.now c.args.lane.route c.args.lane.planned _ c.walk_plain-stop.ensures c.answer_of.ensures
