@@ -113,7 +113,7 @@ module _ (l : List ℕ) (k : Route) where
     pub leads : (from : Start) (next : ℕ → ℕ) (m : ℕ) → Crossing from l k tested s reads faces next m →
         Outcome from l k next (m + faces) r.hit r.spot r.reads
 
-  -- what a turn of the adaptive walk asks: the longest axis, and some walk at that cell
+  -- what a turn of the adaptive walk asks: the longest axis, and some walk at that cell; over bytes and a route, as laws read it where there is no lane
   pub record CanGo (u : Axis) (tested : Bool) (s : Spot) (reads left : ℕ) : Type 0 where
     pub plan : Planned (length l) k
     pub long : steps k.d u ≡ longest (steps k.d)

@@ -13,7 +13,8 @@ fn in_limit(v: i32) -> bool
     -8192 <= v && v <= 8191
 }
 
-// An end within the coordinate limit, or refusal 1 with the first axis that is not.
+// An end within the coordinate limit, or refusal 1 with the first axis that is not. Apart from `check_end` of `grids`: test and refusal are others there, and
+// one function would be handed both and be no shorter.
 fn check_end(e: End, c: Cell) -> Result<(), Refusal>
     ensures { result ≡ end_check e c }
 {

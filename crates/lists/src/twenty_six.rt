@@ -25,7 +25,7 @@ pub struct Coordinate {
     pub due: i32,
 }
 
-// What moves a coordinate of a 26-line from p towards q; d is their difference, and `last` the longest one.
+// What moves a coordinate of a 26-line from p towards q; d is their difference, and `last` the longest one: worked out once, and handed on with its clause.
 fn pace_of(p: i32, q: i32, d: u32, last: u32) -> Pace
     requires { (d ≤ 16383) × (last ≤ 16383) }
     ensures { result ≡ pace p q d last }

@@ -1,5 +1,5 @@
 // The calls for C: each hands its inputs to the proved call and flattens the answer into a struct of numbers. One call more
-// says which revision of the header the library is.
+// says which revision of the header the library is. Each call of C is a function of its own, also where two read alike.
 #![tactic(auto)]
 
 mod brick_calls;

@@ -94,7 +94,8 @@ fn pair_refused(k: u64, r: Refusal, text: &mut [u8]) -> Step
     }
 }
 
-// The line of one walk, from a place on; answers the place after it.
+// The line of one walk, from a place on; answers the place after it. Slice and place, and number and letter, are the parameters of `texts::put_hit`, which
+// is public.
 #[tactic(auto, unfolding(crate::specs::Program::walk_line))]
 fn walk_line(text: &mut [u8], at: usize, k: u64, letter: u8, a: FirstHit) -> usize
     requires { at + line_room ≤ length text.old }

@@ -23,7 +23,7 @@ fn write_check(n: Counts, bytes: usize, room: usize) -> Result<(), Refusal>
     Ok(())
 }
 
-// The counts, from the place `at` on.
+// The counts, from the place `at` on: what `buffers` writes goes by a place.
 fn put_counts(out: &mut [u8], at: usize, n: Counts)
     requires { (n.nx < 65536) × (n.ny < 65536) × (n.nz < 65536) × (at + 6 ≤ length out.old) }
     ensures { out.new ≡ over at (count_bytes n) out.old }

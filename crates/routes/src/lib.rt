@@ -112,7 +112,7 @@ pub fn lowered(s: Spot, k: Route) -> Spot
     }
 }
 
-// The byte there.
+// The byte there. That the place has one is asked here and is no type's invariant: a type of slice and place would last for one call.
 pub fn byte_there(cells: &[u8], at: i32) -> u8
     requires { HasByte (length cells.now) at }
     ensures { result ≡ byte_there cells.now at }

@@ -41,6 +41,7 @@ impl From<Result<(), Refusal>> for OatVerdict {
     }
 }
 
+// This and the other answers of one number differ in C's names alone: its structs are types of their own.
 impl From<Result<bool, Refusal>> for OatComplete {
     ghost from_gives = { λ c r. r ≡ flat_complete c };
 

@@ -35,7 +35,7 @@ fn look(cells: &[u8], s: Spot, reads: u32) -> Turn
     }
 }
 
-// Three of them, up to the first that is solid.
+// Three of them, up to the first that is solid. How many were read goes beside the spot, here and below: a caller changes one without the other.
 fn look_three(cells: &[u8], a: Spot, b: Spot, c: Spot, reads: u32) -> Turn
     requires { CanLook (length cells.now) reads (a ∷ b ∷ c ∷ []) }
     ensures { result ≡ looked cells.now reads a (a ∷ b ∷ c ∷ []) }

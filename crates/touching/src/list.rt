@@ -20,7 +20,7 @@ pub struct Past<S> {
     pub faces: u32,
 }
 
-// Three cells, one after the other.
+// Three cells, one after the other. A place goes beside the slice, here and below, as it does in `lists::put`.
 fn put_three(out: &mut [i32], at: usize, a: Cell, b: Cell, c: Cell)
     requires { at + 9 ≤ length out.old }
     ensures { out.new ≡ put_cells out.old at (a ∷ b ∷ c ∷ []) }
@@ -30,7 +30,8 @@ fn put_three(out: &mut [i32], at: usize, a: Cell, b: Cell, c: Cell)
     lists::put(out, at + 6, c);
 }
 
-// The cells of a tie of two axes: by the first step, by the second, by both.
+// The cells of a tie of two axes: by the first step, by the second, by both. What looks at them, `hit::look_two`, is apart: a step there may end the walk,
+// and here each is stored; so with `put_all` and `look_all`.
 fn put_two(out: &mut [i32], at: usize, s: SixSpot, w: SixWay, a: Axis, b: Axis) -> SixSpot
     requires { (at + 9 ≤ length out.old) × CanTieSix w (Two a b) s }
     ensures { (out.new ≡ put_cells out.old at (cells_of (of_tie (crossed_six w) (Two a b) s))) × (result ≡ tie_end (crossed_six w) (Two a b) s) }
@@ -60,7 +61,7 @@ fn put_all(out: &mut [i32], at: usize, s: SixSpot, w: SixWay) -> SixSpot
     yzx
 }
 
-// The cells of the next tie.
+// The cells of the next tie. Spot and way are two parameters: the spot moves on, the way stays through the list.
 fn put_tie(out: &mut [i32], at: usize, s: SixSpot, w: SixWay) -> Past<SixSpot>
     requires { CanPut (length out.old) at w s }
     ensures { Put out.old at w s result out.new }

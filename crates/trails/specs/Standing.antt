@@ -82,7 +82,7 @@ pub record StandsAt (k : Route) (s : ℕ) (t : Stand) : Type 0 where
   pub spot : SpotAt k (place (course k) s) t.spot
   pub beside : Before26 k s t.left
 
--- it can step on, from some number that is not the last, along a route with such a longest axis
+-- it can step on, from some number that is not the last, along a route with such a longest axis; over a route, as laws read it where there is no lane
 pub record CanStep (bytes : ℕ) (k : Route) (u : Axis) (t : Stand) : Type 0 where
   pub plan : Planned bytes k
   pub long : steps k.d u ≡ longest (steps k.d)

@@ -110,7 +110,7 @@ pub fn shift_of(o: Order) -> u32
     }
 }
 
-// The values of figure 6 as they are kept in an order.
+// The values of figure 6 as they are kept in an order. That they are small is asked where sums need it, and is no invariant: `next_face`, `next_tie` take any.
 pub fn lowered(e: Tripod, o: Order) -> Tripod
     requires { SmallTripod e }
     ensures { result ≡ lowered o e }
