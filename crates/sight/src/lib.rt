@@ -73,7 +73,13 @@ fn walked(n: Counts, cells: &[u8], p: Cell, q: Cell, how: Manner) -> FirstHit
 }
 
 // Where shape and placement passed their tests: the camera's refusal first, then the ball's, then what the walk finds.
-fn look(g: Grid, at: Placement, camera: Point, ball: Point, how: Manner) -> Result<FirstHit, Refusal>
+fn look(
+    g: Grid,
+    at: Placement,
+    camera: Point,
+    ball: Point,
+    how: Manner,
+) -> Result<FirstHit, Refusal>
     requires { PlacedGrid g.counts at }
     ensures { looked how g.entry.counts g.entry.cells.now at camera ball ≡ sight_of result }
 {
@@ -92,7 +98,14 @@ fn check(n: Counts, bytes: usize, at: Placement) -> Result<(), Refusal>
 
 // What the walk finds between the two cells, or why it is not begun.
 #[tactic(auto, unfolding(crate::specs::Sight::sight))]
-fn sought(n: Counts, cells: &[u8], at: Placement, camera: Point, ball: Point, how: Manner) -> Result<FirstHit, Refusal>
+fn sought(
+    n: Counts,
+    cells: &[u8],
+    at: Placement,
+    camera: Point,
+    ball: Point,
+    how: Manner,
+) -> Result<FirstHit, Refusal>
     ensures { sight how n cells.now at camera ball ≡ sight_of result }
 {
     check(n, cells.len(), at)?;
