@@ -12,7 +12,7 @@ use Rattle.cells.specs.declared.Counts.{Counts}
 use Rattle.grids.specs.Grid.{cell_at, clear, solid}
 use Rattle.grids.specs.Marks.{any, touches_solid, marked_byte, complete}
 use Rattle.cells.specs.Fills.{Filled}
-use Rattle.marks.specs.Rows.{in_column, Sees, Framed, beside, mark_for, put_byte, gap_by, gap}
+use Rattle.marks.specs.Rows.{in_column, SolidWhere, Framed, beside, mark_for, put_byte, gap_by, gap}
 use Rattle.grids.proofs.Any.{same_test, any_same, any_some, any_which, any_false}
 use Rattle.grids.specs.Inside.{Shaped}
 use Rattle.grids.proofs.Beside.{touches_beside, beside_touches}
@@ -37,7 +37,7 @@ filled_same k n from to l m h = record { long = h.long; alike = alike }
 -- ---- a row's window
 
 module _ (n : Counts) (l : List ℕ) (s : Shaped n (length l)) (r : ℕ) (below : r < n.ny * n.nz) (w : List ℕ)
-    (sees : Sees (in_column n l r) n.nx w) (framed : Framed n.nx w) where
+    (sees : SolidWhere (in_column n l r) n.nx w) (framed : Framed n.nx w) where
   -- the cell of byte x of row r
   row_x : (x : ℕ) → x < n.nx → (n.nx * r + x) % n.nx ≡ x
   row_x x h = mul-add-mod_self_left n.nx r x ∙ mod-eq_of_lt h

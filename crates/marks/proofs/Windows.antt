@@ -12,7 +12,7 @@ use lib.ListN.{length, get_or}
 use Rattle.cells.specs.declared.Counts.{Counts}
 use Rattle.grids.specs.Grid.{index, clear, solid}
 use Rattle.marks.specs.declared.Three.{Three}
-use Rattle.marks.specs.Rows.{of_three, lowest, highest, nearby, starts, Within, in_rows, in_column, Shows, Sees, Framed, beside, gap_by}
+use Rattle.marks.specs.Rows.{of_three, lowest, highest, nearby, starts, Within, in_rows, in_column, Shows, SolidWhere, Framed, beside, gap_by}
 use Rattle.grids.proofs.Any.{or_true, or_either, any_zero, any_more}
 use Rattle.grids.specs.Inside.{Shaped}
 use Rattle.grids.proofs.Beside.{Next, SolidBeside}
@@ -72,9 +72,9 @@ within_as fewer more le ge h =
 -- ---- what a window shows
 
 -- p, then q too
-pub sees_then : {p : ℕ → Bool} (q : ℕ → Bool) {nx : ℕ} {a b : List ℕ} → Sees p nx a → Shows (λ x. solid (get_or a (x + 1) 0) || q x) nx a b →
-    Sees (λ x. p x || q x) nx b
-sees_then q h k = λ x lt. k.over x lt ∙ ap (λ (t : Bool). t || q x) (h x lt)
+pub solid_then : {p : ℕ → Bool} (q : ℕ → Bool) {nx : ℕ} {a b : List ℕ} → SolidWhere p nx a → Shows (λ x. solid (get_or a (x + 1) 0) || q x) nx a b →
+    SolidWhere (λ x. p x || q x) nx b
+solid_then q h k = λ x lt. k.over x lt ∙ ap (λ (t : Bool). t || q x) (h x lt)
 
 -- the same of two passes from one window to the next
 pub shows_then : {p : ℕ → Bool} (q : ℕ → Bool) {nx : ℕ} {a b c : List ℕ} → Shows p nx a b → Shows (λ x. solid (get_or b (x + 1) 0) || q x) nx b c →
@@ -137,7 +137,7 @@ module _ (n : Counts) (l : List ℕ) (s : Shaped n (length l)) (r : ℕ) (below 
       nearby_some (λ z. nearby (solid_at b.x' z) (r % n.ny) n.ny) (r / n.ny) n.nz b.z' b.on_z
       (nearby_some (solid_at b.x' b.z') (r % n.ny) n.ny b.y' b.on_y b.is_solid)
 
-  module _ (w : List ℕ) (sees : Sees (in_column n l r) n.nx w) (framed : Framed n.nx w) where
+  module _ (w : List ℕ) (sees : SolidWhere (in_column n l r) n.nx w) (framed : Framed n.nx w) where
     -- where a window has a solid byte, a column of the row has one
     window_has : (k : ℕ) → k ≤ n.nx + 1 → solid (get_or w k 0) ≡ true → (x : ℕ) × (k ≡ x + 1) × (x < n.nx) × (in_column n l r x ≡ true)
     window_has zero le e = absurd (true≢false (sym e ∙ framed.left))

@@ -40,16 +40,16 @@ in_rows l rows x = of_three (λ from. solid (get_or l (from + x) 0)) rows.low ro
 unfoldable pub in_column : Counts → List ℕ → ℕ → ℕ → Bool
 in_column n l r x = nearby (λ z. nearby (λ y. solid (get_or l (index n x y z) 0)) (r % n.ny) n.ny) (r / n.ny) n.nz
 
+-- a window has a solid byte for x exactly where p x holds
+abbrev pub SolidWhere : (ℕ → Bool) → (nx : ℕ) → (w : List ℕ) → Type 0
+SolidWhere p nx w = (x : ℕ) → x < nx → solid (get_or w (x + 1) 0) ≡ p x
+
 -- a window has a solid byte for x exactly where p x holds, and is as it was past both ends of the row
 pub record Shows (p : ℕ → Bool) (nx : ℕ) (entry exit : List ℕ) : Type 0 where
   pub long : length exit ≡ length entry
-  pub over : (x : ℕ) → x < nx → solid (get_or exit (x + 1) 0) ≡ p x
+  pub over : SolidWhere p nx exit
   pub before : get_or exit 0 0 ≡ get_or entry 0 0
   pub after : (k : ℕ) → nx < k → get_or exit k 0 ≡ get_or entry k 0
-
--- a window has a solid byte for x exactly where p x holds
-abbrev pub Sees : (ℕ → Bool) → (nx : ℕ) → (w : List ℕ) → Type 0
-Sees p nx w = (x : ℕ) → x < nx → solid (get_or w (x + 1) 0) ≡ p x
 
 -- a window has room for a row of nx bytes, and a byte that is not solid at each end of it
 pub record Framed (nx : ℕ) (w : List ℕ) : Type 0 where

@@ -6,7 +6,7 @@ ghost use Rattle.std.specs.Prelude.{◌+◌, ◌*◌, ◌^◌, ◌≤◌, ◌<�
 ghost use Rattle.grids.specs.Grid.{shape, clear, solid};
 ghost use Rattle.grids.specs.Marks.{any, marked_byte, marked, Marks, Completes};
 ghost use Rattle.cells.specs.Fills.{Filled};
-ghost use Rattle.marks.specs.Rows.{starts, in_rows, Within, in_column, Shows, Sees, Framed, beside, mark_for, put_byte, gap_by, gap};
+ghost use Rattle.marks.specs.Rows.{starts, in_rows, Within, in_column, Shows, SolidWhere, Framed, beside, mark_for, put_byte, gap_by, gap};
 
 use cells::{Counts, Refusal};
 use grids::Grid;
@@ -115,7 +115,7 @@ impl Window {
     // Makes it the window of row r.
     fn look(&mut self, g: Grid, r: usize)
         requires { r < g.counts.ny * g.counts.nz }
-        ensures sees { Sees (in_column g.entry.counts g.entry.cells.now r) g.entry.counts.nx self.new.bytes }
+        ensures solid_where { SolidWhere (in_column g.entry.counts g.entry.cells.now r) g.entry.counts.nx self.new.bytes }
         ensures long { self.new.nx ≡ g.entry.counts.nx }
     {
         let nx = g.counts.nx as usize;

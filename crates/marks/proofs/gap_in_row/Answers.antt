@@ -16,4 +16,4 @@ returns c =
     let a = c.args in
     let long = c.look.ensures.long in
     (rw long at c.gap_by.ensures)
-    ∙ gap_row a.g.counts a.g.cells.now (shaped _ _ c.args.g.shaped) a.r c.requires _ c.look.ensures.sees (rw long at c.look.new.self.framed)
+    ∙ gap_row a.g.counts a.g.cells.now (shaped _ _ c.args.g.shaped) a.r c.requires _ c.look.ensures.solid_where (rw long at c.look.new.self.framed)

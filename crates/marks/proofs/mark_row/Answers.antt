@@ -16,5 +16,5 @@ returns c =
     let a = c.args in
     let long = c.look.ensures.long in
     filled_as _ _ _ _ _ _ (omega arith)
-    (put_marks a.n a.cells.now (shaped _ _ c.requires.shaped) a.r c.requires.row_inside _ c.look.ensures.sees (rw long at c.look.new.self.framed))
+    (put_marks a.n a.cells.now (shaped _ _ c.requires.shaped) a.r c.requires.row_inside _ c.look.ensures.solid_where (rw long at c.look.new.self.framed))
     (rw long at c.put.ensures)

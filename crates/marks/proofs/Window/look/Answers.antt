@@ -9,7 +9,7 @@ use Rattle.marks.specs.declared.Three.{Three}
 use Rattle.marks.specs.Rows.{starts, Within}
 use mathlib.Core.Path.{◌≡◌, ◌∙◌}
 use Rattle.grids.proofs.Shapes.{shaped}
-use Rattle.marks.proofs.Windows.{row_y, row_z, layers_within, rows_within, column_is, sees_then}
+use Rattle.marks.proofs.Windows.{row_y, row_z, layers_within, rows_within, column_is, solid_then}
 use Rattle.marks.proofs.Window.look.Goals as goal
 use Rattle.marks.proofs.Window.look.Goals.{After-starts-layers}
 
@@ -69,15 +69,15 @@ raise_rows-requires-2 c =
     let w = its_rows d _ _ _ c.starts-above.ensures (omega (arith, layers d)) (c.raise_rows.ensures.long ∙ c.set_rows.ensures.long ∙ c.frame.ensures) in
     record { low_fits = omega (arith, w); mid_fits = omega (arith, w); high_fits = omega (arith, w) }
 
-pub returns-clause-sees : goal.returns-clause-sees
-returns-clause-sees c =
+pub returns-clause-solid_where : goal.returns-clause-solid_where
+returns-clause-solid_where c =
     let a = c.args in
     let told = c.starts-layers.ensures in
     let first = c.frame.ensures in
     let second = c.set_rows.ensures.long ∙ first in
     let third = c.raise_rows.ensures.long ∙ second in
-    let seen = sees_then _
-    (sees_then _ ((rw (c.starts-below.ensures, told, first) at c.set_rows.ensures.shows).over)
+    let seen = solid_then _
+    (solid_then _ ((rw (c.starts-below.ensures, told, first) at c.set_rows.ensures.shows).over)
     (rw (c.starts-here.ensures, told, second) at c.raise_rows.ensures.shows))
     (rw (c.starts-above.ensures, told, third) at c.raise_rows-2.ensures.shows) in
     λ x lt. seen x lt ∙ column_is a.g.counts a.g.cells.now (shaped _ _ c.args.g.shaped) a.r c.requires x
