@@ -8,7 +8,7 @@ ghost use Rattle.walks.specs.declared.Walker.TheVariants.{Adaptive};
 ghost use Rattle.grids.specs.Inside.{walk_check};
 ghost use Rattle.walks.specs.Answers.{Finds};
 ghost use Rattle.survey.specs.Survey.{PlacedGrid, placement_check};
-ghost use Rattle.sight.specs.Sight.{share_of, sight_of, looked, sight, Sees};
+ghost use Rattle.sight.specs.Sight.{share_of, sight_of, looked, Sees};
 
 use cells::{Cell, Counts, End, Face, Manner, Refusal};
 use grids::Grid;
@@ -41,20 +41,19 @@ fn share(num: u32, den: u32) -> f64
     (num as f64) / (den as f64)
 }
 
-// What a walk tells of the sight, or why there is none.
-fn sight_of(h: Result<FirstHit, Refusal>) -> Sight
-    ensures { result ≡ sight_of h }
+// What a walk tells of the sight.
+fn sight_of(h: FirstHit) -> Sight
+    ensures { result ≡ sight_of (Ok h) }
 {
     match h {
-        Ok(FirstHit::Clear(_)) => Sight::Clear,
-        Ok(FirstHit::Hit(hit)) => Sight::Blocked(Block {
+        FirstHit::Clear(_) => Sight::Clear,
+        FirstHit::Hit(hit) => Sight::Blocked(Block {
             share: share(hit.place.num, hit.place.den),
             cell: hit.cell,
             code: hit.code,
             reads: hit.reads,
             face: hit.place.face,
         }),
-        Err(r) => Sight::Refused(r),
     }
 }
 
@@ -72,20 +71,21 @@ fn walked(n: Counts, cells: &[u8], p: Cell, q: Cell, how: Manner) -> FirstHit
     hits::answer_of(&lane, stop, how)
 }
 
-// Where shape and placement passed their tests: the camera's refusal first, then the ball's, then what the walk finds.
-fn look(
-    g: Grid,
-    at: Placement,
-    camera: Point,
-    ball: Point,
-    how: Manner,
-) -> Result<FirstHit, Refusal>
+// Where shape and placement passed their tests: the camera's refusal first, then the ball's. SCOPE's F4 names the `let .. else`; `?` has no place here, as the
+// answer is a `Sight`.
+fn look(g: Grid, at: Placement, camera: Point, ball: Point, how: Manner) -> Sight
     requires { PlacedGrid g.counts at }
-    ensures { looked how g.entry.counts g.entry.cells.now at camera ball ≡ sight_of result }
+    ensures { result ≡ looked how g.entry.counts g.entry.cells.now at camera ball }
 {
-    let p = survey::look_up(End::P, g.counts, at, camera)?;
-    let q = survey::look_up(End::Q, g.counts, at, ball)?;
-    Ok(walked(g.counts, g.cells, p, q, how))
+    let from = survey::look_up(End::P, g.counts, at, camera);
+    let Ok(p) = from else {
+        return Sight::Refused(from.unwrap_err());
+    };
+    let to = survey::look_up(End::Q, g.counts, at, ball);
+    let Ok(q) = to else {
+        return Sight::Refused(to.unwrap_err());
+    };
+    sight_of(walked(g.counts, g.cells, p, q, how))
 }
 
 // What is tested before any point: refusals 2, 3, then 7.
@@ -96,25 +96,13 @@ fn check(n: Counts, bytes: usize, at: Placement) -> Result<(), Refusal>
     survey::check_placement(at)
 }
 
-// What the walk finds between the two cells, or why it is not begun.
-#[tactic(auto, unfolding(crate::specs::Sight::sight))]
-fn sought(
-    n: Counts,
-    cells: &[u8],
-    at: Placement,
-    camera: Point,
-    ball: Point,
-    how: Manner,
-) -> Result<FirstHit, Refusal>
-    ensures { sight how n cells.now at camera ball ≡ sight_of result }
-{
-    check(n, cells.len(), at)?;
-    look(Grid { counts: n, cells }, at, camera, ball, how)
-}
-
 // Whether anything is in the way from the camera to the ball.
+#[tactic(auto, unfolding(crate::specs::Sight::sight))]
 pub fn see(n: Counts, cells: &[u8], at: Placement, camera: Point, ball: Point, how: Manner) -> Sight
     ensures { Sees how n cells.now at camera ball result }
 {
-    sight_of(sought(n, cells, at, camera, ball, how))
+    match check(n, cells.len(), at) {
+        Err(r) => Sight::Refused(r),
+        Ok(()) => look(Grid { counts: n, cells }, at, camera, ball, how),
+    }
 }
