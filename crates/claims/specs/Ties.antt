@@ -4,10 +4,11 @@
 use Rattle.std.specs.Prelude.{length, ◌≡◌}
 use Rattle.cells.specs.Refusals.{NumberOf}
 use Rattle.cells.proofs.number.Reads as number
-use Rattle.cells.specs.Manners.{usual, rule_check, rule_of}
+use Rattle.cells.specs.Manners.{usual, rule_check, rule_of, rule_named}
 use Rattle.cells.proofs.Manner.usual.Reads as default
 use Rattle.cells.proofs.check_rule.Reads as check_rule
 use Rattle.cells.proofs.rule_of.Reads as named_rule
+use Rattle.cells.proofs.RuleTryFromU32.try_from.Reads as try_rule
 use Rattle.grids.specs.Grid.{Shapes, GivesLayerPart, GivesLayer}
 use Rattle.grids.specs.Marks.{Marks, Completes}
 use Rattle.grids.proofs.shape.Reads as shape
@@ -53,6 +54,7 @@ pub record Promised : Type 1 where
   pub of_usual : (κs : _) (a : _) (r : _) (e : _) → default.Post κs a r e → r ≡ usual
   pub of_check_rule : (κs : _) (a : _) (r : _) (e : _) → check_rule.Post κs a r e → r ≡ rule_check a.0
   pub of_rule_of : (κs : _) (a : _) (r : _) (e : _) → named_rule.Post κs a r e → r ≡ rule_of a.0
+  pub of_try_from : (κs : _) (a : _) (r : _) (e : _) → try_rule.Post κs a r e → r ≡ rule_named a.0
   pub of_line6 : (κs : _) (a : _) (r : _) (e : _) → line6.Post κs a r e → Line6 a.1.1.0 a.0 a.1.0 a.1.1.1.0.now r e.1.1.1.0.now
   pub of_line26 : (κs : _) (a : _) (r : _) (e : _) → line26.Post κs a r e → Line26 a.0 a.1.0 a.1.1.0.now r e.1.1.0.now
   pub of_line_touching : (κs : _) (a : _) (r : _) (e : _) → line_touching.Post κs a r e → LineTouching a.0 a.1.0 a.1.1.0.now r e.1.1.0.now
@@ -95,6 +97,7 @@ pub record AsksNothing : Type 1 where
   pub usual_asks : (κs : _) (a : _) → default.Pre κs a
   pub check_rule_asks : (κs : _) (a : _) → check_rule.Pre κs a
   pub rule_of_asks : (κs : _) (a : _) → named_rule.Pre κs a
+  pub try_from_asks : (κs : _) (a : _) → try_rule.Pre κs a
   pub line6_asks : (κs : _) (a : _) → line6.Pre κs a
   pub line26_asks : (κs : _) (a : _) → line26.Pre κs a
   pub line_touching_asks : (κs : _) (a : _) → line_touching.Pre κs a

@@ -103,13 +103,14 @@ fn answer_pair(rt: &HostRuntime, n: Counts, cells: &[u8], k: u64) -> Option<u64>
     written(rt, &text[..step.long], step.next, came)
 }
 
-// Pair after pair, until nothing comes next: what follows a pair is the pair of the next number. Nothing can say that input ends, so pairs are read up
-// to a number that no run reaches.
+// Pair after pair, until nothing comes next: each turn goes on with the number that the last one's step gave, so nothing is counted here and no range is
+// gone through. Nothing can say that input ends, so pairs are read up to a number that no run reaches.
 fn answer_pairs(rt: &HostRuntime, n: Counts, cells: &[u8], first: u64) {
-    for k in first..u64::MAX {
-        if answer_pair(rt, n, cells, k).is_none() {
-            return;
-        }
+    let mut next = Some(first);
+    while let Some(k) = next
+        && k < u64::MAX
+    {
+        next = answer_pair(rt, n, cells, k);
     }
 }
 
